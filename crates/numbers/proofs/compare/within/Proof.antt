@@ -1,0 +1,30 @@
+use mathlib.Core.Path.{_≡_}
+use mathlib.Core.Bool.{true, false}
+use lib.Signed.{leZ}
+use mir.Facts.{toZ-ofZ}
+use borrow.Author.Needs.{needs}
+use Rattle.numbers.proofs.compare.within.Statement.{statement}
+use Rattle.numbers.proofs.compare.within.Tie as tie
+
+at-most-requires : tie.Need-at-most-requires
+at-most-requires c κs = search needs
+
+at-most-requires-2 : tie.Need-at-most-requires-2
+at-most-requires-2 c κs = search needs
+
+returns : tie.Need-returns
+returns c =
+    let a = c .before .before .before .args in
+    let f = c .before .before .before .fits in
+    let e : leZ (a .low) (a .x) ≡ true = cc (toZ-ofZ (f .low), toZ-ofZ (f .x)) in
+    rw e (cc (toZ-ofZ (f .x), toZ-ofZ (f .high)))
+
+returns-2 : tie.Need-returns-2
+returns-2 c =
+    let a = c .before .before .args in
+    let f = c .before .before .fits in
+    let e : leZ (a .low) (a .x) ≡ false = cc (toZ-ofZ (f .low), toZ-ofZ (f .x)) in
+    rw e
+
+pub within-spec : {M : Type 1} → statement M
+within-spec = tie.close (tie.spec at-most-requires at-most-requires-2 returns returns-2)

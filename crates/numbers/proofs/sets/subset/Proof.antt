@@ -1,0 +1,22 @@
+use mathlib.Core.Path.{_≡_}
+use borrow.Author.Needs.{needs}
+use mir.Facts.{toZ-ofZ}
+use Rattle.numbers.specs.SignedParts.{posPart}
+use Rattle.numbers.proofs.sets.subset.Statement.{statement}
+use Rattle.numbers.proofs.sets.subset.Tie as tie
+
+index-requires : tie.Need-index-requires
+index-requires c κs = search needs
+
+index-requires-2 : tie.Need-index-requires-2
+index-requires-2 c κs = search needs
+
+returns : tie.Need-returns
+returns c =
+    let s = c .before .before in
+    let a : c .before .index .result ≡ posPart (s .args .a) = simp (toZ-ofZ (s .fits .a)) at (c .before .index .ensures) in
+    let b : c .index2 .result ≡ posPart (s .args .b) = simp (toZ-ofZ (s .fits .b)) at (c .index2 .ensures) in
+    rw (a, b)
+
+pub subset-spec : {M : Type 1} → statement M
+subset-spec = tie.close (tie.spec index-requires index-requires-2 returns)

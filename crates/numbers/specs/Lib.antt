@@ -1,0 +1,10 @@
+pub mod Told
+pub mod Question
+pub mod Items
+pub mod Sum
+pub mod Sets
+pub mod Mapping
+pub mod SignedParts
+pub mod SignedLinear
+pub mod SignedBounds
+pub mod SignedLocals
