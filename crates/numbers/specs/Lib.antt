@@ -8,3 +8,7 @@ pub mod SignedParts
 pub mod SignedLinear
 pub mod SignedBounds
 pub mod SignedLocals
+pub mod Groups
+pub mod Reading
+pub mod Reported
+pub mod Shifted

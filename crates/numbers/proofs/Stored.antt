@@ -1,0 +1,148 @@
+-- The numbers of the bytes, stored one after the other in the lent list.
+-- Assumes nothing.
+use mathlib.Core.Path.{_≡_, refl, ap, sym, subst, _∙_}
+use mathlib.Core.Bool.{Bool, true, false, cond}
+use mathlib.Core.List.{List, [], _∷_, _++_}
+use Prim.Native.Nat.{ℕ, zero, suc, _+_, _-_, _≤_, _<_}
+use native.Mathlib.Numerals.{add-one}
+use native.Mathlib.Omega.{arith}
+use lib.Dec.{leb, ltb, eqb}
+use lib.IntN.{ℤ, pos}
+use lib.ListN.{length, getD, take, drop, set, length-set, length-drop, drop-of-length-le}
+use lib.Seq.{sets, sets-eq, length-sets, drop-cons, drop-drop}
+use Rattle.numbers.specs.Mapping.{signedOf}
+use Rattle.numbers.specs.Told.{Told, gives, refuses, overlay}
+use Rattle.numbers.specs.Reading.{numberOf, laterBytes, lastByte, inFront, Read, Ending, all, no, stopped, withFirst, afterNumber, readFrom, readOf, readTold, endTold}
+use Rattle.numbers.specs.declared.reader.Number.{Number}
+use Rattle.numbers.specs.declared.reader.Number.the-variants.{Whole, Refused}
+
+-- ---- a number takes at least one byte, and no more than there are
+
+-- a whole number takes 1 to n bytes
+abbrev pub Within : ℕ → Number → Type 0
+Within n (Whole value used) = (1 ≤ used) × (used ≤ n)
+Within n (Refused number) = Unit {0}
+
+within-front : (group n : ℕ) (r : Number) → Within n r → Within (suc n) (inFront group r)
+within-front group n (Whole v u) w = (omega arith, omega (arith, w .1))
+within-front group n (Refused m) w = tt
+
+within-last : (b n : ℕ) → Within (suc n) (lastByte b)
+within-last b n = go (eqb b 0)
+  where
+    go : (t : Bool) → Within (suc n) (cond t (Refused 2) (Whole b 1))
+    go true = tt
+    go false = (omega arith, omega arith)
+
+within-later : (more : ℕ) (bytes : List ℕ) → Within (length bytes) (laterBytes more bytes)
+within-later zero [] = tt
+within-later zero (b ∷ bytes) = go (leb b 1)
+  where
+    go : (t : Bool) → Within (suc (length bytes)) (cond t (lastByte b) (Refused 2))
+    go true = within-last b (length bytes)
+    go false = tt
+within-later (suc more) [] = tt
+within-later (suc more) (b ∷ bytes) = go (within-later more bytes) (ltb b 128)
+  where
+    go : Within (length bytes) (laterBytes more bytes) → (t : Bool) → Within (suc (length bytes)) (cond t (lastByte b) (inFront (b - 128) (laterBytes more bytes)))
+    go w true = within-last b (length bytes)
+    go w false = within-front (b - 128) (length bytes) (laterBytes more bytes) w
+
+pub within-number : (bytes : List ℕ) → Within (length bytes) (numberOf bytes)
+unfolding numberOf
+within-number [] = tt
+within-number (b ∷ bytes) = go (ltb b 128)
+  where
+    go : (t : Bool) → Within (suc (length bytes)) (cond t (Whole b 1) (inFront (b - 128) (laterBytes 8 bytes)))
+    go true = (omega arith, omega arith)
+    go false = within-front (b - 128) (length bytes) (laterBytes 8 bytes) (within-later 8 bytes)
+
+pub used-some : (bytes : List ℕ) {v u : ℕ} → numberOf bytes ≡ Whole v u → (1 ≤ u) × (u ≤ length bytes)
+used-some bytes e = subst (Within (length bytes)) e (within-number bytes)
+
+-- ---- what is read from `at` on, by what stands there
+
+pub read-end : (room at : ℕ) (bytes : List ℕ) → length bytes ≤ at → readFrom room at (drop at bytes) ≡ stopped all
+read-end zero at bytes h = rw (drop-of-length-le bytes h)
+read-end (suc room) at bytes h = rw (drop-of-length-le bytes h)
+
+pub read-full : (at : ℕ) (bytes : List ℕ) → at < length bytes → readFrom 0 at (drop at bytes) ≡ stopped (no 3 at)
+read-full at bytes h = rw (drop-cons bytes at 0 h)
+
+pub read-number : (room at : ℕ) (bytes : List ℕ) → at < length bytes
+    → readFrom (suc room) at (drop at bytes) ≡ afterNumber at (numberOf (drop at bytes)) (λ used. readFrom room (at + used) (drop used (drop at bytes)))
+read-number room at bytes h = rw (drop-cons bytes at 0 h)
+
+-- ---- the loop over the numbers
+
+-- what is to be stored from `count` on is what is read from `at` on
+pub record Storing (bytes : List ℕ) (old list : List ℤ) (at count : ℕ) : Type 0 where
+  pub inside : at ≤ length bytes
+  pub upto : count ≤ length old
+  pub whole : length list ≡ length old
+  pub ended : readOf bytes (length old) .ended ≡ readFrom (length old - count) at (drop at bytes) .ended
+  pub counted : length (readOf bytes (length old) .stored) ≡ count + length (readFrom (length old - count) at (drop at bytes) .stored)
+  pub result : sets old 0 (readOf bytes (length old) .stored) ≡ sets list count (readFrom (length old - count) at (drop at bytes) .stored)
+
+pub storing : (bytes : List ℕ) (old : List ℤ) → Storing bytes old old 0 0
+unfolding readOf
+storing bytes old =
+    let e : length old - 0 ≡ length old = omega arith in
+    record {
+      inside = omega arith;
+      upto = omega arith;
+      whole = refl;
+      ended = rw e;
+      counted = rw e (omega arith);
+      result = rw e;
+    }
+
+-- a reading that stops at `at`
+pub record Stopped (bytes : List ℕ) (old list : List ℤ) (e : Ending) (count : ℕ) : Type 0 where
+  pub told : endTold e count ≡ readTold (readOf bytes (length old))
+  pub stored : list ≡ overlay (readOf bytes (length old) .stored) old
+
+module _ {bytes : List ℕ} {old list : List ℤ} {at count : ℕ} (s : Storing bytes old list at count) where
+  store-stop : {e : Ending} → readFrom (length old - count) at (drop at bytes) ≡ stopped e → Stopped bytes old list e count
+  unfolding readTold
+  store-stop {e} r =
+      let d : readOf bytes (length old) .ended ≡ e = s .ended ∙ ap (λ (x : Read). x .ended) r in
+      let n : length (readOf bytes (length old) .stored) ≡ count = s .counted ∙ ap (λ (x : Read). count + length (x .stored)) r ∙ omega arith in
+      let l : sets old 0 (readOf bytes (length old) .stored) ≡ list = s .result ∙ ap (λ (x : Read). sets list count (x .stored)) r in
+      let fits : 0 + length (readOf bytes (length old) .stored) ≤ length old = omega (arith, n, s .upto) in
+      let z : 0 + length (readOf bytes (length old) .stored) ≡ length (readOf bytes (length old) .stored) = omega arith in
+      record {
+        told = rw (d, n);
+        stored = sym l ∙ sets-eq (readOf bytes (length old) .stored) old 0 fits ∙ rw z;
+      }
+
+  pub store-end : length bytes ≤ at → Stopped bytes old list all count
+  store-end h = store-stop (read-end (length old - count) at bytes h)
+
+  pub store-full : at < length bytes → length list ≤ count → Stopped bytes old list (no 3 at) count
+  store-full h k =
+      let e : length old - count ≡ 0 = omega (arith, s .whole) in
+      store-stop (rw e (read-full at bytes h))
+
+  -- one number more to read
+  read-one : at < length bytes → count < length list
+      → readFrom (length old - count) at (drop at bytes) ≡ afterNumber at (numberOf (drop at bytes)) (λ used. readFrom (length old - (count + 1)) (at + used) (drop used (drop at bytes)))
+  read-one h k =
+      let e : length old - count ≡ suc (length old - (count + 1)) = omega (arith, s .whole) in
+      rw e (read-number (length old - (count + 1)) at bytes h)
+
+  pub store-no : {n : ℕ} → at < length bytes → count < length list → numberOf (drop at bytes) ≡ Refused n → Stopped bytes old list (no n at) count
+  store-no h k e = store-stop (read-one h k ∙ rw e)
+
+  pub store-turn : {v u : ℕ} → at < length bytes → count < length list → numberOf (drop at bytes) ≡ Whole v u → Storing bytes old (set list count (signedOf v)) (at + u) (count + 1)
+  store-turn {v} {u} h k e =
+      let r : readFrom (length old - count) at (drop at bytes) ≡ withFirst (signedOf v) (readFrom (length old - (count + 1)) (at + u) (drop (at + u) bytes)) =
+      read-one h k ∙ rw (e, drop-drop u at bytes) in
+      record {
+        inside = omega (arith, used-some (drop at bytes) e, length-drop at bytes);
+        upto = omega (arith, s .whole);
+        whole = length-set list count (signedOf v) ∙ s .whole;
+        ended = s .ended ∙ ap (λ (x : Read). x .ended) r;
+        counted = s .counted ∙ ap (λ (x : Read). count + length (x .stored)) r ∙ omega arith;
+        result = s .result ∙ ap (λ (x : Read). sets list count (x .stored)) r ∙ rw (add-one count);
+      }

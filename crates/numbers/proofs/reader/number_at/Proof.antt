@@ -1,0 +1,52 @@
+use mathlib.Core.Path.{_≡_, sym, ap, subst, _∙_}
+use Prim.Native.Nat.{ℕ, _<_, _≤_, _-_}
+use native.Mathlib.Omega.{arith}
+use borrow.Author.Needs.{needs}
+use lib.ListN.{getD}
+use Rattle.numbers.proofs.Gathered.{number-one, number-more}
+use Rattle.numbers.proofs.reader.number_at.Statement.{statement}
+use Rattle.numbers.proofs.reader.number_at.Tie as tie
+use Rattle.numbers.proofs.reader.number_at.Reads as reads
+use Rattle.numbers.proofs.reader.number_at.Lts as lts
+use Rattle.numbers.proofs.reader.later.Reads as later-reads
+use Rattle.numbers.proofs.reader.wide.Reads as wide-reads
+
+-- src/reader.rt:59:22
+shared-slice-read-wide : tie.Need-shared-slice-read-wide
+shared-slice-read-wide c = search needs
+
+-- src/reader.rt:59:9
+wide-requires : tie.Need-wide-requires
+wide-requires c κs = search needs
+
+-- src/reader.rt:61:9
+returns : tie.Need-returns
+returns c =
+    let w = c .before in
+    let a = w .before .before .before in
+    let b = w .wide .ensures in
+    rw b (sym (number-one _ _ (a .pre) (subst (λ (n : ℕ). n < 128) b (c .if1 .taken))))
+
+-- src/reader.rt:66:18
+add-later : tie.Need-add-later
+add-later c = search needs
+
+-- src/reader.rt:66:5
+later-requires : tie.Need-later-requires
+later-requires c κs =
+    let w = c .before in
+    let a = w .before .before .before in
+    (omega (arith, a .pre), omega (arith, w .wide .ensures, w .before .shared-slice-known2 .given (a .args .at)))
+
+-- src/reader.rt:55:1
+returns-2 : tie.Need-returns-2
+returns-2 c =
+    let w = c .before .before in
+    let a = w .before .before .before in
+    let b = w .wide .ensures in
+    c .later .ensures ∙ rw b (sym (number-more _ _ (a .pre) (subst (λ (n : ℕ). 128 ≤ n) b (c .before .if1 .left))))
+
+pub number-at-spec : {M : Type 1} → statement M
+number-at-spec =
+    tie.close
+    (tie.spec shared-slice-read-wide wide-requires returns add-later later-requires returns-2)

@@ -1,0 +1,90 @@
+-- The first `i` numbers take `total` bytes, for which there is room.
+use mathlib.Core.Path.{_≡_, sym, ap, _∙_}
+use Prim.Native.Nat.{ℕ, _-_}
+use borrow.Author.Needs.{needs}
+use native.Mathlib.Omega.{arith}
+use lib.ListN.{length}
+use mir.Facts.{toZ-ofZ}
+use Rattle.numbers.specs.Groups.{groups}
+use Rattle.numbers.specs.SignedLocals.{element}
+use Rattle.numbers.proofs.Listed.{Sizing, sizing, size-turn, size-over, size-end, groupsAt}
+use Rattle.numbers.proofs.writer.size_of.Statement.{statement}
+use Rattle.numbers.proofs.writer.size_of.Tie as tie
+use Rattle.numbers.proofs.writer.size_of.Reads as reads
+use Rattle.numbers.proofs.writer.size_of.Lts as lts
+use Rattle.numbers.proofs.mapping.unsigned.Reads as unsigned-reads
+use Rattle.numbers.proofs.writer.width.Reads as width-reads
+
+abbrev Inv-loop : tie.InvT-loop
+Inv-loop list room total₀ i₀ total i = Sizing list room total i
+
+abbrev μ-loop : tie.MeasureT-loop
+μ-loop list room total₀ i₀ total i = length list - i
+
+-- what was counted is the groups of the number at `i`
+width-is : (c : tie.After-width Inv-loop μ-loop) → let l = c .before .before .before .before in c .width .result ≡ length (groupsAt (l .before .args .list .now) (l .loop .i))
+width-is c =
+    let b = c .before .before in
+    let l = b .before .before in
+    c .width .ensures ∙ ap (λ (m : ℕ). length (groups m)) (simp (toZ-ofZ (element (l .before .args .list .now) (l .loop .i) (b .unsigned-arg .given))) at (c .before .unsigned .ensures))
+
+loop-holds : tie.Need-loop-holds Inv-loop μ-loop
+loop-holds c = sizing _ _
+
+mul-unsigned : tie.Need-mul-unsigned Inv-loop μ-loop
+mul-unsigned c = search needs
+
+shared-slice-copy-out-unsigned : tie.Need-shared-slice-copy-out-unsigned Inv-loop μ-loop
+shared-slice-copy-out-unsigned c = search needs
+
+unsigned-requires : tie.Need-unsigned-requires Inv-loop μ-loop
+unsigned-requires c κs = search needs
+
+width-requires : tie.Need-width-requires Inv-loop μ-loop
+width-requires c κs = search needs
+
+sub-if1 : tie.Need-sub-if1 Inv-loop μ-loop
+sub-if1 c = c .before .before .before .before .loop .inv .held
+
+returns : tie.Need-returns Inv-loop μ-loop
+returns c =
+    let w = c .before in
+    let t = w .before .before .before in
+    size-over (t .before .loop .inv) (t .loop-test .taken) (width-is w) (c .if1 .taken)
+
+add-total : tie.Need-add-total Inv-loop μ-loop
+add-total c = omega (arith, c .if1 .left, c .before .before .before .before .before .loop .inv .held)
+
+add-i : tie.Need-add-i Inv-loop μ-loop
+add-i c = omega arith
+
+loop-less : tie.Need-loop-less Inv-loop μ-loop
+loop-less c = omega arith
+
+loop-again : tie.Need-loop-again Inv-loop μ-loop
+loop-again c =
+    let w = c .before in
+    let t = w .before .before .before in
+    size-turn (t .before .loop .inv) (t .loop-test .taken) (width-is w) (c .if1 .left)
+
+returns-2 : tie.Need-returns-2 Inv-loop μ-loop
+returns-2 c = size-end (c .before .loop .inv) (c .loop-test .left)
+
+pub size-of-spec : {M : Type 1} → statement M
+size-of-spec =
+    tie.close
+    (tie.spec
+    Inv-loop
+    μ-loop
+    loop-holds
+    mul-unsigned
+    shared-slice-copy-out-unsigned
+    unsigned-requires
+    width-requires
+    sub-if1
+    returns
+    add-total
+    add-i
+    loop-less
+    loop-again
+    returns-2)

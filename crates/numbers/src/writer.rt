@@ -1,0 +1,98 @@
+// Numbers to bytes, in groups of seven.
+ghost use mathlib.Core.Path.{_≡_};
+ghost use Prim.Native.Nat.{_+_, _≤_};
+ghost use lib.ListN.{length};
+ghost use lib.Seq.{sets};
+ghost use Rattle.numbers.specs.Groups.{encode, groups, sizeOf, writeTold, written};
+ghost use Rattle.numbers.specs.Reported.{writingTold};
+use crate::mapping::unsigned;
+
+// What a writing answers: the count of bytes, or a refusal.
+pub enum Writing {
+    Count(usize),
+    Refused { number: usize, place: usize },
+}
+
+// How many bytes a list takes, where they fit.
+pub enum Size {
+    Fits(usize),
+    Over,
+}
+
+// Two wrong answers that the promise rules out: "4" where all bytes fit, and bytes changed before it is known that all fit.
+pub fn write(list: &[i64], bytes: &mut [u8]) -> Writing
+    ensures { λ r. ⌜ writingTold r ≡ writeTold (now (list .entry)) (length (now (bytes .entry))) ⌝ }
+    ensures { λ _. ⌜ now (bytes .exit) ≡ written (now (list .entry)) (now (bytes .entry)) ⌝ }
+{
+    let s = size_of(list, bytes.len());
+    match s {
+        Size::Fits(count) => {
+            put_all(list, bytes);
+            Writing::Count(count)
+        }
+        Size::Over => Writing::Refused {
+            number: 4,
+            place: 0,
+        },
+    }
+}
+
+// The bytes of the list, counted before any is written.
+fn size_of(list: &[i64], room: usize) -> Size
+    ensures { λ r. ⌜ r ≡ sizeOf (now (list .entry)) room ⌝ }
+{
+    let mut total: usize = 0;
+    let mut i: usize = 0;
+    while i < list.len() {
+        let w = width(unsigned(list[i]));
+        if room - total < w {
+            return Size::Over;
+        }
+        total += w;
+        i += 1;
+    }
+    Size::Fits(total)
+}
+
+// How many groups a number has.
+fn width(m: u64) -> usize
+    ensures { λ r. ⌜ r ≡ length (groups m) ⌝ }
+{
+    let mut rest = m;
+    let mut more: usize = 9;
+    while 128 <= rest {
+        rest = rest / 128;
+        more -= 1;
+    }
+    10 - more
+}
+
+// Every number of the list, one after the other from the front of the bytes.
+fn put_all(list: &[i64], bytes: &mut [u8])
+    requires { ⌜ length (encode (now list)) ≤ length (now bytes) ⌝ }
+    ensures { λ _. ⌜ now (bytes .exit) ≡ sets (now (bytes .entry)) 0 (encode (now (list .entry))) ⌝ }
+{
+    let mut at: usize = 0;
+    let mut i: usize = 0;
+    while i < list.len() {
+        at = put(bytes, at, unsigned(list[i]));
+        i += 1;
+    }
+}
+
+// The groups of one number, from `at` on; what comes after them is the answer.
+fn put(bytes: &mut [u8], at: usize, m: u64) -> usize
+    requires { ⌜ at + length (groups m) ≤ length (now bytes) ⌝ }
+    ensures { λ r. ⌜ r ≡ at + length (groups m) ⌝ }
+    ensures { λ _. ⌜ now (bytes .exit) ≡ sets (now (bytes .entry)) at (groups m) ⌝ }
+{
+    let mut rest = m;
+    let mut i = at;
+    while 128 <= rest {
+        bytes[i] = (rest % 128 + 128) as u8;
+        rest = rest / 128;
+        i += 1;
+    }
+    bytes[i] = (rest % 128) as u8;
+    i + 1
+}
