@@ -1,0 +1,31 @@
+use borrow.Author.Needs.{needs}
+use Rattle.case.proofs.members.belongs.Statement.{statement}
+use Rattle.case.proofs.members.belongs.Tie as tie
+use Rattle.case.proofs.members.belongs.Reads as reads
+use Rattle.case.proofs.members.belongs.Lts as lts
+use Rattle.case.proofs.offsets.arc_at.Reads as arc-at-reads
+use Rattle.case.proofs.offsets.count.Reads as count-reads
+
+-- src/members.rt:15:9
+arc-at-requires : tie.Need-arc-at-requires
+arc-at-requires c κs = search needs
+
+-- src/members.rt:16:13
+count-requires : tie.Need-count-requires
+count-requires c κs = search needs
+
+-- src/members.rt:17:9
+count-requires-2 : tie.Need-count-requires-2
+count-requires-2 c κs = search needs
+
+-- src/members.rt:12:1
+returns : tie.Need-returns
+returns c = ?
+
+-- src/members.rt:12:1
+returns-2 : tie.Need-returns-2
+returns-2 c = ?
+
+pub belongs-spec : {M : Type 1} → statement M
+belongs-spec =
+    tie.close (tie.spec arc-at-requires count-requires count-requires-2 returns returns-2)
