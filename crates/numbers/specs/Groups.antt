@@ -1,8 +1,11 @@
 -- "in groups of seven bits, lowest first, 80 added to all but the last": how a list is written (80 is hexadecimal, 128).
 -- Assumes nothing.
-use mathlib.Core.Bool.{cond}
+use mathlib.Core.Path.{_≡_, refl}
+use mathlib.Core.Bool.{Bool, true, false, cond}
 use mathlib.Core.List.{List, [], _∷_, _++_}
-use Prim.Native.Nat.{ℕ, zero, suc, _+_, _/_, _%_}
+use Prim.Native.Nat.{ℕ, zero, suc, _+_, _/_, _%_, _≤_, _<_}
+use native.Mathlib.Omega.{arith}
+use borrow.Author.Tests.{lt-ltb, le-ltb}
 use lib.Dec.{ltb, leb}
 use lib.IntN.{ℤ, pos}
 use lib.ListN.{length}
@@ -35,3 +38,20 @@ writeTold list room = cond (leb (length (encode list)) room) (gives (pos (length
 
 unfoldable pub written : List ℤ → List ℕ → List ℕ
 written list bytes = cond (leb (length (encode list)) (length bytes)) (overlay (encode list) bytes) bytes
+
+-- ---- laws
+
+pub one-group : (more m : ℕ) → m < 128 → groupsUpTo more m ≡ m ∷ []
+one-group zero m h = refl
+one-group (suc more) m h = rw (lt-ltb m 128 h)
+
+pub more-groups : (more m : ℕ) → 128 ≤ m → groupsUpTo (suc more) m ≡ (m % 128 + 128) ∷ groupsUpTo more (m / 128)
+more-groups more m h = rw (le-ltb m 128 h)
+
+pub some-group : (more m : ℕ) → 1 ≤ length (groupsUpTo more m)
+some-group zero m = omega arith
+some-group (suc more) m = go (ltb m 128)
+  where
+    go : (b : Bool) → 1 ≤ length (cond b (m ∷ []) ((m % 128 + 128) ∷ groupsUpTo more (m / 128)))
+    go true = omega arith
+    go false = omega arith

@@ -4,11 +4,13 @@ pub mod Items
 pub mod Sum
 pub mod Sets
 pub mod Mapping
+pub mod Groups
+pub mod Reading
+pub mod Reported
+pub mod RoundTrip
+pub mod TableT
+pub mod Shifted
 pub mod SignedParts
 pub mod SignedLinear
 pub mod SignedBounds
 pub mod SignedLocals
-pub mod Groups
-pub mod Reading
-pub mod Reported
-pub mod Shifted
