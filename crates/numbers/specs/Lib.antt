@@ -6,6 +6,7 @@ pub mod Sets
 pub mod Mapping
 pub mod Groups
 pub mod Reading
+pub mod ReadingBounds
 pub mod Reported
 pub mod RoundTrip
 pub mod TableT
