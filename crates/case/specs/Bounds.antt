@@ -1,11 +1,16 @@
--- What the functions inside are handed: counts that the head's questions have let pass.
+-- What the functions inside hand each other: counts as they are read, and counts that the questions have let pass.
 -- Assumes nothing.
 use mathlib.Core.Path.{_≡_}
 use mathlib.Core.List.{List}
-use Prim.Native.Nat.{ℕ, _<_, _≤_}
+use Prim.Native.Nat.{ℕ, _<_, _≤_, _^_}
 use lib.IntN.{ℤ}
-use Rattle.case.specs.Layout.{nodesOf, arcsOf, stationsOf, stepsOf, directionsAt, statesAt, machinesAt, stationAt}
+use Rattle.case.specs.Layout.{countAt, nodesOf, arcsOf, stationsOf, stepsOf, directionsAt, statesAt, machinesAt, stationAt}
 use Rattle.case.specs.StationArcs.{stationArcs}
+
+-- a number that was read as a count
+pub record Counts (case : List ℤ) (i r : ℕ) : Type 0 where
+  pub value : r ≡ countAt case i
+  pub small : r < 2 ^ 63
 
 -- the head's counts
 pub record Counted (case : List ℤ) : Type 0 where

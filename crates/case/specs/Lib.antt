@@ -1,6 +1,7 @@
 pub mod Layout
 pub mod Records
 pub mod Field
+pub mod InRange
 pub mod HeadFields
 pub mod TimeFields
 pub mod NodeFields

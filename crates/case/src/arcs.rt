@@ -4,7 +4,7 @@ ghost use Prim.Native.Nat.{_<_, _≤_};
 ghost use Rattle.numbers.specs.Question.{firstNo};
 ghost use Rattle.numbers.specs.Items.{over};
 ghost use Rattle.case.specs.Layout.{countAt, arcAt};
-ghost use Rattle.case.specs.ArcFields.{endFields, pipeFields, memberFields, compressorFields, kindFields, arcFields};
+ghost use Rattle.case.specs.ArcFields.{endFields, pipeFields, leastBothWays, memberFields, compressorFields, kindFields, arcFields};
 use numbers::answer::Answer;
 use numbers::answer::or_else;
 use super::fields::field;
@@ -42,12 +42,19 @@ fn pipe_fields(case: &[i64], row: usize) -> Answer
     )
 }
 
+// A shortcut goes both ways.
+fn least_both_ways(kind: usize) -> i64
+    ensures { λ r. ⌜ r ≡ leastBothWays kind ⌝ }
+{
+    if kind == 3 { 1 } else { 0 }
+}
+
 fn member_fields(case: &[i64], row: usize, kind: usize) -> Answer
     requires { ⌜ (row < 10000) × (kind ≡ countAt (now case) row) ⌝ }
     ensures { λ r. ⌜ r ≡ firstNo (memberFields (now (case .entry)) row) ⌝ }
 {
     let last_station = last(count(case, 3, 0));
-    let least = if kind == 3 { 1 } else { 0 };
+    let least = least_both_ways(kind);
     or_else(
         field(case, row + 4, 0, last_station),
         or_else(

@@ -2,7 +2,8 @@
 ghost use mathlib.Core.Path.{_≡_};
 ghost use Prim.Native.Nat.{_+_, _*_, _<_, _^_, min};
 ghost use lib.ListN.{length};
-ghost use Rattle.case.specs.Layout.{numberAt, countAt, nodeAt, arcAt, directionAt, stateAt, machineAt, stationEnd};
+ghost use Rattle.case.specs.Layout.{numberAt, nodeAt, arcAt, directionAt, stateAt, machineAt};
+ghost use Rattle.case.specs.Bounds.{Counts};
 ghost use Rattle.case.specs.Field.{lastOf};
 use numbers::compare::index;
 
@@ -19,7 +20,7 @@ pub(crate) fn number(case: &[i64], row: usize, j: usize) -> i64
 }
 
 pub(crate) fn count(case: &[i64], row: usize, j: usize) -> usize
-    ensures { λ r. ⌜ r ≡ countAt (now (case .entry)) (row + j) ⌝ }
+    ensures { λ r. ⌜ Counts (now (case .entry)) (row + j) r ⌝ }
 {
     index(number(case, row, j))
 }

@@ -1,3 +1,8 @@
+use Rattle.case.specs.ArcFields.{compressorFields}
+use Rattle.case.proofs.Asked.{chain}
+use Rattle.numbers.specs.Question.{firstNo-append}
+use mathlib.Core.Path.{_≡_, refl, sym, ap, _∙_}
+use denote.Ref.{now}
 use borrow.Author.Needs.{needs}
 use Rattle.case.proofs.arcs.compressor_fields.Statement.{statement}
 use Rattle.case.proofs.arcs.compressor_fields.Tie as tie
@@ -40,7 +45,11 @@ or-else-requires-2 c κs = search needs
 
 -- src/arcs.rt:60:1
 returns : tie.Need-returns
-returns c = ?
+unfolding compressorFields
+returns c =     simp firstNo-append
+    (chain (c .or-else2 .ensures) (c .before .before .before .before .field .ensures)
+    (chain (c .before .or-else .ensures) (c .before .before .before .field2 .ensures)
+    (c .before .before .field3 .ensures)))
 
 pub compressor-fields-spec : {M : Type 1} → statement M
 compressor-fields-spec =

@@ -1,3 +1,14 @@
+use Rattle.case.specs.Layout.{nodesOf}
+use Rattle.case.specs.Field.{lastOf}
+use denote.Ref.{now}
+use Rattle.case.proofs.Reading.{kept}
+use mir.Val.{toZ, ofZ}
+use mir.Syntax.{w64}
+use mir.Facts.{toZ-ofZ}
+use Rattle.case.specs.ArcFields.{endFields}
+use Rattle.case.proofs.Asked.{chain}
+use Rattle.numbers.specs.Question.{firstNo-append}
+use mathlib.Core.Path.{_≡_, refl, sym, ap, _∙_}
 use borrow.Author.Needs.{needs}
 use Rattle.case.proofs.arcs.end_fields.Statement.{statement}
 use Rattle.case.proofs.arcs.end_fields.Tie as tie
@@ -15,7 +26,7 @@ count-requires c κs = search needs
 
 -- src/arcs.rt:19:9
 last-requires : tie.Need-last-requires
-last-requires c κs = ?
+last-requires c κs = c .count .ensures .small
 
 -- src/arcs.rt:21:9
 field-requires : tie.Need-field-requires
@@ -47,7 +58,13 @@ or-else-requires-2 c κs = search needs
 
 -- src/arcs.rt:15:1
 returns : tie.Need-returns
-returns c = ?
+unfolding endFields
+returns c =     let t = c .before .before .before .before .before in
+    let e : toZ w64 (ofZ w64 (t .last .result)) ≡ lastOf (nodesOf (now (t .before .before .args .case))) = kept _ (t .last .ok) ∙ t .last .ensures ∙ ap lastOf (t .before .count .ensures .value) in
+    simp firstNo-append
+    (chain (c .or-else2 .ensures) (c .before .before .before .before .field .ensures)
+    (chain (c .before .or-else .ensures) (simp e at (c .before .before .before .fields .ensures))
+    (c .before .before .field2 .ensures)))
 
 pub end-fields-spec : {M : Type 1} → statement M
 end-fields-spec =

@@ -1,3 +1,13 @@
+use Rattle.case.proofs.Counting.{first-is}
+use Rattle.case.specs.ArcFields.{kindFields}
+use Rattle.case.specs.Layout.{countAt}
+use borrow.Author.Tests.{le-leb, lt-leb, ne-eqb}
+use native.Mathlib.Omega.{arith}
+use Prim.Native.Nat.{_≤_, _<_}
+use Rattle.case.proofs.Asked.{chain}
+use Rattle.numbers.specs.Question.{firstNo-append}
+use denote.Ref.{now}
+use mathlib.Core.Path.{_≡_, refl, sym, ap, _∙_}
 use borrow.Author.Needs.{needs}
 use Rattle.case.proofs.arcs.kind_fields.Statement.{statement}
 use Rattle.case.proofs.arcs.kind_fields.Tie as tie
@@ -28,7 +38,7 @@ fields-requires c κs = search needs
 
 -- src/arcs.rt:79:26
 member-fields-requires : tie.Need-member-fields-requires
-member-fields-requires c κs = ?
+member-fields-requires c κs = (c .before .before .before .before .pre, first-is (c .before .before .before .before .args .row) (c .before .before .before .count .ensures))
 
 -- src/arcs.rt:79:71
 add-fields-2 : tie.Need-add-fields-2
@@ -44,7 +54,7 @@ or-else-requires c κs = search needs
 
 -- src/arcs.rt:80:22
 member-fields-requires-2 : tie.Need-member-fields-requires-2
-member-fields-requires-2 c κs = ?
+member-fields-requires-2 c κs = (c .before .before .before .before .pre, first-is (c .before .before .before .before .args .row) (c .before .before .before .count .ensures))
 
 -- src/arcs.rt:80:54
 compressor-fields-requires : tie.Need-compressor-fields-requires
@@ -56,19 +66,44 @@ or-else-requires-2 c κs = search needs
 
 -- src/arcs.rt:71:1
 returns : tie.Need-returns
-returns c = ?
+unfolding kindFields
+returns c =     let s = c .before .before in
+    let l = now (s .before .args .case) in
+    let k : s .count .result ≡ countAt l (s .before .args .row) = first-is (s .before .args .row) (s .count .ensures) in
+    rw (sym k ∙ c .before .match .keys1) (c .pipe-fields .ensures)
 
 -- src/arcs.rt:71:1
 returns-2 : tie.Need-returns-2
-returns-2 c = ?
+unfolding kindFields
+returns-2 c =     let s = c .before .before .before in
+    let l = now (s .before .args .case) in
+    let k : s .count .result ≡ countAt l (s .before .args .row) = first-is (s .before .args .row) (s .count .ensures) in
+    let n : countAt l (s .before .args .row) ≤ 1 = omega (arith, k, c .before .if1 .taken) in
+    rw (le-leb _ _ n) (c .fields .ensures)
 
 -- src/arcs.rt:71:1
 returns-3 : tie.Need-returns-3
-returns-3 c = ?
+unfolding kindFields
+returns-3 c =     let s = c .before .before .before .before .before .before in
+    let l = now (s .before .args .case) in
+    let k : s .count .result ≡ countAt l (s .before .args .row) = first-is (s .before .args .row) (s .count .ensures) in
+    let x = countAt l (s .before .args .row) in
+    let m = c .before .before .before .before in
+    let n : 1 < x = omega (arith, k, m .if1 .left) in
+    let o : x ≤ 4 = omega (arith, k, c .before .before .before .if2 .taken) in
+    rw (lt-leb _ _ n, ne-eqb x 2 (λ e. m .before .match .rest .1 (k ∙ e)), le-leb _ _ o, firstNo-append) (chain (c .or-else .ensures) (c .before .before .member-fields .ensures) (c .before .fields2 .ensures))
 
 -- src/arcs.rt:71:1
 returns-4 : tie.Need-returns-4
-returns-4 c = ?
+unfolding kindFields
+returns-4 c =     let s = c .before .before .before .before .before .before in
+    let l = now (s .before .args .case) in
+    let k : s .count .result ≡ countAt l (s .before .args .row) = first-is (s .before .args .row) (s .count .ensures) in
+    let x = countAt l (s .before .args .row) in
+    let m = c .before .before .before .before in
+    let n : 1 < x = omega (arith, k, m .if1 .left) in
+    let o : 4 < x = omega (arith, k, c .before .before .before .if2 .left) in
+    rw (lt-leb _ _ n, ne-eqb x 2 (λ e. m .before .match .rest .1 (k ∙ e)), lt-leb _ _ o, firstNo-append) (chain (c .or-else2 .ensures) (c .before .before .member-fields2 .ensures) (c .before .compressor-fields .ensures))
 
 pub kind-fields-spec : {M : Type 1} → statement M
 kind-fields-spec =

@@ -1,3 +1,7 @@
+use Rattle.case.specs.ArcFields.{pipeFields}
+use Rattle.case.proofs.Asked.{chain}
+use Rattle.numbers.specs.Question.{firstNo-append}
+use mathlib.Core.Path.{_≡_, refl, sym, ap, _∙_}
 use borrow.Author.Needs.{needs}
 use Rattle.case.proofs.arcs.pipe_fields.Statement.{statement}
 use Rattle.case.proofs.arcs.pipe_fields.Tie as tie
@@ -53,7 +57,12 @@ or-else-requires-3 c κs = search needs
 
 -- src/arcs.rt:29:1
 returns : tie.Need-returns
-returns c = ?
+unfolding pipeFields
+returns c =     simp firstNo-append
+    (chain (c .or-else3 .ensures) (c .before .before .before .before .before .before .field .ensures)
+    (chain (c .before .or-else2 .ensures) (c .before .before .before .before .before .fields .ensures)
+    (chain (c .before .before .or-else .ensures) (c .before .before .before .before .field2 .ensures)
+    (c .before .before .before .fields2 .ensures))))
 
 pub pipe-fields-spec : {M : Type 1} → statement M
 pipe-fields-spec =

@@ -1,3 +1,8 @@
+use Rattle.case.specs.HeadFields.{countFields}
+use Rattle.case.proofs.Asked.{chain}
+use Rattle.numbers.specs.Question.{firstNo-append}
+use mathlib.Core.Path.{_≡_, refl, sym, ap, _∙_}
+use denote.Ref.{now}
 use borrow.Author.Needs.{needs}
 use Rattle.case.proofs.head.counts.Statement.{statement}
 use Rattle.case.proofs.head.counts.Tie as tie
@@ -44,7 +49,13 @@ or-else-requires-4 c κs = search needs
 
 -- src/head.rt:16:1
 returns : tie.Need-returns
-returns c = ?
+unfolding countFields
+returns c =     simp firstNo-append
+    (chain (c .or-else4 .ensures) (c .before .before .before .before .before .before .before .before .field .ensures)
+    (chain (c .before .or-else3 .ensures) (c .before .before .before .before .before .before .before .field2 .ensures)
+    (chain (c .before .before .or-else2 .ensures) (c .before .before .before .before .before .before .field3 .ensures)
+    (chain (c .before .before .before .or-else .ensures) (c .before .before .before .before .before .field4 .ensures)
+    (c .before .before .before .before .field5 .ensures)))))
 
 pub counts-spec : {M : Type 1} → statement M
 counts-spec =

@@ -1,3 +1,7 @@
+use Rattle.case.specs.HeadFields.{headFields, toleranceFields}
+use Rattle.case.proofs.Asked.{chain}
+use Rattle.numbers.specs.Question.{firstNo-append}
+use mathlib.Core.Path.{_≡_, refl, sym, ap, _∙_}
 use borrow.Author.Needs.{needs}
 use Rattle.case.proofs.head.head.Statement.{statement}
 use Rattle.case.proofs.head.head.Tie as tie
@@ -29,7 +33,11 @@ or-else-requires-2 c κs = search needs
 
 -- src/head.rt:31:1
 returns : tie.Need-returns
-returns c = ?
+unfolding headFields toleranceFields
+returns c =     simp firstNo-append
+    (chain (c .or-else2 .ensures) (c .before .before .before .before .counts .ensures)
+    (chain (c .before .or-else .ensures) (c .before .before .before .field .ensures)
+    (c .before .before .field2 .ensures)))
 
 pub head-spec : {M : Type 1} → statement M
 head-spec =

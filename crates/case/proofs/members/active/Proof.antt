@@ -1,3 +1,7 @@
+use Rattle.case.proofs.Reading.{count-in}
+use Rattle.case.specs.Layout.{arcAt}
+use denote.Ref.{now}
+use mathlib.Core.Path.{_≡_, refl, sym, ap, _∙_}
 use borrow.Author.Needs.{needs}
 use Rattle.case.proofs.members.active.Statement.{statement}
 use Rattle.case.proofs.members.active.Tie as tie
@@ -16,7 +20,9 @@ count-requires c κs = search needs
 
 -- src/members.rt:67:1
 returns : tie.Need-returns
-returns c = ?
+returns c =     let a = c .before .before .args in
+    let l = now (a .case) in
+    rw (count-in l (arcAt l (a .e)) 7 (c .before .arc-at .ensures) (c .count .ensures .value))
 
 pub active-spec : {M : Type 1} → statement M
 active-spec = tie.close (tie.spec arc-at-requires count-requires returns)

@@ -1,3 +1,9 @@
+use Rattle.case.proofs.Reading.{count-in, first-count}
+use Rattle.case.specs.Records.{arcOf}
+use Rattle.case.specs.Layout.{arcAt}
+use borrow.Author.Tests.{le-leb, lt-leb}
+use denote.Ref.{now}
+use mathlib.Core.Path.{_≡_, refl, sym, ap, _∙_}
 use borrow.Author.Needs.{needs}
 use Rattle.case.proofs.members.belongs.Statement.{statement}
 use Rattle.case.proofs.members.belongs.Tie as tie
@@ -20,11 +26,19 @@ count-requires-2 c κs = search needs
 
 -- src/members.rt:12:1
 returns : tie.Need-returns
-returns c = ?
+returns c =     let u = c .before .before .before in
+    let a = u .before .args in
+    let l = now (a .case) in
+    let k : c .before .before .count .result ≡ arcOf l (a .e) .kind = first-count l (arcAt l (a .e)) (u .arc-at .ensures) (c .before .before .count .ensures .value) in
+    rw (← k, le-leb _ _ (c .before .if1 .taken), count-in l (arcAt l (a .e)) 4 (u .arc-at .ensures) (c .count2 .ensures .value))
 
 -- src/members.rt:12:1
 returns-2 : tie.Need-returns-2
-returns-2 c = ?
+returns-2 c =     let u = c .before .before in
+    let a = u .before .args in
+    let l = now (a .case) in
+    let k : c .before .count .result ≡ arcOf l (a .e) .kind = first-count l (arcAt l (a .e)) (u .arc-at .ensures) (c .before .count .ensures .value) in
+    rw (← k, lt-leb _ _ (c .if1 .left))
 
 pub belongs-spec : {M : Type 1} → statement M
 belongs-spec =

@@ -1,3 +1,7 @@
+use Rattle.case.proofs.Reading.{first-count}
+use Rattle.case.specs.Layout.{arcAt}
+use denote.Ref.{now}
+use mathlib.Core.Path.{_≡_, refl, sym, ap, _∙_}
 use borrow.Author.Needs.{needs}
 use Rattle.case.proofs.members.plain.Statement.{statement}
 use Rattle.case.proofs.members.plain.Tie as tie
@@ -16,7 +20,9 @@ count-requires c κs = search needs
 
 -- src/members.rt:24:1
 returns : tie.Need-returns
-returns c = ?
+returns c =     let a = c .before .before .args in
+    let l = now (a .case) in
+    rw (first-count l (arcAt l (a .e)) (c .before .arc-at .ensures) (c .count .ensures .value))
 
 pub plain-spec : {M : Type 1} → statement M
 plain-spec = tie.close (tie.spec arc-at-requires count-requires returns)

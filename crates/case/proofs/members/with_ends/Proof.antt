@@ -1,3 +1,5 @@
+use denote.Ref.{now}
+use mathlib.Core.Path.{_≡_, refl, sym, ap, _∙_}
 use borrow.Author.Needs.{needs}
 use Rattle.case.proofs.members.with_ends.Statement.{statement}
 use Rattle.case.proofs.members.with_ends.Tie as tie

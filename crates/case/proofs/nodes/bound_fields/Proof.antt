@@ -1,3 +1,14 @@
+use Rattle.case.specs.Layout.{numberAt}
+use Prim.Native.Nat.{_+_}
+use denote.Ref.{now}
+use Rattle.case.proofs.Reading.{kept}
+use mir.Val.{toZ, ofZ}
+use mir.Syntax.{w64}
+use mir.Facts.{toZ-ofZ}
+use Rattle.case.specs.NodeFields.{boundFields}
+use Rattle.case.proofs.Asked.{chain}
+use Rattle.numbers.specs.Question.{firstNo-append}
+use mathlib.Core.Path.{_≡_, refl, sym, ap, _∙_}
 use borrow.Author.Needs.{needs}
 use Rattle.case.proofs.nodes.bound_fields.Statement.{statement}
 use Rattle.case.proofs.nodes.bound_fields.Tie as tie
@@ -62,7 +73,20 @@ or-else-requires-3 c κs = search needs
 
 -- src/nodes.rt:15:1
 returns : tie.Need-returns
-returns c = ?
+unfolding boundFields
+returns c =     let u = c .before .before .before .before .before .before .before in
+    let t = u .before in
+    let s = t .before in
+    let l = now (s .before .args .case) in
+    let row = s .before .args .row in
+    let low : toZ w64 (ofZ w64 (s .number .result)) ≡ numberAt l (row + 2) = kept _ (s .number .ok) ∙ s .number .ensures in
+    let high : toZ w64 (ofZ w64 (t .number2 .result)) ≡ numberAt l (row + 3) = kept _ (t .number2 .ok) ∙ t .number2 .ensures in
+    let actlow : toZ w64 (ofZ w64 (u .number3 .result)) ≡ numberAt l (row + 4) = kept _ (u .number3 .ok) ∙ u .number3 .ensures in
+    simp firstNo-append
+    (chain (c .or-else3 .ensures) (c .before .before .before .before .before .before .field .ensures)
+    (chain (c .before .or-else2 .ensures) (c .before .before .before .before .before .fields .ensures)
+    (chain (c .before .before .or-else .ensures) (simp low at (c .before .before .before .before .field2 .ensures))
+    (simp (actlow, high) at (c .before .before .before .field3 .ensures)))))
 
 pub bound-fields-spec : {M : Type 1} → statement M
 bound-fields-spec =

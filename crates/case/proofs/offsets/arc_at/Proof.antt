@@ -1,3 +1,6 @@
+use Rattle.case.specs.Layout.{arcAt}
+use native.Mathlib.Omega.{arith}
+use mathlib.Core.Path.{_≡_, refl, sym, ap, _∙_}
 use borrow.Author.Needs.{needs}
 use Rattle.case.proofs.offsets.arc_at.Statement.{statement}
 use Rattle.case.proofs.offsets.arc_at.Tie as tie
@@ -21,7 +24,8 @@ along-requires c κs = search needs
 
 -- src/offsets.rt:48:1
 returns : tie.Need-returns
-returns c = ?
+unfolding arcAt
+returns c = c .along .ensures ∙ rw (c .before .node-at .ensures, c .before .before .count .ensures .value) (omega arith)
 
 pub arc-at-spec : {M : Type 1} → statement M
 arc-at-spec = tie.close (tie.spec count-requires node-at-requires along-requires returns)

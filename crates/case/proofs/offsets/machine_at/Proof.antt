@@ -1,3 +1,6 @@
+use Rattle.case.specs.Layout.{machineAt}
+use native.Mathlib.Omega.{arith}
+use mathlib.Core.Path.{_≡_, refl, sym, ap, _∙_}
 use borrow.Author.Needs.{needs}
 use Rattle.case.proofs.offsets.machine_at.Statement.{statement}
 use Rattle.case.proofs.offsets.machine_at.Tie as tie
@@ -21,7 +24,8 @@ along-requires c κs = search needs
 
 -- src/offsets.rt:69:1
 returns : tie.Need-returns
-returns c = ?
+unfolding machineAt
+returns c = c .along .ensures ∙ rw (c .before .state-at .ensures, c .before .before .count .ensures .value) (omega arith)
 
 pub machine-at-spec : {M : Type 1} → statement M
 machine-at-spec = tie.close (tie.spec count-requires state-at-requires along-requires returns)

@@ -1,3 +1,7 @@
+use denote.Ref.{now}
+use native.Mathlib.Omega.{arith}
+use Prim.Native.Nat.{_+_}
+use Rattle.case.proofs.Reading.{past}
 use borrow.Author.Needs.{needs}
 use Rattle.case.proofs.offsets.number.Statement.{statement}
 use Rattle.case.proofs.offsets.number.Tie as tie
@@ -26,11 +30,11 @@ returns c = search needs
 
 -- src/offsets.rt:10:1
 returns-2 : tie.Need-returns-2
-returns-2 c = ?
+returns-2 c = let a = c .before .before .args in past (now (a .case)) (a .row + a .j) (omega arith)
 
 -- src/offsets.rt:10:1
 returns-3 : tie.Need-returns-3
-returns-3 c = ?
+returns-3 c = let a = c .before .args in past (now (a .case)) (a .row + a .j) (omega arith)
 
 pub number-spec : {M : Type 1} → statement M
 number-spec =

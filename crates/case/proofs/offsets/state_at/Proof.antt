@@ -1,3 +1,8 @@
+use Rattle.case.specs.Layout.{countAt, directionsAt, stateAt}
+use denote.Ref.{now}
+use native.Mathlib.Nat.{add-zero}
+use native.Mathlib.Omega.{arith}
+use mathlib.Core.Path.{_≡_, refl, sym, ap, _∙_}
 use borrow.Author.Needs.{needs}
 use Rattle.case.proofs.offsets.state_at.Statement.{statement}
 use Rattle.case.proofs.offsets.state_at.Tie as tie
@@ -21,7 +26,10 @@ along-requires c κs = search needs
 
 -- src/offsets.rt:62:1
 returns : tie.Need-returns
-returns c = ?
+unfolding stateAt
+returns c =     let a = c .before .before .before .args in
+    let n : c .before .before .count .result ≡ directionsAt (now (a .case)) (a .row) = c .before .before .count .ensures .value ∙ ap (countAt (now (a .case))) (add-zero (a .row)) in
+    c .along .ensures ∙ rw (c .before .direction-at .ensures, n) (omega arith)
 
 pub state-at-spec : {M : Type 1} → statement M
 state-at-spec = tie.close (tie.spec count-requires direction-at-requires along-requires returns)

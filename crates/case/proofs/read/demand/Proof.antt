@@ -1,3 +1,7 @@
+use denote.Ref.{now}
+use native.Mathlib.Omega.{arith}
+use Prim.Native.Nat.{_+_}
+use Rattle.case.proofs.Reading.{past}
 use borrow.Author.Needs.{needs}
 use Rattle.case.proofs.read.demand.Statement.{statement}
 use Rattle.case.proofs.read.demand.Tie as tie
@@ -19,7 +23,7 @@ returns c = search needs
 
 -- src/read.rt:52:1
 returns-2 : tie.Need-returns-2
-returns-2 c = ?
+returns-2 c = let a = c .before .args in past (now (a .case)) (a .row + (6 + a .i)) (omega arith)
 
 pub demand-spec : {M : Type 1} → statement M
 demand-spec = tie.close (tie.spec add-number number-requires returns returns-2)

@@ -1,3 +1,7 @@
+use Rattle.case.specs.Layout.{stateAt}
+use Rattle.case.proofs.Reading.{number-in, count-in, first-number, kept}
+use denote.Ref.{now}
+use mathlib.Core.Path.{_≡_, refl, sym, ap, _∙_}
 use borrow.Author.Needs.{needs}
 use Rattle.case.proofs.read.state.Statement.{statement}
 use Rattle.case.proofs.read.state.Tie as tie
@@ -29,7 +33,15 @@ count-requires c κs = search needs
 
 -- src/read.rt:125:1
 returns : tie.Need-returns
-returns c = ?
+returns c =     let a = c .before .before .before .before .before .args in
+    let l = now (a .case) in
+    let row = stateAt l (a .row) (a .z) in
+    let r = c .before .before .before .before .state-at .ensures in
+    let e0 = kept (c .before .before .before .number .result) (c .before .before .before .number .ok) ∙ first-number l row r (c .before .before .before .number .ensures) in
+    let e1 = kept (c .before .before .number2 .result) (c .before .before .number2 .ok) ∙ number-in l row 1 r (c .before .before .number2 .ensures) in
+    let e2 = kept (c .before .number3 .result) (c .before .number3 .ok) ∙ number-in l row 2 r (c .before .number3 .ensures) in
+    let e3 = count-in l row 3 r (c .count .ensures .value) in
+    rw (e0, e1, e2, e3)
 
 pub state-spec : {M : Type 1} → statement M
 state-spec =

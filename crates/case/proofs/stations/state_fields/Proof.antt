@@ -1,3 +1,10 @@
+use mir.Val.{toZ, ofZ}
+use mir.Syntax.{w64}
+use mir.Facts.{toZ-ofZ}
+use Rattle.case.specs.StationFields.{stateRowFields}
+use Rattle.case.proofs.Asked.{chain}
+use Rattle.numbers.specs.Question.{firstNo-append}
+use mathlib.Core.Path.{_≡_, refl, sym, ap, _∙_}
 use borrow.Author.Needs.{needs}
 use Rattle.case.proofs.stations.state_fields.Statement.{statement}
 use Rattle.case.proofs.stations.state_fields.Tie as tie
@@ -37,7 +44,11 @@ or-else-requires-2 c κs = search needs
 
 -- src/stations.rt:68:1
 returns : tie.Need-returns
-returns c = ?
+unfolding stateRowFields
+returns c =     simp firstNo-append
+    (chain (c .or-else2 .ensures) (simp (toZ-ofZ (c .before .before .before .before .before .fits .sets)) at (c .before .before .before .before .field .ensures))
+    (chain (c .before .or-else .ensures) (c .before .before .before .fields .ensures)
+    (c .before .before .field2 .ensures)))
 
 pub state-fields-spec : {M : Type 1} → statement M
 state-fields-spec =
