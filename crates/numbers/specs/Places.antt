@@ -53,3 +53,24 @@ module _ (b : ℕ) where
       earlier : firstNo (f i) ≡ Yes → (j : ℕ) → ((m : ℕ) → m < j → firstNo (f (suc i + m)) ≡ Yes) → (m : ℕ) → m < suc j → firstNo (f (i + m)) ≡ Yes
       earlier e j before zero l = let z : i + 0 ≡ i = omega arith in rw z e
       earlier e j before (suc m) l = let y : i + suc m ≡ suc i + m = omega arith in rw y (before m (omega arith))
+
+-- every question of a list has a small number, step and place
+abbrev pub AllSmall : ℕ → List Question → Type 0
+AllSmall b [] = Unit {0}
+AllSmall b (q ∷ qs) = (q .number < b) × (q .step < b) × (q .place < b) × AllSmall b qs
+
+module _ (b : ℕ) where
+  pub all-small : (qs : List Question) → AllSmall b qs → Small b (firstNo qs)
+  all-small [] s = tt
+  all-small (q ∷ qs) s = small-next b q qs (s .0) (s .1) (s .2) (λ e. all-small qs (s .3))
+
+  pub all-append : (xs ys : List Question) → AllSmall b xs → AllSmall b ys → AllSmall b (xs ++ ys)
+  all-append [] ys s t = t
+  all-append (q ∷ xs) ys s t = (s .0, s .1, s .2, all-append xs ys (s .3) t)
+
+  pub all-over : (f : ℕ → List Question) (i c : ℕ) → ((j : ℕ) → j < c → AllSmall b (f (i + j))) → AllSmall b (over f i c)
+  all-over f i zero h = tt
+  all-over f i (suc c) h =
+      let z : i + 0 ≡ i = omega arith in
+      all-append (f i) (over f (suc i) c) (subst (λ (n : ℕ). AllSmall b (f n)) z (h 0 (omega arith)))
+      (all-over f (suc i) c (λ j l. let y : i + suc j ≡ suc i + j = omega arith in subst (λ (n : ℕ). AllSmall b (f n)) y (h (suc j) (omega arith))))
