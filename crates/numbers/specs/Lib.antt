@@ -1,6 +1,7 @@
 pub mod Told
 pub mod Question
 pub mod Items
+pub mod Places
 pub mod Sum
 pub mod Sets
 pub mod Mapping
