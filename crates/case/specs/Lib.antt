@@ -15,6 +15,7 @@ pub mod OneStation
 pub mod StationSize
 pub mod Directions
 pub mod States
+pub mod CountLaws
 pub mod Judged
 pub mod Bounds
 pub mod Laid

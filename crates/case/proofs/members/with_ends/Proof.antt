@@ -1,3 +1,5 @@
+use Rattle.case.proofs.Reading.{count-in}
+use Rattle.case.specs.Layout.{arcAt}
 use denote.Ref.{now}
 use mathlib.Core.Path.{_≡_, refl, sym, ap, _∙_}
 use borrow.Author.Needs.{needs}
@@ -31,7 +33,12 @@ with-node-requires-2 c κs = search needs
 
 -- src/members.rt:82:1
 returns : tie.Need-returns
-returns c = ?
+returns c =     let u = c .before .before .before .before in
+    let a = u .before .args in
+    let l = now (a .case) in
+    let row = arcAt l (a .e) in
+    c .with-node2 .ensures
+    ∙ rw (count-in l row 2 (u .arc-at .ensures) (c .before .count2 .ensures .value), c .before .before .with-node .ensures, count-in l row 1 (u .arc-at .ensures) (c .before .before .before .count .ensures .value))
 
 pub with-ends-spec : {M : Type 1} → statement M
 with-ends-spec =

@@ -1,6 +1,7 @@
 use Rattle.case.proofs.Counting.{shifted}
 use Rattle.case.specs.StationNodes.{withNode}
 use borrow.Author.Tests.{lt-ltb, le-ltb}
+use native.Mathlib.Omega.{arith}
 use mathlib.Core.Path.{_≡_, refl, sym, ap, _∙_}
 use borrow.Author.Needs.{needs}
 use Rattle.case.proofs.members.with_node.Statement.{statement}
@@ -15,7 +16,7 @@ shl-result c = search needs
 -- src/members.rt:75:1
 returns : tie.Need-returns
 unfolding withNode
-returns c = ?
+returns c = rw (shifted (c .before .args .v) (omega arith), lt-ltb _ _ (c .if1 .taken))
 
 -- src/members.rt:75:1
 returns-2 : tie.Need-returns-2

@@ -1,3 +1,9 @@
+use borrow.Author.Needs.{needs}
+use denote.Ref.{now}
+use native.Mathlib.Omega.{arith}
+use Prim.Native.Nat.{ℕ, _≤_, _<_, _-_, _+_}
+use mathlib.Core.Bool.{Bool, true, false}
+use mathlib.Core.Path.{_≡_, refl, sym, ap, _∙_}
 use Rattle.case.proofs.rules.direction_sets.Statement.{statement}
 use Rattle.case.proofs.rules.direction_sets.Tie as tie
 use Rattle.case.proofs.rules.direction_sets.Reads as reads
@@ -32,7 +38,7 @@ element-copy-out-inside c = ?
 
 -- src/rules.rt:163:13
 directions-kept-requires : tie.Need-directions-kept-requires Inv-loop μ-loop
-directions-kept-requires c κs = ?
+directions-kept-requires c κs = search needs
 
 -- src/rules.rt:164:13
 returns : tie.Need-returns Inv-loop μ-loop

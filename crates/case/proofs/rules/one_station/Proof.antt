@@ -1,3 +1,9 @@
+use borrow.Author.Needs.{needs}
+use denote.Ref.{now}
+use native.Mathlib.Omega.{arith}
+use Prim.Native.Nat.{ℕ, _≤_, _<_, _-_, _+_}
+use mathlib.Core.Bool.{Bool, true, false}
+use mathlib.Core.Path.{_≡_, refl, sym, ap, _∙_}
 use Rattle.case.proofs.rules.one_station.Statement.{statement}
 use Rattle.case.proofs.rules.one_station.Tie as tie
 use Rattle.case.proofs.rules.one_station.Reads as reads
