@@ -18,4 +18,6 @@ pub mod States
 pub mod CountLaws
 pub mod Judged
 pub mod Bounds
+pub mod Passed
 pub mod Laid
+pub mod LaidLaws
