@@ -6,8 +6,9 @@ use Prim.Native.Nat.{ℕ, zero, suc, _+_, _*_, _<_, _≤_}
 use native.Mathlib.Nat.{mul-le-mul}
 use native.Mathlib.Numerals.{add-one}
 use native.Mathlib.Omega.{arith}
+use borrow.Author.Tests.{leb-true}
 use lib.IntN.{ℤ, pos}
-use Rattle.numbers.specs.Question.{Question, firstNo}
+use Rattle.numbers.specs.Question.{Question, firstNo, all-yes}
 use Rattle.numbers.specs.Items.{over}
 use Rattle.numbers.specs.declared.answer.Answer.the-variants.{Yes}
 use Rattle.case.specs.Layout.{nodesOf, arcsOf, stationsOf, stepsOf, directionsAt, statesAt, machinesAt, nodeAt, arcAt, directionAt, stateAt, machineAt, stationEnd, stationAt}
@@ -18,9 +19,13 @@ use Rattle.case.specs.NodeFields.{allNodeFields}
 use Rattle.case.specs.ArcFields.{allArcFields}
 use Rattle.case.specs.StationFields.{stationHead, partFields, rowFields, stationFields, allStationFields}
 use Rattle.case.specs.Leftover.{leftover}
-use Rattle.case.specs.Judged.{rowQuestions, listQuestions}
+use Rattle.case.specs.ArcEnds.{allArcEnds}
+use Rattle.case.specs.OneStation.{allOneStation}
+use Rattle.case.specs.StationSize.{stationSize, allStationSizes}
+use Rattle.case.specs.Directions.{allDirectionSets}
+use Rattle.case.specs.Judged.{rowQuestions, listQuestions, earlyRules}
 use Rattle.case.specs.InRange.{InRange, first-yes, second-yes, item-yes, field-yes, field-then, count-most, count-least}
-use Rattle.case.specs.Bounds.{Counted, StationCounted, StationsCounted}
+use Rattle.case.specs.Bounds.{Counted, StationCounted, StationsCounted, Sized}
 
 module _ (case : List ℤ) where
   -- ---- the head
@@ -102,6 +107,33 @@ module _ (case : List ℤ) where
 
     pub list-stations : StationsCounted case
     list-stations = record { each = λ s p. row-counted (stationAt case s) (station-yes s p) }
+
+  -- ---- the rules' groups
+
+  module _ (e : firstNo (earlyRules case) ≡ Yes) where
+    pub ends-yes : firstNo (allArcEnds case) ≡ Yes
+    unfolding earlyRules
+    ends-yes = first-yes (allArcEnds case) _ e
+
+    after-ends : firstNo (allOneStation case ++ (allStationSizes case ++ allDirectionSets case)) ≡ Yes
+    unfolding earlyRules
+    after-ends = second-yes (allArcEnds case) _ e
+
+    pub one-yes : firstNo (allOneStation case) ≡ Yes
+    one-yes = first-yes (allOneStation case) _ after-ends
+
+    after-one : firstNo (allStationSizes case ++ allDirectionSets case) ≡ Yes
+    after-one = second-yes (allOneStation case) _ after-ends
+
+    pub sizes-yes : firstNo (allStationSizes case) ≡ Yes
+    sizes-yes = first-yes (allStationSizes case) _ after-one
+
+    pub directions-yes : firstNo (allDirectionSets case) ≡ Yes
+    directions-yes = second-yes (allStationSizes case) _ after-one
+
+    pub rules-sized : Sized case
+    unfolding allStationSizes stationSize
+    rules-sized = record { each = λ s p. leb-true _ _ (all-yes (stationSize case s) (item-yes (stationSize case) (stationsOf case) sizes-yes s p) .0) }
 
   -- ---- offsets
 

@@ -1,30 +1,24 @@
+use mathlib.Core.Bool.{true}
+use mathlib.Core.List.{List}
+use mathlib.Core.Logic.{⊎-elim}
+use mathlib.Core.Path.{_≡_, sym, ap, _∙_}
+use Prim.Native.Nat.{ℕ, _≤_, _<_, _-_, _+_, _^_}
+use native.Mathlib.Omega.{arith}
+use borrow.Author.Needs.{needs}
+use denote.Ref.{now}
+use lib.IntN.{ℤ, pos}
+use lib.Pow.{pow-mono}
+use mir.Facts.{toZ-pos}
+use mir.Syntax.{w64}
 use Rattle.case.specs.CountLaws.{before-none, before-le, before-yes, before-no, before-mono, arcs-none, arcs-yes, arcs-no, arcs-lt}
 use Rattle.case.specs.States.{activeAtStart}
 use Rattle.case.specs.StationArcs.{belongs, arcsBefore, arcSet}
-use lib.IntN.{ℤ, pos}
-use mir.Syntax.{w64}
-use mir.Facts.{toZ-pos}
-use lib.Pow.{pow-mono}
-use mathlib.Core.List.{List}
-use mathlib.Core.Bool.{Bool, true, false}
-use borrow.Author.Needs.{needs}
-use denote.Ref.{now}
-use native.Mathlib.Omega.{arith}
-use Prim.Native.Nat.{ℕ, _≤_, _<_, _-_, _+_, _^_}
-use mathlib.Core.Logic.{⊎-elim}
-use mathlib.Core.Path.{_≡_, refl, sym, ap, _∙_}
 use Rattle.case.proofs.members.start_set.Statement.{statement}
 use Rattle.case.proofs.members.start_set.Tie as tie
-use Rattle.case.proofs.members.start_set.Reads as reads
-use Rattle.case.proofs.members.start_set.Lts as lts
-use Rattle.case.proofs.members.belongs.Reads as belongs-reads
-use Rattle.case.proofs.members.with_arc.Reads as with-arc-reads
 
--- [pre]
 -- a set of at most 30 arcs fits
 set-fits : (l : List ℤ) (s e n : ℕ) {set : ℕ} → e ≤ n → arcsBefore l s n ≤ 30 → set ≡ arcSet l s (activeAtStart l) e → set < 2 ^ 63
 set-fits l s e n h k p = let m : arcsBefore l s e ≤ 30 = omega (arith, before-mono l s e n h) in let q : 2 ^ arcsBefore l s e ≤ 2 ^ 30 = pow-mono m in omega (arith, p, arcs-lt l s (activeAtStart l) e)
--- [/pre]
 
 abbrev Inv-loop : tie.InvT-loop
 Inv-loop case s arcs set₀ n₀ e₀ set n e = (e ≤ arcs) × (n ≡ arcsBefore case s e) × (set ≡ arcSet case s (activeAtStart case) e)
@@ -32,15 +26,12 @@ Inv-loop case s arcs set₀ n₀ e₀ set n e = (e ≤ arcs) × (n ≡ arcsBefor
 abbrev μ-loop : tie.MeasureT-loop
 μ-loop case s arcs set₀ n₀ e₀ set n e = arcs - e
 
--- src/members.rt:67:5
 loop-holds : tie.Need-loop-holds Inv-loop μ-loop
 loop-holds c = let l = now (c .args .case) in (omega arith, sym (before-none l (c .args .s)), sym (arcs-none l (c .args .s) (activeAtStart l)))
 
--- src/members.rt:68:12
 belongs-requires : tie.Need-belongs-requires Inv-loop μ-loop
 belongs-requires c κs = search needs
 
--- src/members.rt:69:13
 with-arc-requires : tie.Need-with-arc-requires Inv-loop μ-loop
 with-arc-requires c κs =     let b = c .before in
     let h = b .before .before in
@@ -51,19 +42,15 @@ with-arc-requires c κs =     let b = c .before in
     let n = h .loop .inv .1 in
     (omega (arith, n, before-yes l (a .s) i y, before-mono l (a .s) (i + 1) (a .arcs) (omega arith), h .before .pre), rw (n, h .loop .inv .2) (arcs-lt l (a .s) (activeAtStart l) i))
 
--- src/members.rt:70:13
 add-n : tie.Need-add-n Inv-loop μ-loop
 add-n c = let h = c .before .before .before .before in omega (arith, h .loop .inv .1, before-le (now (h .before .args .case)) (h .before .args .s) (h .loop .e))
 
--- src/members.rt:72:9
 add-e : tie.Need-add-e Inv-loop μ-loop
 add-e c = omega arith
 
--- src/members.rt:67:5
 loop-less : tie.Need-loop-less Inv-loop μ-loop
 loop-less c = omega arith
 
--- src/members.rt:67:5
 loop-again : tie.Need-loop-again Inv-loop μ-loop
 loop-again c =     let b = c .before in
     let h = b .before .before in
@@ -81,14 +68,12 @@ loop-again c =     let b = c .before in
     (λ w. w .1 ∙ h .loop .inv .2 ∙ sym (arcs-no l (a .s) (activeAtStart l) i (f ∙ w .0 .left)))
     (c .if1 .came))
 
--- src/members.rt:74:5
 cast-result : tie.Need-cast-result Inv-loop μ-loop
 cast-result c =     let h = c .before in
     let a = h .before .args in
     let l = now (a .case) in
     record { sfits = set-fits l (a .s) (h .loop .e) (a .arcs) (h .loop .inv .0) (h .before .pre) (h .loop .inv .2) }
 
--- src/members.rt:60:1
 returns : tie.Need-returns Inv-loop μ-loop
 returns c =     let h = c .before in
     let a = h .before .args in

@@ -1,43 +1,31 @@
-use Rattle.case.specs.Directions.{directionKept}
-use Rattle.case.specs.StationNodes.{onlyFence}
-use Rattle.case.specs.Records.{directionRow}
-use Rattle.case.specs.declared.records.Direction.{Direction}
-use Rattle.numbers.specs.Sets.{disjointOf}
-use Rattle.case.proofs.Reading.{kept}
-use mir.Val.{toZ, ofZ}
-use mir.Syntax.{w64}
-use mir.Facts.{toZ-ofZ}
+use mathlib.Core.Bool.{true, false}
+use mathlib.Core.Path.{_≡_, sym, ap, _∙_}
 use borrow.Author.Needs.{needs}
 use denote.Ref.{now}
-use native.Mathlib.Omega.{arith}
-use Prim.Native.Nat.{ℕ, _≤_, _<_, _-_, _+_}
-use mathlib.Core.Bool.{Bool, true, false}
-use mathlib.Core.Path.{_≡_, refl, sym, ap, _∙_}
+use mir.Facts.{toZ-ofZ}
+use mir.Syntax.{w64}
+use mir.Val.{toZ, ofZ}
+use Rattle.numbers.specs.Sets.{disjointOf}
+use Rattle.case.specs.Directions.{directionKept}
+use Rattle.case.specs.Records.{directionRow}
+use Rattle.case.specs.StationNodes.{onlyFence}
+use Rattle.case.specs.declared.records.Direction.{Direction}
+use Rattle.case.proofs.Reading.{kept}
 use Rattle.case.proofs.rules.direction_kept.Statement.{statement}
 use Rattle.case.proofs.rules.direction_kept.Tie as tie
-use Rattle.case.proofs.rules.direction_kept.Reads as reads
-use Rattle.case.proofs.rules.direction_kept.Lts as lts
-use Rattle.case.proofs.read.direction.Reads as direction-reads
-use Rattle.case.proofs.rules.only_fence.Reads as only-fence-reads
-use Rattle.numbers.proofs.sets.disjoint.Reads as disjoint-reads
 
--- src/rules.rt:127:9
 direction-requires : tie.Need-direction-requires
 direction-requires c κs = search needs
 
--- src/rules.rt:130:8
 disjoint-requires : tie.Need-disjoint-requires
 disjoint-requires c κs = search needs
 
--- src/rules.rt:131:12
 only-fence-requires : tie.Need-only-fence-requires
 only-fence-requires c κs = search needs
 
--- src/rules.rt:132:13
 only-fence-requires-2 : tie.Need-only-fence-requires-2
 only-fence-requires-2 c κs = search needs
 
--- src/rules.rt:132:13
 returns : tie.Need-returns
 unfolding directionKept
 returns c =     let d = c .before .before .before .before .before .before .before in
@@ -53,7 +41,6 @@ returns c =     let d = c .before .before .before .before .before .before .befor
     let f : onlyFence (s .args .inside) (s .args .plain) (r .entry) ≡ true = simp (n, i, p) at (sym (c .before .before .only-fence .ensures) ∙ c .before .if2 .taken) in
     rw (e, f) (simp (x, i, p) at (c .only-fence2 .ensures))
 
--- src/rules.rt:124:1
 returns-2 : tie.Need-returns-2
 unfolding directionKept
 returns-2 c =     let d = c .before .before .before .before .before .before in
@@ -69,7 +56,6 @@ returns-2 c =     let d = c .before .before .before .before .before .before in
     let f : onlyFence (s .args .inside) (s .args .plain) (r .entry) ≡ false = simp (n, i, p) at (sym (c .before .only-fence .ensures) ∙ c .if2 .left) in
     rw (e, f)
 
--- src/rules.rt:124:1
 returns-3 : tie.Need-returns-3
 unfolding directionKept
 returns-3 c =     let d = c .before .before .before .before in

@@ -1,28 +1,23 @@
+use mathlib.Core.Bool.{true, false}
+use mathlib.Core.Logic.{⊎-elim}
+use mathlib.Core.Path.{_≡_, refl, sym, ap, _∙_}
+use Prim.Native.Nat.{_≤_, _-_}
+use native.Mathlib.Omega.{arith}
+use borrow.Author.Needs.{needs}
+use borrow.Author.Tests.{not-true, not-false}
+use denote.Ref.{now}
+use mir.Facts.{toZ-ofZ}
+use mir.Syntax.{w64}
+use mir.Val.{toZ, ofZ}
+use Rattle.numbers.specs.Sets.{subsetOf}
 use Rattle.case.specs.CountLaws.{every-more, every-not}
+use Rattle.case.specs.Records.{artificialOf}
 use Rattle.case.specs.States.{machinesKept}
 use Rattle.case.specs.StationArcs.{belongs, every}
-use Rattle.case.specs.Records.{artificialOf}
 use Rattle.case.specs.declared.records.Artificial.{Artificial}
-use Rattle.numbers.specs.Sets.{subsetOf}
-use borrow.Author.Tests.{not-true, not-false}
-use mathlib.Core.Logic.{⊎-elim}
 use Rattle.case.proofs.Reading.{kept}
-use mir.Val.{toZ, ofZ}
-use mir.Syntax.{w64}
-use mir.Facts.{toZ-ofZ}
-use borrow.Author.Needs.{needs}
-use denote.Ref.{now}
-use native.Mathlib.Omega.{arith}
-use Prim.Native.Nat.{ℕ, _≤_, _<_, _-_, _+_}
-use mathlib.Core.Bool.{Bool, true, false}
-use mathlib.Core.Path.{_≡_, refl, sym, ap, _∙_}
 use Rattle.case.proofs.rules.machines_kept.Statement.{statement}
 use Rattle.case.proofs.rules.machines_kept.Tie as tie
-use Rattle.case.proofs.rules.machines_kept.Reads as reads
-use Rattle.case.proofs.rules.machines_kept.Lts as lts
-use Rattle.case.proofs.members.belongs.Reads as belongs-reads
-use Rattle.case.proofs.read.artificial.Reads as artificial-reads
-use Rattle.numbers.proofs.sets.subset.Reads as subset-reads
 
 abbrev Inv-loop : tie.InvT-loop
 Inv-loop case s own arcs e₀ e = (e ≤ arcs) × (every e (machinesKept case s (toZ w64 own)) ≡ true)
@@ -30,23 +25,18 @@ Inv-loop case s own arcs e₀ e = (e ≤ arcs) × (every e (machinesKept case s 
 abbrev μ-loop : tie.MeasureT-loop
 μ-loop case s own arcs e₀ e = arcs - e
 
--- src/rules.rt:208:5
 loop-holds : tie.Need-loop-holds Inv-loop μ-loop
 loop-holds c = (omega arith, refl)
 
--- src/rules.rt:209:12
 belongs-requires : tie.Need-belongs-requires Inv-loop μ-loop
 belongs-requires c κs = search needs
 
--- src/rules.rt:210:28
 artificial-requires : tie.Need-artificial-requires Inv-loop μ-loop
 artificial-requires c κs = search needs
 
--- src/rules.rt:211:17
 subset-requires : tie.Need-subset-requires Inv-loop μ-loop
 subset-requires c κs = search needs
 
--- src/rules.rt:212:17
 returns : tie.Need-returns Inv-loop μ-loop
 unfolding machinesKept
 returns c =     let b = c .before .before .before .before .before in
@@ -64,15 +54,12 @@ returns c =     let b = c .before .before .before .before .before in
     let f : w e ≡ false = rw (y, z) in
     sym (simp (toZ-ofZ (s .fits .own)) at (every-not (a .arcs) w e (t .loop-test .taken) f))
 
--- src/rules.rt:215:9
 add-e : tie.Need-add-e Inv-loop μ-loop
 add-e c = omega arith
 
--- src/rules.rt:208:5
 loop-less : tie.Need-loop-less Inv-loop μ-loop
 loop-less c = omega arith
 
--- src/rules.rt:208:5
 loop-again : tie.Need-loop-again Inv-loop μ-loop
 unfolding machinesKept
 loop-again c =     let b = c .before in
@@ -93,7 +80,6 @@ loop-again c =     let b = c .before in
         (c .if1 .came) in
     (omega arith, every-more e w (h .loop .inv .1) f)
 
--- src/rules.rt:204:1
 returns-2 : tie.Need-returns-2 Inv-loop μ-loop
 returns-2 c =     let h = c .before in
     let s = h .before in

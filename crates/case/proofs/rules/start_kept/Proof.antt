@@ -1,44 +1,31 @@
-use Rattle.case.specs.States.{startKept}
-use Rattle.case.specs.Records.{stateRow, stationRow}
-use Rattle.case.specs.declared.records.Station.{Station}
-use Rattle.case.specs.declared.records.State.{State}
-use Rattle.numbers.specs.Sets.{disjointOf, subsetOf}
-use Rattle.case.proofs.Reading.{kept}
-use mir.Val.{toZ, ofZ}
-use mir.Syntax.{w64}
-use mir.Facts.{toZ-ofZ}
+use mathlib.Core.Bool.{true, false}
+use mathlib.Core.Path.{_≡_, sym, ap, _∙_}
 use borrow.Author.Needs.{needs}
 use denote.Ref.{now}
-use native.Mathlib.Omega.{arith}
-use Prim.Native.Nat.{ℕ, _≤_, _<_, _-_, _+_}
-use mathlib.Core.Bool.{Bool, true, false}
-use mathlib.Core.Path.{_≡_, refl, sym, ap, _∙_}
+use mir.Facts.{toZ-ofZ}
+use mir.Syntax.{w64}
+use mir.Val.{toZ, ofZ}
+use Rattle.numbers.specs.Sets.{subsetOf}
+use Rattle.case.specs.Records.{stateRow, stationRow}
+use Rattle.case.specs.States.{startKept}
+use Rattle.case.specs.declared.records.State.{State}
+use Rattle.case.specs.declared.records.Station.{Station}
+use Rattle.case.proofs.Reading.{kept}
 use Rattle.case.proofs.rules.start_kept.Statement.{statement}
 use Rattle.case.proofs.rules.start_kept.Tie as tie
-use Rattle.case.proofs.rules.start_kept.Reads as reads
-use Rattle.case.proofs.rules.start_kept.Lts as lts
-use Rattle.case.proofs.read.state.Reads as state-reads
-use Rattle.case.proofs.read.station.Reads as station-reads
-use Rattle.numbers.proofs.sets.disjoint.Reads as disjoint-reads
-use Rattle.numbers.proofs.sets.subset.Reads as subset-reads
 
--- src/rules.rt:224:13
 station-requires : tie.Need-station-requires
 station-requires c κs = search needs
 
--- src/rules.rt:225:9
 state-requires : tie.Need-state-requires
 state-requires c κs = search needs
 
--- src/rules.rt:228:8
 subset-requires : tie.Need-subset-requires
 subset-requires c κs = search needs
 
--- src/rules.rt:229:9
 disjoint-requires : tie.Need-disjoint-requires
 disjoint-requires c κs = search needs
 
--- src/rules.rt:221:1
 returns : tie.Need-returns
 unfolding startKept
 returns c =     let d = c .before .before .before .before .before in
@@ -54,7 +41,6 @@ returns c =     let d = c .before .before .before .before .before in
     let e : subsetOf (r .on) (s .args .active) ≡ true = simp (n, v) at (sym (c .before .before .subset .ensures) ∙ c .before .if1 .taken) in
     rw e (simp (x, v) at (c .disjoint .ensures))
 
--- src/rules.rt:221:1
 returns-2 : tie.Need-returns-2
 unfolding startKept
 returns-2 c =     let d = c .before .before .before .before in

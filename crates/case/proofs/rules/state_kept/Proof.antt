@@ -1,42 +1,30 @@
-use Rattle.case.specs.States.{stateKept}
-use Rattle.case.specs.Records.{stateRow}
-use Rattle.case.specs.declared.records.State.{State}
-use Rattle.numbers.specs.Sets.{disjointOf, subsetOf}
-use Rattle.case.proofs.Reading.{kept}
-use mir.Val.{toZ, ofZ}
-use mir.Syntax.{w64}
-use mir.Facts.{toZ-ofZ}
+use mathlib.Core.Bool.{true, false}
+use mathlib.Core.Path.{_≡_, sym, ap, _∙_}
 use borrow.Author.Needs.{needs}
 use denote.Ref.{now}
-use native.Mathlib.Omega.{arith}
-use Prim.Native.Nat.{ℕ, _≤_, _<_, _-_, _+_}
-use mathlib.Core.Bool.{Bool, true, false}
-use mathlib.Core.Path.{_≡_, refl, sym, ap, _∙_}
+use mir.Facts.{toZ-ofZ}
+use mir.Syntax.{w64}
+use mir.Val.{toZ, ofZ}
+use Rattle.numbers.specs.Sets.{disjointOf, subsetOf}
+use Rattle.case.specs.Records.{stateRow}
+use Rattle.case.specs.States.{stateKept}
+use Rattle.case.specs.declared.records.State.{State}
+use Rattle.case.proofs.Reading.{kept}
 use Rattle.case.proofs.rules.state_kept.Statement.{statement}
 use Rattle.case.proofs.rules.state_kept.Tie as tie
-use Rattle.case.proofs.rules.state_kept.Reads as reads
-use Rattle.case.proofs.rules.state_kept.Lts as lts
-use Rattle.case.proofs.read.state.Reads as state-reads
-use Rattle.numbers.proofs.sets.disjoint.Reads as disjoint-reads
-use Rattle.numbers.proofs.sets.subset.Reads as subset-reads
 
--- src/rules.rt:178:9
 state-requires : tie.Need-state-requires
 state-requires c κs = search needs
 
--- src/rules.rt:181:8
 disjoint-requires : tie.Need-disjoint-requires
 disjoint-requires c κs = search needs
 
--- src/rules.rt:182:12
 subset-requires : tie.Need-subset-requires
 subset-requires c κs = search needs
 
--- src/rules.rt:183:13
 subset-requires-2 : tie.Need-subset-requires-2
 subset-requires-2 c κs = search needs
 
--- src/rules.rt:183:13
 returns : tie.Need-returns
 unfolding stateKept
 returns c =     let d = c .before .before .before .before .before .before .before in
@@ -51,7 +39,6 @@ returns c =     let d = c .before .before .before .before .before .before .befor
     let f : subsetOf (r .on) (s .args .own) ≡ true = simp (n, o) at (sym (c .before .before .subset .ensures) ∙ c .before .if2 .taken) in
     rw (e, f) (simp (x, o) at (c .subset2 .ensures))
 
--- src/rules.rt:175:1
 returns-2 : tie.Need-returns-2
 unfolding stateKept
 returns-2 c =     let d = c .before .before .before .before .before .before in
@@ -66,7 +53,6 @@ returns-2 c =     let d = c .before .before .before .before .before .before in
     let f : subsetOf (r .on) (s .args .own) ≡ false = simp (n, o) at (sym (c .before .subset .ensures) ∙ c .if2 .left) in
     rw (e, f)
 
--- src/rules.rt:175:1
 returns-3 : tie.Need-returns-3
 unfolding stateKept
 returns-3 c =     let d = c .before .before .before .before in

@@ -1,65 +1,46 @@
-use Rattle.case.specs.States.{stateKept, machinesKept, activeAtStart, startSet, stationKept}
-use Rattle.case.specs.StationFields.{firstItems}
-use Rattle.case.specs.StationArcs.{arcsBefore, stationArcs, arcSet, every}
-use Rattle.case.specs.Records.{stationOf, stationRow}
-use Rattle.case.specs.Layout.{arcsOf, stationAt}
-use Rattle.case.specs.declared.records.Station.{Station}
-use lib.IntN.{pos}
-use Rattle.case.proofs.Reading.{kept}
-use mir.Val.{toZ, ofZ}
-use mir.Syntax.{w64}
-use mir.Facts.{toZ-ofZ}
+use mathlib.Core.Bool.{true, false}
+use mathlib.Core.Path.{_≡_, sym, ap, _∙_}
+use Prim.Native.Nat.{ℕ}
+use native.Mathlib.Omega.{arith}
 use borrow.Author.Needs.{needs}
 use denote.Ref.{now}
-use native.Mathlib.Omega.{arith}
-use Prim.Native.Nat.{ℕ, _≤_, _<_, _-_, _+_}
-use mathlib.Core.Bool.{Bool, true, false}
-use mathlib.Core.Path.{_≡_, refl, sym, ap, _∙_}
+use lib.IntN.{pos}
+use mir.Syntax.{w64}
+use mir.Val.{toZ, ofZ}
+use Rattle.case.specs.Layout.{arcsOf, stationAt}
+use Rattle.case.specs.Records.{stationOf, stationRow}
+use Rattle.case.specs.States.{stateKept, machinesKept, activeAtStart, startSet, stationKept}
+use Rattle.case.specs.StationArcs.{arcsBefore, stationArcs, arcSet, every}
+use Rattle.case.specs.StationFields.{firstItems}
+use Rattle.case.specs.declared.records.Station.{Station}
+use Rattle.case.proofs.Reading.{kept}
 use Rattle.case.proofs.rules.station_kept.Statement.{statement}
 use Rattle.case.proofs.rules.station_kept.Tie as tie
-use Rattle.case.proofs.rules.station_kept.Reads as reads
-use Rattle.case.proofs.rules.station_kept.Lts as lts
-use Rattle.case.proofs.members.start_set.Reads as start-set-reads
-use Rattle.case.proofs.members.station_arcs.Reads as station-arcs-reads
-use Rattle.case.proofs.read.station.Reads as station-reads
-use Rattle.case.proofs.rules.machines_kept.Reads as machines-kept-reads
-use Rattle.case.proofs.rules.start_kept.Reads as start-kept-reads
-use Rattle.case.proofs.rules.states_kept.Reads as states-kept-reads
-use Rattle.case.proofs.stations.first_items.Reads as first-items-reads
 
--- src/rules.rt:239:32
 station-arcs-requires : tie.Need-station-arcs-requires
 station-arcs-requires c κs = search needs
 
--- src/rules.rt:239:9
 first-items-requires : tie.Need-first-items-requires
 first-items-requires c κs = let s = c .before in omega (arith, c .station-arcs .ensures, ap (arcsBefore (now (s .args .case)) (s .args .s)) (s .pre .1), s .pre .2)
 
--- src/rules.rt:240:36
 station-requires : tie.Need-station-requires
 station-requires c κs = search needs
 
--- src/rules.rt:240:9
 first-items-requires-2 : tie.Need-first-items-requires-2
 first-items-requires-2 c κs = let s = c .before .before .before in omega (arith, ap (λ (x : Station). x .machines) (c .station .ensures), s .pre .3 .machines)
 
--- src/rules.rt:241:9
 start-set-requires : tie.Need-start-set-requires
 start-set-requires c κs = let s = c .before .before .before .before in rw (s .pre .1) (s .pre .2)
 
--- src/rules.rt:242:8
 states-kept-requires : tie.Need-states-kept-requires
 states-kept-requires c κs = search needs
 
--- src/rules.rt:243:12
 machines-kept-requires : tie.Need-machines-kept-requires
 machines-kept-requires c κs = search needs
 
--- src/rules.rt:244:13
 start-kept-requires : tie.Need-start-kept-requires
 start-kept-requires c κs = search needs
 
--- src/rules.rt:244:13
 returns : tie.Need-returns
 unfolding stationKept
 returns c =     let x = c .before .before .before .before .before in
@@ -78,7 +59,6 @@ returns c =     let x = c .before .before .before .before .before in
     let f : every (arcsOf l) (machinesKept l i (firstItems (stationOf l i .machines))) ≡ true = simp (machines, s .pre .1) at (sym (c .before .before .machines-kept .ensures) ∙ c .before .if2 .taken) in
     rw (e, f) (simp (active, row) at (c .start-kept .ensures))
 
--- src/rules.rt:235:1
 returns-2 : tie.Need-returns-2
 unfolding stationKept
 returns-2 c =     let x = c .before .before .before .before in
@@ -97,7 +77,6 @@ returns-2 c =     let x = c .before .before .before .before in
     let f : every (arcsOf l) (machinesKept l i (firstItems (stationOf l i .machines))) ≡ false = simp (machines, s .pre .1) at (sym (c .before .machines-kept .ensures) ∙ c .if2 .left) in
     rw (e, f)
 
--- src/rules.rt:235:1
 returns-3 : tie.Need-returns-3
 unfolding stationKept
 returns-3 c =     let x = c .before .before in

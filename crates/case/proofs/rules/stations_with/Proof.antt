@@ -1,21 +1,16 @@
-use Rattle.case.proofs.Reading.{kept}
+use mathlib.Core.Logic.{⊎-elim}
+use mathlib.Core.Path.{_≡_, sym, ap, _∙_}
+use Prim.Native.Nat.{ℕ, _≤_, _-_, _+_}
+use native.Mathlib.Omega.{arith}
+use borrow.Author.Needs.{needs}
+use lib.IntN.{pos}
+use lib.ListN.{getD}
+use Rattle.numbers.specs.Sum.{count}
 use Rattle.case.specs.CountLaws.{count-none, count-yes, count-no, count-le}
 use Rattle.case.specs.Laid.{inSet}
-use Rattle.numbers.specs.Sum.{count}
-use mathlib.Core.Logic.{⊎-elim}
-use lib.ListN.{length, getD}
-use lib.IntN.{pos}
-use borrow.Author.Needs.{needs}
-use denote.Ref.{now}
-use native.Mathlib.Omega.{arith}
-use Prim.Native.Nat.{ℕ, _≤_, _<_, _-_, _+_}
-use mathlib.Core.Bool.{Bool, true, false}
-use mathlib.Core.Path.{_≡_, refl, sym, ap, _∙_}
+use Rattle.case.proofs.Reading.{kept}
 use Rattle.case.proofs.rules.stations_with.Statement.{statement}
 use Rattle.case.proofs.rules.stations_with.Tie as tie
-use Rattle.case.proofs.rules.stations_with.Reads as reads
-use Rattle.case.proofs.rules.stations_with.Lts as lts
-use Rattle.numbers.proofs.sets.member.Reads as member-reads
 
 abbrev Inv-loop : tie.InvT-loop
 Inv-loop stations v inside n₀ s₀ n s = (s ≤ stations) × (n ≡ count s (inSet inside v))
@@ -23,35 +18,27 @@ Inv-loop stations v inside n₀ s₀ n s = (s ≤ stations) × (n ≡ count s (i
 abbrev μ-loop : tie.MeasureT-loop
 μ-loop stations v inside n₀ s₀ n s = stations - s
 
--- src/rules.rt:61:5
 loop-holds : tie.Need-loop-holds Inv-loop μ-loop
 loop-holds c = (omega arith, sym (count-none (inSet (c .args .t1) (c .args .v))))
 
--- src/rules.rt:62:19
 mul-member : tie.Need-mul-member Inv-loop μ-loop
 mul-member c = omega arith
 
--- src/rules.rt:62:19
 array-copy-out-member : tie.Need-array-copy-out-member Inv-loop μ-loop
 array-copy-out-member c = omega arith
 
--- src/rules.rt:62:12
 member-requires : tie.Need-member-requires Inv-loop μ-loop
 member-requires c κs = search needs
 
--- src/rules.rt:63:13
 add-n : tie.Need-add-n Inv-loop μ-loop
 add-n c = let h = c .before .before .before .before in let a = h .before .args in omega (arith, h .loop .inv .1, count-le (inSet (a .t1) (a .v)) (h .loop .s))
 
--- src/rules.rt:65:9
 add-s : tie.Need-add-s Inv-loop μ-loop
 add-s c = omega arith
 
--- src/rules.rt:61:5
 loop-less : tie.Need-loop-less Inv-loop μ-loop
 loop-less c = omega arith
 
--- src/rules.rt:61:5
 loop-again : tie.Need-loop-again Inv-loop μ-loop
 loop-again c =     let b = c .before in
     let h = b .before .before .before in
@@ -65,7 +52,6 @@ loop-again c =     let b = c .before in
     (λ x. x .1 ∙ h .loop .inv .1 ∙ sym (count-no w i (e ∙ x .0 .left)))
     (c .if1 .came))
 
--- src/rules.rt:55:1
 returns : tie.Need-returns Inv-loop μ-loop
 returns c = let e : c .before .loop .s ≡ c .before .before .args .stations = omega arith in rw e at (c .before .loop .inv .1)
 
