@@ -21,3 +21,5 @@ pub mod Bounds
 pub mod Passed
 pub mod Laid
 pub mod LaidLaws
+pub mod Ranges
+pub mod Accepted
