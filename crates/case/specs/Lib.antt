@@ -16,6 +16,7 @@ pub mod StationSize
 pub mod Directions
 pub mod States
 pub mod CountLaws
+pub mod SetLaws
 pub mod Judged
 pub mod Bounds
 pub mod Passed

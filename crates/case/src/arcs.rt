@@ -5,12 +5,12 @@ ghost use Rattle.numbers.specs.Question.{firstNo};
 ghost use Rattle.numbers.specs.Items.{over};
 ghost use Rattle.case.specs.Layout.{countAt, arcAt};
 ghost use Rattle.case.specs.ArcFields.{endFields, pipeFields, leastBothWays, memberFields, compressorFields, kindFields, arcFields};
-use numbers::answer::Answer;
-use numbers::answer::or_else;
 use super::fields::field;
 use super::fields::fields;
 use super::offsets::count;
 use super::offsets::last;
+use numbers::answer::Answer;
+use numbers::answer::or_else;
 
 fn end_fields(case: &[i64], row: usize) -> Answer
     requires { ⌜ row < 10000 ⌝ }
@@ -70,7 +70,10 @@ fn compressor_fields(case: &[i64], row: usize) -> Answer
 {
     or_else(
         field(case, row + 8, 0, 4095),
-        or_else(field(case, row + 9, 0, 12), field(case, row + 10, 0, 200000)),
+        or_else(
+            field(case, row + 9, 0, 12),
+            field(case, row + 10, 0, 200000),
+        ),
     )
 }
 
@@ -83,7 +86,10 @@ fn kind_fields(case: &[i64], row: usize) -> Answer
     match kind {
         0 | 1 => fields(case, row + 4, 7, 0, 0),
         2 => pipe_fields(case, row),
-        3 | 4 => or_else(member_fields(case, row, kind), fields(case, row + 8, 3, 0, 0)),
+        3 | 4 => or_else(
+            member_fields(case, row, kind),
+            fields(case, row + 8, 3, 0, 0),
+        ),
         _ => or_else(member_fields(case, row, kind), compressor_fields(case, row)),
     }
 }

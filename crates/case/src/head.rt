@@ -7,10 +7,10 @@ ghost use Rattle.numbers.specs.SignedBounds.{Bounded};
 ghost use Rattle.case.specs.Records.{timeBefore};
 ghost use Rattle.case.specs.HeadFields.{countFields, headFields};
 ghost use Rattle.case.specs.TimeFields.{timeField};
-use numbers::answer::Answer;
-use numbers::answer::or_else;
 use super::fields::field;
 use super::read::time_before;
+use numbers::answer::Answer;
+use numbers::answer::or_else;
 
 // Edition, nodes, arcs, stations, steps.
 fn counts(case: &[i64]) -> Answer

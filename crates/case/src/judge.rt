@@ -9,8 +9,6 @@ ghost use Rattle.case.specs.StationNodes.{stationNodes};
 ghost use Rattle.case.specs.Bounds.{Counted, StationsCounted};
 ghost use Rattle.case.specs.Laid.{Holds, Laid};
 ghost use Rattle.case.specs.Judged.{rowQuestions, listQuestions, judgedCase};
-use numbers::answer::Answer;
-use numbers::answer::or_else;
 use super::arcs::arc_rows;
 use super::head::head;
 use super::head::times;
@@ -22,6 +20,8 @@ use super::records::Layout;
 use super::rules::rules;
 use super::stations::station_end;
 use super::stations::station_rows;
+use numbers::answer::Answer;
+use numbers::answer::or_else;
 
 // 10 to 12 past the head, whose counts are in range.
 fn rows(case: &[i64]) -> Answer

@@ -5,12 +5,12 @@ ghost use Rattle.numbers.specs.Question.{firstNo};
 ghost use Rattle.numbers.specs.Items.{over};
 ghost use Rattle.case.specs.Layout.{stepsOf};
 ghost use Rattle.case.specs.NodeFields.{boundFields, demandFields, nodeFields};
-use numbers::answer::Answer;
-use numbers::answer::or_else;
 use super::fields::field;
 use super::fields::fields;
 use super::offsets::count;
 use super::offsets::number;
+use numbers::answer::Answer;
+use numbers::answer::or_else;
 
 fn bound_fields(case: &[i64], row: usize) -> Answer
     requires { ⌜ row < 10000 ⌝ }

@@ -34,7 +34,7 @@ pub struct Artificial {
     pub weight: usize,
     pub active: usize, // at step 0
     pub machines: i64, // a set
-    pub most: usize,   // most machines
+    pub most: usize, // most machines
     pub outbound: i64,
 }
 
@@ -43,19 +43,19 @@ pub struct Station {
     pub states: usize,
     pub machines: usize,
     pub direction: usize, // at step 0
-    pub state: usize,     // at step 0
+    pub state: usize, // at step 0
 }
 
 pub struct Direction {
     pub entry: i64, // a node set
-    pub exit: i64,  // a node set
+    pub exit: i64, // a node set
     pub weight: usize,
 }
 
 pub struct State {
     pub directions: i64, // a set of the station's directions
-    pub on: i64,         // a set of the station's arcs
-    pub off: i64,        // a set of the station's arcs
+    pub on: i64, // a set of the station's arcs
+    pub off: i64, // a set of the station's arcs
     pub weight: usize,
 }
 
@@ -70,7 +70,7 @@ pub struct Layout {
     pub nodes: usize,
     pub arcs: usize,
     pub stations: usize,
-    pub rows: [usize; 8],  // where each station's rows begin
+    pub rows: [usize; 8], // where each station's rows begin
     pub inside: [i64; 8], // each station's nodes, a node set
-    pub plain: i64,        // the nodes that end an arc of kind 0 to 2, a node set
+    pub plain: i64, // the nodes that end an arc of kind 0 to 2, a node set
 }

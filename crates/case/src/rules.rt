@@ -14,12 +14,6 @@ ghost use Rattle.case.specs.StationNodes.{onlyFence};
 ghost use Rattle.case.specs.States.{stateKept, machinesKept, startKept, stationKept, allStateSets};
 ghost use Rattle.case.specs.StationArcs.{every, stationArcs};
 ghost use Rattle.case.specs.Judged.{ruleQuestions};
-use numbers::answer::Answer;
-use numbers::answer::ask;
-use numbers::answer::or_else;
-use numbers::sets::disjoint;
-use numbers::sets::member;
-use numbers::sets::subset;
 use super::members::belongs;
 use super::members::start_set;
 use super::members::station_arcs;
@@ -30,6 +24,12 @@ use super::read::state;
 use super::read::station;
 use super::records::Layout;
 use super::stations::first_items;
+use numbers::answer::Answer;
+use numbers::answer::ask;
+use numbers::answer::or_else;
+use numbers::sets::disjoint;
+use numbers::sets::member;
+use numbers::sets::subset;
 
 // 13
 fn arc_ends(case: &[i64], arcs: usize) -> Answer

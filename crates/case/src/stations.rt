@@ -8,13 +8,13 @@ ghost use Rattle.case.specs.Layout.{directionsAt, machineAt, stationEnd,
 ghost use Rattle.case.specs.Bounds.{StationCounted};
 ghost use Rattle.case.specs.StationFields.{firstItems, stationHead, directionFields, stateRowFields, stateFields, machineFields, partFields, rowFields, allStationFields};
 ghost use Rattle.case.specs.Leftover.{leftover};
-use numbers::answer::Answer;
-use numbers::answer::ask;
-use numbers::answer::or_else;
 use super::fields::field;
 use super::fields::fields;
 use super::offsets::count;
 use super::offsets::last;
+use numbers::answer::Answer;
+use numbers::answer::ask;
+use numbers::answer::or_else;
 
 // The set of the first `n` items.
 pub(crate) fn first_items(n: usize) -> i64
@@ -36,7 +36,10 @@ pub(crate) fn station_head(case: &[i64], row: usize) -> Answer
             field(case, row + 1, 1, 16),
             or_else(
                 field(case, row + 2, 0, 12),
-                or_else(field(case, row + 3, 0, last_direction), field(case, row + 4, 0, last_state)),
+                or_else(
+                    field(case, row + 3, 0, last_direction),
+                    field(case, row + 4, 0, last_state),
+                ),
             ),
         ),
     )
@@ -49,7 +52,10 @@ fn direction_rows(case: &[i64], row: usize, directions: usize) -> Answer
     let mut f: usize = 0;
     while f < directions {
         let at = row + 5 + f * 3;
-        let a = or_else(fields(case, at, 2, 0, 1152921504606846975), field(case, at + 2, 0, 1000000));
+        let a = or_else(
+            fields(case, at, 2, 0, 1152921504606846975),
+            field(case, at + 2, 0, 1000000),
+        );
         match a {
             Answer::Yes => {}
             Answer::No {
@@ -71,7 +77,10 @@ fn state_fields(case: &[i64], at: usize, sets: i64) -> Answer
 {
     or_else(
         field(case, at, 0, sets),
-        or_else(fields(case, at + 1, 2, 0, 1073741823), field(case, at + 3, 0, 1000000)),
+        or_else(
+            fields(case, at + 1, 2, 0, 1073741823),
+            field(case, at + 3, 0, 1000000),
+        ),
     )
 }
 
@@ -106,7 +115,10 @@ fn machine_rows(case: &[i64], row: usize, first: usize, machines: usize) -> Answ
     let mut m: usize = 0;
     while m < machines {
         let at = first + m * 2;
-        let a = or_else(field(case, at, 0, 10000000), field(case, at + 1, 1001, 10000));
+        let a = or_else(
+            field(case, at, 0, 10000000),
+            field(case, at + 1, 1001, 10000),
+        );
         match a {
             Answer::Yes => {}
             Answer::No {

@@ -41,7 +41,7 @@ enum-told-2 : tie.Need-enum-told-2 Inv-loop μ-loop
 enum-told-2 c = search needs
 
 returns : tie.Need-returns Inv-loop μ-loop
-returns c =     let b = c .before .before in
+returns c = let b = c .before .before in
     let t = b .before .before .before in
     let h = t .before in
     let s = h .before in
@@ -57,7 +57,7 @@ loop-less : tie.Need-loop-less Inv-loop μ-loop
 loop-less c = omega arith
 
 loop-again : tie.Need-loop-again Inv-loop μ-loop
-loop-again c =     let b = c .before .before in
+loop-again c = let b = c .before .before in
     let t = b .before .before .before in
     let h = t .before in
     let s = h .before in
@@ -67,7 +67,7 @@ loop-again c =     let b = c .before .before in
     (omega arith, rest-on (arcFields l) (h .loop .e) (a .arcs) (h .loop .inv .1) (t .loop-test .taken) q (c .enum-told .given .1))
 
 returns-2 : tie.Need-returns-2 Inv-loop μ-loop
-returns-2 c =     let h = c .before in
+returns-2 c = let h = c .before in
     let a = h .before .args in
     let l = now (a .case) in
     sym (rest-end (arcFields l) (h .loop .e) (a .arcs) (h .loop .inv .1) (c .loop-test .left))

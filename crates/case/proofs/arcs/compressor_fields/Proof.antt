@@ -31,7 +31,7 @@ or-else-requires-2 c κs = search needs
 
 returns : tie.Need-returns
 unfolding compressorFields
-returns c =     simp firstNo-append
+returns c = simp firstNo-append
     (chain (c .or-else2 .ensures) (c .before .before .before .before .field .ensures)
     (chain (c .before .or-else .ensures) (c .before .before .before .field2 .ensures)
     (c .before .before .field3 .ensures)))

@@ -41,7 +41,7 @@ or-else-requires-2 c κs = search needs
 
 returns : tie.Need-returns
 unfolding endFields
-returns c =     let t = c .before .before .before .before .before in
+returns c = let t = c .before .before .before .before .before in
     let e : toZ w64 (ofZ w64 (t .last .result)) ≡ lastOf (nodesOf (now (t .before .before .args .case))) = kept _ (t .last .ok) ∙ t .last .ensures ∙ ap lastOf (t .before .count .ensures .value) in
     simp firstNo-append
     (chain (c .or-else2 .ensures) (c .before .before .before .before .field .ensures)

@@ -47,14 +47,14 @@ or-else-requires-2 c κs = search needs
 
 returns : tie.Need-returns
 unfolding kindFields
-returns c =     let s = c .before .before in
+returns c = let s = c .before .before in
     let l = now (s .before .args .case) in
     let k : s .count .result ≡ countAt l (s .before .args .row) = first-is (s .before .args .row) (s .count .ensures) in
     rw (sym k ∙ c .before .match .keys1) (c .pipe-fields .ensures)
 
 returns-2 : tie.Need-returns-2
 unfolding kindFields
-returns-2 c =     let s = c .before .before .before in
+returns-2 c = let s = c .before .before .before in
     let l = now (s .before .args .case) in
     let k : s .count .result ≡ countAt l (s .before .args .row) = first-is (s .before .args .row) (s .count .ensures) in
     let n : countAt l (s .before .args .row) ≤ 1 = omega (arith, k, c .before .if1 .taken) in
@@ -62,7 +62,7 @@ returns-2 c =     let s = c .before .before .before in
 
 returns-3 : tie.Need-returns-3
 unfolding kindFields
-returns-3 c =     let s = c .before .before .before .before .before .before in
+returns-3 c = let s = c .before .before .before .before .before .before in
     let l = now (s .before .args .case) in
     let k : s .count .result ≡ countAt l (s .before .args .row) = first-is (s .before .args .row) (s .count .ensures) in
     let x = countAt l (s .before .args .row) in
@@ -73,7 +73,7 @@ returns-3 c =     let s = c .before .before .before .before .before .before in
 
 returns-4 : tie.Need-returns-4
 unfolding kindFields
-returns-4 c =     let s = c .before .before .before .before .before .before in
+returns-4 c = let s = c .before .before .before .before .before .before in
     let l = now (s .before .args .case) in
     let k : s .count .result ≡ countAt l (s .before .args .row) = first-is (s .before .args .row) (s .count .ensures) in
     let x = countAt l (s .before .args .row) in

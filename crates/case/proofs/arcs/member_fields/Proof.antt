@@ -56,7 +56,7 @@ or-else-requires-3 c κs = search needs
 
 returns : tie.Need-returns
 unfolding memberFields
-returns c =     let u = c .before .before .before .before .before .before .before in
+returns c = let u = c .before .before .before .before .before .before .before in
     let t = u .before in
     let s = t .before .before in
     let e : toZ w64 (ofZ w64 (t .last .result)) ≡ lastOf (stationsOf (now (s .args .case))) = kept _ (t .last .ok) ∙ t .last .ensures ∙ ap lastOf (t .before .count .ensures .value) in

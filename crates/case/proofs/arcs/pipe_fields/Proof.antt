@@ -40,7 +40,7 @@ or-else-requires-3 c κs = search needs
 
 returns : tie.Need-returns
 unfolding pipeFields
-returns c =     simp firstNo-append
+returns c = simp firstNo-append
     (chain (c .or-else3 .ensures) (c .before .before .before .before .before .before .field .ensures)
     (chain (c .before .or-else2 .ensures) (c .before .before .before .before .before .fields .ensures)
     (chain (c .before .before .or-else .ensures) (c .before .before .before .before .field2 .ensures)

@@ -26,7 +26,7 @@ ask-requires c κs = search needs
 
 returns : tie.Need-returns
 unfolding field
-returns c =     let s = c .before .before .before .before in
+returns c = let s = c .before .before .before .before in
     let a = s .args in
     let x = numberAt (now (a .case)) (a .i) in
     let e : c .before .within .result ≡ (leZ (a .low) x && leZ x (a .high)) = simp (toZ-ofZ (s .fits .low), toZ-ofZ (s .fits .high), kept x (c .before .before .x .given)) at (c .before .within .ensures) in

@@ -35,7 +35,7 @@ enum-told-2 : tie.Need-enum-told-2 Inv-loop μ-loop
 enum-told-2 c = search needs
 
 returns : tie.Need-returns Inv-loop μ-loop
-returns c =     let b = c .before .before in
+returns c = let b = c .before .before in
     let h = b .before .before in
     let a = h .before .args in
     let f = h .before .fits in
@@ -49,13 +49,13 @@ loop-less : tie.Need-loop-less Inv-loop μ-loop
 loop-less c = omega arith
 
 loop-again : tie.Need-loop-again Inv-loop μ-loop
-loop-again c =     let b = c .before .before in
+loop-again c = let b = c .before .before in
     let h = b .before .before in
     let a = h .before .args in
     (omega arith, rest-on (nextField (now (a .case)) (a .i) (toZ w64 (ofZ w64 (a .low))) (toZ w64 (ofZ w64 (a .high)))) (h .loop .j) (a .n) (h .loop .inv .1) (b .before .loop-test .taken) (b .field .ensures) (c .enum-told .given .1))
 
 returns-2 : tie.Need-returns-2 Inv-loop μ-loop
-returns-2 c =     let h = c .before in
+returns-2 c = let h = c .before in
     let a = h .before .args in
     let f = h .before .fits in
     simp (toZ-ofZ (f .low), toZ-ofZ (f .high)) at

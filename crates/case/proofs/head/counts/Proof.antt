@@ -34,7 +34,7 @@ or-else-requires-4 c κs = search needs
 
 returns : tie.Need-returns
 unfolding countFields
-returns c =     simp firstNo-append
+returns c = simp firstNo-append
     (chain (c .or-else4 .ensures) (c .before .before .before .before .before .before .before .before .field .ensures)
     (chain (c .before .or-else3 .ensures) (c .before .before .before .before .before .before .before .field2 .ensures)
     (chain (c .before .before .or-else2 .ensures) (c .before .before .before .before .before .before .field3 .ensures)

@@ -16,12 +16,12 @@ add-field : tie.Need-add-field
 add-field c = search needs
 
 add-field-2 : tie.Need-add-field-2
-add-field-2 c =     let t = c in
+add-field-2 c = let t = c in
     let b : Held (toZ w64 (ofZ w64 (t .time-before .result))) (timeBefore (now (t .before .args .case)) (t .before .args .i)) 4147200 = held (record { val = t .time-before .ensures; bound = t .before .pre .1 .bound }) tt in
     held-fits (b +ʳ literal (pos 1)) tt
 
 add-field-3 : tie.Need-add-field-3
-add-field-3 c =     let t = c in
+add-field-3 c = let t = c in
     let b : Held (toZ w64 (ofZ w64 (t .time-before .result))) (timeBefore (now (t .before .args .case)) (t .before .args .i)) 4147200 = held (record { val = t .time-before .ensures; bound = t .before .pre .1 .bound }) tt in
     held-fits (b +ʳ literal (pos 86400)) tt
 
@@ -30,7 +30,7 @@ field-requires c κs = search needs
 
 returns : tie.Need-returns
 unfolding timeField
-returns c =     let t = c .before in
+returns c = let t = c .before in
     let b : Held (toZ w64 (ofZ w64 (t .time-before .result))) (timeBefore (now (t .before .args .case)) (t .before .args .i)) 4147200 = held (record { val = t .time-before .ensures; bound = t .before .pre .1 .bound }) tt in
     simp ((held (b +ʳ literal (pos 1)) tt) .val, (held (b +ʳ literal (pos 86400)) tt) .val) at (c .field .ensures)
 

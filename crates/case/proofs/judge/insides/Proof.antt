@@ -41,7 +41,7 @@ loop-less c = omega arith
 
 loop-again : tie.Need-loop-again Inv-loop μ-loop
 unfolding stationNodes
-loop-again c =     let h = c .before .before in
+loop-again c = let h = c .before .before in
     let s = h .before in
     let l = now (s .args .case) in
     let i = h .loop .s in

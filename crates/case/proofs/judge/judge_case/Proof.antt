@@ -25,13 +25,13 @@ enum-told-2 c = search needs
 
 returns : tie.Need-returns
 unfolding judgedCase caseQuestions
-returns c =     let h = c .before .before .before .before in
+returns c = let h = c .before .before .before .before in
     let l = now (h .before .args .case) in
     ap told (went (listQuestions l) (ruleQuestions l) (h .list-answer .ensures) (c .before .before .enum-told .given .1) (c .rules .ensures))
 
 returns-2 : tie.Need-returns-2
 unfolding judgedCase caseQuestions
-returns-2 c =     let h = c .before .before in
+returns-2 c = let h = c .before .before in
     let l = now (h .before .args .case) in
     ap told (stopped (listQuestions l) (ruleQuestions l) (h .list-answer .ensures) (c .enum-told2 .given .1))
 

@@ -31,7 +31,7 @@ add-first-2 : tie.Need-add-first-2
 add-first-2 c = search needs
 
 mul-first : tie.Need-mul-first
-mul-first c =     let s = c .before .before .before .before in
+mul-first c = let s = c .before .before .before .before in
     let l = now (s .args .case) in
     let n : c .before .before .before .count .result ≡ nodesOf l = c .before .before .before .count .ensures .value in
     let a : c .before .before .count2 .result ≡ arcsOf l = c .before .before .count2 .ensures .value in
@@ -40,7 +40,7 @@ mul-first c =     let s = c .before .before .before .before in
     omega (arith, first-arc l n k, arcs-begin l (s .pre .0), first-station l n k a, stations-begin l (s .pre .0))
 
 add-first-3 : tie.Need-add-first-3
-add-first-3 c =     let s = c .before .before .before .before in
+add-first-3 c = let s = c .before .before .before .before in
     let l = now (s .args .case) in
     let n : c .before .before .before .count .result ≡ nodesOf l = c .before .before .before .count .ensures .value in
     let a : c .before .before .count2 .result ≡ arcsOf l = c .before .before .count2 .ensures .value in
@@ -52,7 +52,7 @@ mul-first-2 : tie.Need-mul-first-2
 mul-first-2 c = search needs
 
 add-first-4 : tie.Need-add-first-4
-add-first-4 c =     let s = c .before .before .before .before in
+add-first-4 c = let s = c .before .before .before .before in
     let l = now (s .args .case) in
     let n : c .before .before .before .count .result ≡ nodesOf l = c .before .before .before .count .ensures .value in
     let a : c .before .before .count2 .result ≡ arcsOf l = c .before .before .count2 .ensures .value in
@@ -61,7 +61,7 @@ add-first-4 c =     let s = c .before .before .before .before in
     omega (arith, first-arc l n k, arcs-begin l (s .pre .0), first-station l n k a, stations-begin l (s .pre .0))
 
 station-firsts-requires : tie.Need-station-firsts-requires
-station-firsts-requires c κs =     let s = c .before .before .before .before in
+station-firsts-requires c κs = let s = c .before .before .before .before in
     let l = now (s .args .case) in
     let n : c .before .before .before .count .result ≡ nodesOf l = c .before .before .before .count .ensures .value in
     let a : c .before .before .count2 .result ≡ arcsOf l = c .before .before .count2 .ensures .value in
@@ -77,7 +77,7 @@ plain-nodes-requires c κs = search needs
 
 returns : tie.Need-returns
 unfolding plainNodes
-returns c =     let s = c .before .before .before .before .before .before .before in
+returns c = let s = c .before .before .before .before .before .before .before in
     let l = now (s .args .case) in
     let n : c .before .before .before .before .before .before .count .result ≡ nodesOf l = c .before .before .before .before .before .before .count .ensures .value in
     let a : c .before .before .before .before .before .count2 .result ≡ arcsOf l = c .before .before .before .before .before .count2 .ensures .value in

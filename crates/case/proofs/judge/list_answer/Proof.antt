@@ -22,13 +22,13 @@ enum-told-2 c = search needs
 
 returns : tie.Need-returns
 unfolding listQuestions
-returns c =     let h = c .before .before .before in
+returns c = let h = c .before .before .before in
     let l = now (h .before .args .case) in
     (went (headFields l) (rowQuestions l) (h .head .ensures) (c .before .enum-told .given .1) (c .rows .ensures))
 
 returns-2 : tie.Need-returns-2
 unfolding listQuestions
-returns-2 c =     let h = c .before .before in
+returns-2 c = let h = c .before .before in
     let l = now (h .before .args .case) in
     (stopped (headFields l) (rowQuestions l) (h .head .ensures) (c .enum-told2 .given .1))
 

@@ -33,7 +33,7 @@ add-first-arc-2 : tie.Need-add-first-arc-2
 add-first-arc-2 c = search needs
 
 mul-first-arc : tie.Need-mul-first-arc
-mul-first-arc c =     let s = c .before .before .before .before in
+mul-first-arc c = let s = c .before .before .before .before in
     let l = now (s .args .case) in
     let n : c .before .before .before .count .result ≡ nodesOf l = c .before .before .before .count .ensures .value in
     let a : c .before .before .count2 .result ≡ arcsOf l = c .before .before .count2 .ensures .value in
@@ -42,7 +42,7 @@ mul-first-arc c =     let s = c .before .before .before .before in
     omega (arith, first-arc l n k, arcs-begin l (s .pre), first-station l n k a, stations-begin l (s .pre))
 
 add-first-arc-3 : tie.Need-add-first-arc-3
-add-first-arc-3 c =     let s = c .before .before .before .before in
+add-first-arc-3 c = let s = c .before .before .before .before in
     let l = now (s .args .case) in
     let n : c .before .before .before .count .result ≡ nodesOf l = c .before .before .before .count .ensures .value in
     let a : c .before .before .count2 .result ≡ arcsOf l = c .before .before .count2 .ensures .value in
@@ -57,7 +57,7 @@ node-rows-requires : tie.Need-node-rows-requires
 node-rows-requires c κs = search needs
 
 arc-rows-requires : tie.Need-arc-rows-requires
-arc-rows-requires c κs =     let s = c .before .before .before .before .before .before in
+arc-rows-requires c κs = let s = c .before .before .before .before .before .before in
     let l = now (s .args .case) in
     let n : c .before .before .before .before .before .count .result ≡ nodesOf l = c .before .before .before .before .before .count .ensures .value in
     let a : c .before .before .before .before .count2 .result ≡ arcsOf l = c .before .before .before .before .count2 .ensures .value in
@@ -69,7 +69,7 @@ mul-station-rows : tie.Need-mul-station-rows
 mul-station-rows c = search needs
 
 add-station-rows : tie.Need-add-station-rows
-add-station-rows c =     let s = c .before .before .before .before .before .before .before in
+add-station-rows c = let s = c .before .before .before .before .before .before .before in
     let l = now (s .args .case) in
     let n : c .before .before .before .before .before .before .count .result ≡ nodesOf l = c .before .before .before .before .before .before .count .ensures .value in
     let a : c .before .before .before .before .before .count2 .result ≡ arcsOf l = c .before .before .before .before .before .count2 .ensures .value in
@@ -78,7 +78,7 @@ add-station-rows c =     let s = c .before .before .before .before .before .befo
     omega (arith, first-arc l n k, arcs-begin l (s .pre), first-station l n k a, stations-begin l (s .pre))
 
 station-rows-requires : tie.Need-station-rows-requires
-station-rows-requires c κs =     let s = c .before .before .before .before .before .before .before in
+station-rows-requires c κs = let s = c .before .before .before .before .before .before .before in
     let l = now (s .args .case) in
     let n : c .before .before .before .before .before .before .count .result ≡ nodesOf l = c .before .before .before .before .before .before .count .ensures .value in
     let a : c .before .before .before .before .before .count2 .result ≡ arcsOf l = c .before .before .before .before .before .count2 .ensures .value in
@@ -97,7 +97,7 @@ or-else-requires-3 c κs = search needs
 
 returns : tie.Need-returns
 unfolding rowQuestions timeFields allNodeFields allArcFields
-returns c =     let s = c .before .before .before .before .before .before .before .before .before .before .before in
+returns c = let s = c .before .before .before .before .before .before .before .before .before .before .before in
     let l = now (s .args .case) in
     let n : c .before .before .before .before .before .before .before .before .before .before .count .result ≡ nodesOf l = c .before .before .before .before .before .before .before .before .before .before .count .ensures .value in
     let a : c .before .before .before .before .before .before .before .before .before .count2 .result ≡ arcsOf l = c .before .before .before .before .before .before .before .before .before .count2 .ensures .value in

@@ -26,7 +26,7 @@ array-write-rows : tie.Need-array-write-rows Inv-loop μ-loop
 array-write-rows c = omega arith
 
 station-end-requires : tie.Need-station-end-requires Inv-loop μ-loop
-station-end-requires c κs =     let h = c .before in
+station-end-requires c κs = let h = c .before in
     let s = h .before in
     let l = now (s .args .case) in
     let p : h .loop .s < stationsOf l = omega (arith, s .pre .3, c .loop-test .taken) in
@@ -39,18 +39,19 @@ loop-less : tie.Need-loop-less Inv-loop μ-loop
 loop-less c = omega arith
 
 loop-again : tie.Need-loop-again Inv-loop μ-loop
-loop-again c =     let h = c .before .before in
+loop-again c = let h = c .before .before in
     let s = h .before in
     let l = now (s .args .case) in
     let i = h .loop .s in
     let p : i < stationsOf l = omega (arith, s .pre .3, c .before .loop-test .taken) in
     let k = s .pre .4 .each i p in
-    let e = c .station-end .ensures ∙ ap (stationEnd l) (h .loop .inv .1) in
-    (omega arith,
-    e ∙ sym (station-next l i),
-    omega (arith, e, end-most l (stationAt l i) k, h .loop .inv .1, h .loop .inv .2),
-    simp length-set (h .loop .inv .3),
-    holds-more (h .loop .inv .4) (omega arith) (h .loop .inv .1))
+    let e = c .station-end .ensures ∙ ap (stationEnd l) (h .loop .inv .1) in (
+      omega arith,
+      e ∙ sym (station-next l i),
+      omega (arith, e, end-most l (stationAt l i) k, h .loop .inv .1, h .loop .inv .2),
+      simp length-set (h .loop .inv .3),
+      holds-more (h .loop .inv .4) (omega arith) (h .loop .inv .1),
+    )
 
 returns : tie.Need-returns Inv-loop μ-loop
 returns c = holds-to (c .before .loop .inv .4) (c .loop-test .left)

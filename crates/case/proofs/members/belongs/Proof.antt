@@ -18,14 +18,14 @@ count-requires-2 : tie.Need-count-requires-2
 count-requires-2 c κs = search needs
 
 returns : tie.Need-returns
-returns c =     let u = c .before .before .before in
+returns c = let u = c .before .before .before in
     let a = u .before .args in
     let l = now (a .case) in
     let k : c .before .before .count .result ≡ arcOf l (a .e) .kind = first-count l (arcAt l (a .e)) (u .arc-at .ensures) (c .before .before .count .ensures .value) in
     rw (← k, le-leb _ _ (c .before .if1 .taken), count-in l (arcAt l (a .e)) 4 (u .arc-at .ensures) (c .count2 .ensures .value))
 
 returns-2 : tie.Need-returns-2
-returns-2 c =     let u = c .before .before in
+returns-2 c = let u = c .before .before in
     let a = u .before .args in
     let l = now (a .case) in
     let k : c .before .count .result ≡ arcOf l (a .e) .kind = first-count l (arcAt l (a .e)) (u .arc-at .ensures) (c .before .count .ensures .value) in

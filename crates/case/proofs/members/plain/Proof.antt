@@ -12,7 +12,7 @@ count-requires : tie.Need-count-requires
 count-requires c κs = search needs
 
 returns : tie.Need-returns
-returns c =     let a = c .before .before .args in
+returns c = let a = c .before .before .args in
     let l = now (a .case) in
     rw (first-count l (arcAt l (a .e)) (c .before .arc-at .ensures) (c .count .ensures .value))
 

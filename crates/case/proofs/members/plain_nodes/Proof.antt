@@ -34,25 +34,26 @@ loop-less : tie.Need-loop-less Inv-loop μ-loop
 loop-less c = omega arith
 
 loop-again : tie.Need-loop-again Inv-loop μ-loop
-loop-again c =     let b = c .before in
+loop-again c = let b = c .before in
     let h = b .before .before in
     let a = h .before .args in
     let l = now (a .case) in
-    let i = h .loop .e in
-    (omega arith,
-    ⊎-elim
-    (λ w. w .2 ∙ w .1 .ensures ∙ ap (λ (x : ℕ). withEnds l x i) (h .loop .inv .1) ∙ sym (ends-yes l (plain l) i (sym (b .plain .ensures) ∙ w .0 .taken)))
-    (λ w. w .1 ∙ h .loop .inv .1 ∙ sym (ends-no l (plain l) i (sym (b .plain .ensures) ∙ w .0 .left)))
-    (c .if1 .came))
+    let i = h .loop .e in (
+      omega arith,
+      ⊎-elim
+          (λ w. w .2 ∙ w .1 .ensures ∙ ap (λ (x : ℕ). withEnds l x i) (h .loop .inv .1) ∙ sym (ends-yes l (plain l) i (sym (b .plain .ensures) ∙ w .0 .taken)))
+          (λ w. w .1 ∙ h .loop .inv .1 ∙ sym (ends-no l (plain l) i (sym (b .plain .ensures) ∙ w .0 .left)))
+          (c .if1 .came),
+    )
 
 cast-result : tie.Need-cast-result Inv-loop μ-loop
-cast-result c =     let h = c .before in
+cast-result c = let h = c .before in
     let a = h .before .args in
     let l = now (a .case) in
     record { sfits = omega (arith, h .loop .inv .1, ends-lt l (plain l) (h .loop .e)) }
 
 returns : tie.Need-returns Inv-loop μ-loop
-returns c =     let h = c .before in
+returns c = let h = c .before in
     let a = h .before .args in
     let l = now (a .case) in
     let e : h .loop .e ≡ a .arcs = omega arith in

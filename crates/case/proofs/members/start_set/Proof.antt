@@ -33,7 +33,7 @@ belongs-requires : tie.Need-belongs-requires Inv-loop μ-loop
 belongs-requires c κs = search needs
 
 with-arc-requires : tie.Need-with-arc-requires Inv-loop μ-loop
-with-arc-requires c κs =     let b = c .before in
+with-arc-requires c κs = let b = c .before in
     let h = b .before .before in
     let a = h .before .args in
     let l = now (a .case) in
@@ -52,30 +52,31 @@ loop-less : tie.Need-loop-less Inv-loop μ-loop
 loop-less c = omega arith
 
 loop-again : tie.Need-loop-again Inv-loop μ-loop
-loop-again c =     let b = c .before in
+loop-again c = let b = c .before in
     let h = b .before .before in
     let a = h .before .args in
     let l = now (a .case) in
     let i = h .loop .e in
-    let f = sym (b .belongs .ensures) in
-    (omega arith,
-    ⊎-elim
-    (λ w. w .3 ∙ ap (λ (x : ℕ). x + 1) (h .loop .inv .1) ∙ sym (before-yes l (a .s) i (f ∙ w .0 .taken)))
-    (λ w. w .2 ∙ h .loop .inv .1 ∙ sym (before-no l (a .s) i (f ∙ w .0 .left)))
-    (c .if1 .came),
-    ⊎-elim
-    (λ w. w .2 ∙ w .1 .ensures ∙ rw (h .loop .inv .1, h .loop .inv .2) (sym (arcs-yes l (a .s) (activeAtStart l) i (f ∙ w .0 .taken))))
-    (λ w. w .1 ∙ h .loop .inv .2 ∙ sym (arcs-no l (a .s) (activeAtStart l) i (f ∙ w .0 .left)))
-    (c .if1 .came))
+    let f = sym (b .belongs .ensures) in (
+      omega arith,
+      ⊎-elim
+          (λ w. w .3 ∙ ap (λ (x : ℕ). x + 1) (h .loop .inv .1) ∙ sym (before-yes l (a .s) i (f ∙ w .0 .taken)))
+          (λ w. w .2 ∙ h .loop .inv .1 ∙ sym (before-no l (a .s) i (f ∙ w .0 .left)))
+          (c .if1 .came),
+      ⊎-elim
+          (λ w. w .2 ∙ w .1 .ensures ∙ rw (h .loop .inv .1, h .loop .inv .2) (sym (arcs-yes l (a .s) (activeAtStart l) i (f ∙ w .0 .taken))))
+          (λ w. w .1 ∙ h .loop .inv .2 ∙ sym (arcs-no l (a .s) (activeAtStart l) i (f ∙ w .0 .left)))
+          (c .if1 .came),
+    )
 
 cast-result : tie.Need-cast-result Inv-loop μ-loop
-cast-result c =     let h = c .before in
+cast-result c = let h = c .before in
     let a = h .before .args in
     let l = now (a .case) in
     record { sfits = set-fits l (a .s) (h .loop .e) (a .arcs) (h .loop .inv .0) (h .before .pre) (h .loop .inv .2) }
 
 returns : tie.Need-returns Inv-loop μ-loop
-returns c =     let h = c .before in
+returns c = let h = c .before in
     let a = h .before .args in
     let l = now (a .case) in
     let e : h .loop .e ≡ a .arcs = omega arith in

@@ -31,16 +31,17 @@ loop-less : tie.Need-loop-less Inv-loop μ-loop
 loop-less c = omega arith
 
 loop-again : tie.Need-loop-again Inv-loop μ-loop
-loop-again c =     let b = c .before in
+loop-again c = let b = c .before in
     let h = b .before .before in
     let a = h .before .args in
     let l = now (a .case) in
-    let i = h .loop .e in
-    (omega arith,
-    ⊎-elim
-    (λ w. w .1 ∙ ap (λ (x : ℕ). x + 1) (h .loop .inv .1) ∙ sym (before-yes l (a .s) i (sym (b .belongs .ensures) ∙ w .0 .taken)))
-    (λ w. w .1 ∙ h .loop .inv .1 ∙ sym (before-no l (a .s) i (sym (b .belongs .ensures) ∙ w .0 .left)))
-    (c .if1 .came))
+    let i = h .loop .e in (
+      omega arith,
+      ⊎-elim
+          (λ w. w .1 ∙ ap (λ (x : ℕ). x + 1) (h .loop .inv .1) ∙ sym (before-yes l (a .s) i (sym (b .belongs .ensures) ∙ w .0 .taken)))
+          (λ w. w .1 ∙ h .loop .inv .1 ∙ sym (before-no l (a .s) i (sym (b .belongs .ensures) ∙ w .0 .left)))
+          (c .if1 .came),
+    )
 
 returns : tie.Need-returns Inv-loop μ-loop
 returns c = let e : c .before .loop .e ≡ c .before .before .args .arcs = omega arith in rw e at (c .before .loop .inv .1)

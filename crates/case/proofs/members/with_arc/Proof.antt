@@ -14,17 +14,17 @@ shl-result : tie.Need-shl-result
 shl-result c = omega arith
 
 add-result : tie.Need-add-result
-add-result c =     let s = c .before .before in
+add-result c = let s = c .before .before in
     let p : 2 ^ s .args .n < 2 ^ 62 = pow-lt (s .pre .0) in
     rw (shifted (s .args .n) (omega arith)) (record { fits = omega (arith, s .pre .1) })
 
 returns : tie.Need-returns
-returns c =     let s = c .before .before in
+returns c = let s = c .before .before in
     let p : 2 ^ s .args .n < 2 ^ 62 = pow-lt (s .pre .0) in
     rw (shifted (s .args .n) (omega arith), sym (c .before .active .ensures) ∙ c .if1 .taken)
 
 returns-2 : tie.Need-returns-2
-returns-2 c =     let s = c .before .before in
+returns-2 c = let s = c .before .before in
     rw (sym (c .before .active .ensures) ∙ c .if1 .left) (omega arith)
 
 pub with-arc-spec : {M : Type 1} → statement M

@@ -22,7 +22,7 @@ with-node-requires-2 : tie.Need-with-node-requires-2
 with-node-requires-2 c κs = search needs
 
 returns : tie.Need-returns
-returns c =     let u = c .before .before .before .before in
+returns c = let u = c .before .before .before .before in
     let a = u .before .args in
     let l = now (a .case) in
     let row = arcAt l (a .e) in

@@ -53,7 +53,7 @@ or-else-requires-3 c κs = search needs
 
 returns : tie.Need-returns
 unfolding boundFields
-returns c =     let u = c .before .before .before .before .before .before .before in
+returns c = let u = c .before .before .before .before .before .before .before in
     let t = u .before in
     let s = t .before in
     let l = now (s .before .args .case) in

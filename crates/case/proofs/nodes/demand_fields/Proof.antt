@@ -31,21 +31,21 @@ fields-requires-3 c κs = search needs
 
 returns : tie.Need-returns
 unfolding demandFields
-returns c =     let s = c .before .before .before in
+returns c = let s = c .before .before .before in
     let l = now (s .args .case) in
     let k : c .before .before .count .result ≡ countAt l (s .args .row) = first-is (s .args .row) (c .before .before .count .ensures) in
     rw (sym k ∙ c .before .match .keys1, ← s .pre .2) (c .fields .ensures)
 
 returns-2 : tie.Need-returns-2
 unfolding demandFields
-returns-2 c =     let s = c .before .before .before in
+returns-2 c = let s = c .before .before .before in
     let l = now (s .args .case) in
     let k : c .before .before .count .result ≡ countAt l (s .args .row) = first-is (s .args .row) (c .before .before .count .ensures) in
     rw (sym k ∙ c .before .match .keys2, ← s .pre .2) (c .fields2 .ensures)
 
 returns-3 : tie.Need-returns-3
 unfolding demandFields
-returns-3 c =     let s = c .before .before .before in
+returns-3 c = let s = c .before .before .before in
     let l = now (s .args .case) in
     let k : c .before .before .count .result ≡ countAt l (s .args .row) = first-is (s .args .row) (c .before .before .count .ensures) in
     let r = c .before .match .rest in

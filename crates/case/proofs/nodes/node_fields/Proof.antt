@@ -34,7 +34,7 @@ or-else-requires c κs = search needs
 
 returns : tie.Need-returns
 unfolding nodeFields nodeAt
-returns c =     let s = c .before .before .before in
+returns c = let s = c .before .before .before in
     let l = now (s .args .case) in
     let row : 7 + s .args .steps + s .args .v * (6 + s .args .steps) ≡ nodeAt l (s .args .v) = rw (s .pre .2) in
     simp firstNo-append

@@ -28,7 +28,7 @@ enum-told-2 : tie.Need-enum-told-2 Inv-loop μ-loop
 enum-told-2 c = search needs
 
 returns : tie.Need-returns Inv-loop μ-loop
-returns c =     let b = c .before .before in
+returns c = let b = c .before .before in
     let t = b .before in
     let h = t .before in
     let a = h .before .args in
@@ -42,7 +42,7 @@ loop-less : tie.Need-loop-less Inv-loop μ-loop
 loop-less c = omega arith
 
 loop-again : tie.Need-loop-again Inv-loop μ-loop
-loop-again c =     let b = c .before .before in
+loop-again c = let b = c .before .before in
     let t = b .before in
     let h = t .before in
     let a = h .before .args in
@@ -50,7 +50,7 @@ loop-again c =     let b = c .before .before in
     (omega arith, rest-on (nodeFields l) (h .loop .v) (a .nodes) (h .loop .inv .1) (t .loop-test .taken) (b .node-fields .ensures) (c .enum-told .given .1))
 
 returns-2 : tie.Need-returns-2 Inv-loop μ-loop
-returns-2 c =     let h = c .before in
+returns-2 c = let h = c .before in
     let a = h .before .args in
     let l = now (a .case) in
     sym (rest-end (nodeFields l) (h .loop .v) (a .nodes) (h .loop .inv .1) (c .loop-test .left))

@@ -14,7 +14,7 @@ index-requires : tie.Need-index-requires
 index-requires c κs = search needs
 
 returns : tie.Need-returns
-returns c =     let n = c .before .number in
+returns c = let n = c .before .number in
     let e : toZ w64 (ofZ w64 (n .result)) ≡ n .result = kept (n .result) (n .ok) in
     record { value = c .index .ensures ∙ ap posPart (e ∙ n .ensures); small = rw (c .index .ensures, e) (count-small (n .result) (n .ok)) }
 

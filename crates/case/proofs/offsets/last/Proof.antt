@@ -16,7 +16,7 @@ sub-result : tie.Need-sub-result
 sub-result c = ranged _ (rw (toZ-pos w64 (c .pre)) (omega (ints, taken (pos (c .args .n)) (pos 1))))
 
 returns : tie.Need-returns
-returns c =     let e : toZ w64 (c .args .n) ≡ pos (c .args .n) = toZ-pos w64 (c .pre) in
+returns c = let e : toZ w64 (c .args .n) ≡ pos (c .args .n) = toZ-pos w64 (c .pre) in
     toZ-ofZ (ranged (toZ w64 (c .args .n) -ℤ pos 1) (rw e (omega (ints, taken (pos (c .args .n)) (pos 1))))) ∙ rw e
 
 pub last-spec : {M : Type 1} → statement M

@@ -19,7 +19,7 @@ count-requires : tie.Need-count-requires
 count-requires c κs = search needs
 
 returns : tie.Need-returns
-returns c =     let a = c .before .before .before .before .args in
+returns c = let a = c .before .before .before .before .args in
     let l = now (a .case) in
     let row = directionAt (a .row) (a .f) in
     let r = c .before .before .before .direction-at .ensures in

@@ -16,7 +16,7 @@ number-requires-2 : tie.Need-number-requires-2
 number-requires-2 c κs = search needs
 
 returns : tie.Need-returns
-returns c =     let a = c .before .before .before .args in
+returns c = let a = c .before .before .before .args in
     let l = now (a .case) in
     let row = machineAt l (a .row) (a .m) in
     let r = c .before .before .machine-at .ensures in

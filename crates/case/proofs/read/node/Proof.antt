@@ -32,7 +32,7 @@ demand-requires : tie.Need-demand-requires
 demand-requires c κs = search needs
 
 returns : tie.Need-returns
-returns c =     let a = c .before .before .before .before .before .before .before .before .args in
+returns c = let a = c .before .before .before .before .before .before .before .before .args in
     let l = now (a .case) in
     let row = nodeAt l (a .v) in
     let r = c .before .before .before .before .before .before .before .node-at .ensures in

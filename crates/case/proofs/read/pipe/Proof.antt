@@ -22,7 +22,7 @@ number-requires-4 : tie.Need-number-requires-4
 number-requires-4 c κs = search needs
 
 returns : tie.Need-returns
-returns c =     let a = c .before .before .before .before .before .args in
+returns c = let a = c .before .before .before .before .before .args in
     let l = now (a .case) in
     let row = arcAt l (a .e) in
     let r = c .before .before .before .before .arc-at .ensures in

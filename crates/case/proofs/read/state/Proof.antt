@@ -22,7 +22,7 @@ count-requires : tie.Need-count-requires
 count-requires c κs = search needs
 
 returns : tie.Need-returns
-returns c =     let a = c .before .before .before .before .before .args in
+returns c = let a = c .before .before .before .before .before .args in
     let l = now (a .case) in
     let row = stateAt l (a .row) (a .z) in
     let r = c .before .before .before .before .state-at .ensures in

@@ -22,7 +22,7 @@ count-requires-5 : tie.Need-count-requires-5
 count-requires-5 c κs = search needs
 
 returns : tie.Need-returns
-returns c =     let a = c .before .before .before .before .before .args in
+returns c = let a = c .before .before .before .before .before .args in
     let l = now (a .case) in
     let e0 = c .before .before .before .before .count .ensures .value ∙ ap (countAt l) (add-zero (a .row)) in
     let e1 = c .before .before .before .count2 .ensures .value in

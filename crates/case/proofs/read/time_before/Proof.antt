@@ -16,7 +16,7 @@ returns : tie.Need-returns
 returns c = rw (c .if1 .taken)
 
 returns-2 : tie.Need-returns-2
-returns-2 c =     let a = c .before .before .args in
+returns-2 c = let a = c .before .before .args in
     let e : a .i ≡ suc (a .i - 1) = omega arith in
     rw e (kept (c .time .result) (c .time .ok) ∙ c .time .ensures)
 

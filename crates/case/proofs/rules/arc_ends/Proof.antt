@@ -29,7 +29,7 @@ arc-requires c κs = search needs
 
 returns : tie.Need-returns Inv-loop μ-loop
 unfolding arcEnds
-returns c =     let b = c .before .before in
+returns c = let b = c .before .before in
     let h = b .before .before in
     let a = h .before .args in
     let l = now (a .case) in
@@ -47,7 +47,7 @@ loop-less c = omega arith
 
 loop-again : tie.Need-loop-again Inv-loop μ-loop
 unfolding arcEnds
-loop-again c =     let b = c .before .before in
+loop-again c = let b = c .before .before in
     let h = b .before .before in
     let a = h .before .args in
     let l = now (a .case) in
@@ -58,7 +58,7 @@ loop-again c =     let b = c .before .before in
     (omega arith, rest-on (arcEnds l) e (a .arcs) (h .loop .inv .1) (b .before .loop-test .taken) q refl)
 
 returns-2 : tie.Need-returns-2 Inv-loop μ-loop
-returns-2 c =     let h = c .before in
+returns-2 c = let h = c .before in
     let a = h .before .args in
     sym (rest-end (arcEnds (now (a .case))) (h .loop .e) (a .arcs) (h .loop .inv .1) (c .loop-test .left))
 

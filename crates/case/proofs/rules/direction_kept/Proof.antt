@@ -28,7 +28,7 @@ only-fence-requires-2 c κs = search needs
 
 returns : tie.Need-returns
 unfolding directionKept
-returns c =     let d = c .before .before .before .before .before .before .before in
+returns c = let d = c .before .before .before .before .before .before .before in
     let s = d .before in
     let l = now (s .args .case) in
     let r = directionRow l (s .args .row) (s .args .f) in
@@ -43,7 +43,7 @@ returns c =     let d = c .before .before .before .before .before .before .befor
 
 returns-2 : tie.Need-returns-2
 unfolding directionKept
-returns-2 c =     let d = c .before .before .before .before .before .before in
+returns-2 c = let d = c .before .before .before .before .before .before in
     let s = d .before in
     let l = now (s .args .case) in
     let r = directionRow l (s .args .row) (s .args .f) in
@@ -58,7 +58,7 @@ returns-2 c =     let d = c .before .before .before .before .before .before in
 
 returns-3 : tie.Need-returns-3
 unfolding directionKept
-returns-3 c =     let d = c .before .before .before .before in
+returns-3 c = let d = c .before .before .before .before in
     let s = d .before in
     let l = now (s .args .case) in
     let r = directionRow l (s .args .row) (s .args .f) in

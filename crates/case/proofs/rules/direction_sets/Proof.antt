@@ -43,7 +43,7 @@ directions-kept-requires : tie.Need-directions-kept-requires Inv-loop μ-loop
 directions-kept-requires c κs = search needs
 
 returns : tie.Need-returns Inv-loop μ-loop
-returns c =     let b = c .before in
+returns c = let b = c .before in
     let t = b .before .before .before in
     let h = t .before in
     let s = h .before .before in
@@ -61,7 +61,7 @@ loop-less : tie.Need-loop-less Inv-loop μ-loop
 loop-less c = omega arith
 
 loop-again : tie.Need-loop-again Inv-loop μ-loop
-loop-again c =     let b = c .before in
+loop-again c = let b = c .before in
     let t = b .before .before .before in
     let h = t .before in
     let s = h .before .before in
@@ -73,7 +73,7 @@ loop-again c =     let b = c .before in
     (omega arith, rest-on (directionSets l) i (s .args .t2 .stations) (h .loop .inv .1) (t .loop-test .taken) q refl)
 
 returns-2 : tie.Need-returns-2 Inv-loop μ-loop
-returns-2 c =     let h = c .before in
+returns-2 c = let h = c .before in
     let s = h .before .before in
     sym (rest-end (directionSets (now (s .args .case))) (h .loop .s) (s .args .t2 .stations) (h .loop .inv .1) (c .loop-test .left))
 

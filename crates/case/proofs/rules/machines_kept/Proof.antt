@@ -39,7 +39,7 @@ subset-requires c κs = search needs
 
 returns : tie.Need-returns Inv-loop μ-loop
 unfolding machinesKept
-returns c =     let b = c .before .before .before .before .before in
+returns c = let b = c .before .before .before .before .before in
     let t = b .before in
     let h = t .before in
     let s = h .before in
@@ -62,7 +62,7 @@ loop-less c = omega arith
 
 loop-again : tie.Need-loop-again Inv-loop μ-loop
 unfolding machinesKept
-loop-again c =     let b = c .before in
+loop-again c = let b = c .before in
     let t = b .before in
     let h = t .before in
     let s = h .before in
@@ -71,17 +71,17 @@ loop-again c =     let b = c .before in
     let e = h .loop .e in
     let w = machinesKept l (a .s) (toZ w64 (ofZ w64 (a .own))) in
     let f : w e ≡ true =
-        ⊎-elim
-        (λ x.
-            let m : toZ w64 (ofZ w64 (x .1 .result .machines)) ≡ artificialOf l e .machines = kept _ (x .2 .given .1 .1 .1 .1 .0 .1) ∙ ap (λ (x : Artificial). x .machines) (x .1 .ensures) in
-            let z : subsetOf (artificialOf l e .machines) (toZ w64 (ofZ w64 (a .own))) ≡ true = simp m at (sym (x .3 .ensures) ∙ not-false _ (x .4 .left)) in
-            rw (sym (b .belongs .ensures) ∙ x .0 .taken, z))
-        (λ x. rw (sym (b .belongs .ensures) ∙ x .left))
-        (c .if1 .came) in
+    ⊎-elim
+    (λ x.
+    let m : toZ w64 (ofZ w64 (x .1 .result .machines)) ≡ artificialOf l e .machines = kept _ (x .2 .given .1 .1 .1 .1 .0 .1) ∙ ap (λ (x : Artificial). x .machines) (x .1 .ensures) in
+    let z : subsetOf (artificialOf l e .machines) (toZ w64 (ofZ w64 (a .own))) ≡ true = simp m at (sym (x .3 .ensures) ∙ not-false _ (x .4 .left)) in
+    rw (sym (b .belongs .ensures) ∙ x .0 .taken, z))
+    (λ x. rw (sym (b .belongs .ensures) ∙ x .left))
+    (c .if1 .came) in
     (omega arith, every-more e w (h .loop .inv .1) f)
 
 returns-2 : tie.Need-returns-2 Inv-loop μ-loop
-returns-2 c =     let h = c .before in
+returns-2 c = let h = c .before in
     let s = h .before in
     let e : h .loop .e ≡ s .args .arcs = omega arith in
     sym (simp (toZ-ofZ (s .fits .own)) at (rw e at (h .loop .inv .1)))

@@ -24,7 +24,7 @@ stations-with-requires : tie.Need-stations-with-requires Inv-loop μ-loop
 stations-with-requires c κs = let s = c .before .before .before in rw (s .pre .1 .stations) (s .pre .0 .stations)
 
 returns : tie.Need-returns Inv-loop μ-loop
-returns c =     let b = c .before in
+returns c = let b = c .before in
     let h = b .before .before in
     let s = h .before .before in
     let l = now (s .args .case) in
@@ -39,7 +39,7 @@ loop-less : tie.Need-loop-less Inv-loop μ-loop
 loop-less c = omega arith
 
 loop-again : tie.Need-loop-again Inv-loop μ-loop
-loop-again c =     let b = c .before in
+loop-again c = let b = c .before in
     let h = b .before .before in
     let s = h .before .before in
     let l = now (s .args .case) in
@@ -48,7 +48,7 @@ loop-again c =     let b = c .before in
     (omega arith, rest-on (oneStation l) (h .loop .v) (s .args .layout .nodes) (h .loop .inv .1) (b .before .loop-test .taken) (one-yes l (h .loop .v) n (c .if1 .left)) refl)
 
 returns-2 : tie.Need-returns-2 Inv-loop μ-loop
-returns-2 c =     let h = c .before in
+returns-2 c = let h = c .before in
     let s = h .before .before in
     sym (rest-end (oneStation (now (s .args .case))) (h .loop .v) (s .args .layout .nodes) (h .loop .inv .1) (c .loop-test .left))
 

@@ -13,13 +13,13 @@ subset-requires-2 : tie.Need-subset-requires-2
 subset-requires-2 c κs = search needs
 
 returns : tie.Need-returns
-returns c =     let s = c .before .before .before in
+returns c = let s = c .before .before .before in
     let a = s .args in
     let e : subsetOf (a .set) (a .inside) ≡ true = simp (toZ-ofZ (s .fits .set), toZ-ofZ (s .fits .inside)) at (sym (c .before .before .subset .ensures) ∙ c .before .if1 .taken) in
     rw e (simp (toZ-ofZ (s .fits .set), toZ-ofZ (s .fits .plain)) at (c .subset2 .ensures))
 
 returns-2 : tie.Need-returns-2
-returns-2 c =     let s = c .before .before in
+returns-2 c = let s = c .before .before in
     let a = s .args in
     let e : subsetOf (a .set) (a .inside) ≡ false = simp (toZ-ofZ (s .fits .set), toZ-ofZ (s .fits .inside)) at (sym (c .before .subset .ensures) ∙ c .if1 .left) in
     rw e

@@ -35,13 +35,13 @@ enum-told c = search needs
 
 state-sets-requires : tie.Need-state-sets-requires
 unfolding earlyRules
-state-sets-requires c κs =     let s = c .before .before .before .before .before .before .before .before .before in
+state-sets-requires c κs = let s = c .before .before .before .before .before .before .before .before .before in
     let l = now (s .args .case) in
     let e : c .before .before .or-else3 .result ≡ firstNo (earlyRules l) =
-        simp firstNo-append
-        (chain (c .before .before .or-else3 .ensures) (c .before .before .before .before .before .before .before .before .arc-ends .ensures)
-        (chain (c .before .before .before .or-else2 .ensures) (c .before .before .before .before .before .before .before .one-station .ensures)
-        (chain (c .before .before .before .before .or-else .ensures) (c .before .before .before .before .before .before .station-size .ensures) (c .before .before .before .before .before .direction-sets .ensures)))) in
+    simp firstNo-append
+    (chain (c .before .before .or-else3 .ensures) (c .before .before .before .before .before .before .before .before .arc-ends .ensures)
+    (chain (c .before .before .before .or-else2 .ensures) (c .before .before .before .before .before .before .before .one-station .ensures)
+    (chain (c .before .before .before .before .or-else .ensures) (c .before .before .before .before .before .before .station-size .ensures) (c .before .before .before .before .before .direction-sets .ensures)))) in
     (s .pre .0, s .pre .1, rules-sized l (sym e ∙ c .enum-told .given .1), s .pre .2)
 
 enum-told-2 : tie.Need-enum-told-2
@@ -49,24 +49,24 @@ enum-told-2 c = search needs
 
 returns : tie.Need-returns
 unfolding earlyRules ruleQuestions
-returns c =     let s = c .before .before .before .before .before .before .before .before .before .before in
+returns c = let s = c .before .before .before .before .before .before .before .before .before .before in
     let l = now (s .args .case) in
     let e : c .before .before .before .or-else3 .result ≡ firstNo (earlyRules l) =
-        simp firstNo-append
-        (chain (c .before .before .before .or-else3 .ensures) (c .before .before .before .before .before .before .before .before .before .arc-ends .ensures)
-        (chain (c .before .before .before .before .or-else2 .ensures) (c .before .before .before .before .before .before .before .before .one-station .ensures)
-        (chain (c .before .before .before .before .before .or-else .ensures) (c .before .before .before .before .before .before .before .station-size .ensures) (c .before .before .before .before .before .before .direction-sets .ensures)))) in
+    simp firstNo-append
+    (chain (c .before .before .before .or-else3 .ensures) (c .before .before .before .before .before .before .before .before .before .arc-ends .ensures)
+    (chain (c .before .before .before .before .or-else2 .ensures) (c .before .before .before .before .before .before .before .before .one-station .ensures)
+    (chain (c .before .before .before .before .before .or-else .ensures) (c .before .before .before .before .before .before .before .station-size .ensures) (c .before .before .before .before .before .before .direction-sets .ensures)))) in
     went (earlyRules l) (allStateSets l) e (c .before .enum-told .given .1) (c .state-sets .ensures)
 
 returns-2 : tie.Need-returns-2
 unfolding earlyRules ruleQuestions
-returns-2 c =     let s = c .before .before .before .before .before .before .before .before .before in
+returns-2 c = let s = c .before .before .before .before .before .before .before .before .before in
     let l = now (s .args .case) in
     let e : c .before .before .or-else3 .result ≡ firstNo (earlyRules l) =
-        simp firstNo-append
-        (chain (c .before .before .or-else3 .ensures) (c .before .before .before .before .before .before .before .before .arc-ends .ensures)
-        (chain (c .before .before .before .or-else2 .ensures) (c .before .before .before .before .before .before .before .one-station .ensures)
-        (chain (c .before .before .before .before .or-else .ensures) (c .before .before .before .before .before .before .station-size .ensures) (c .before .before .before .before .before .direction-sets .ensures)))) in
+    simp firstNo-append
+    (chain (c .before .before .or-else3 .ensures) (c .before .before .before .before .before .before .before .before .arc-ends .ensures)
+    (chain (c .before .before .before .or-else2 .ensures) (c .before .before .before .before .before .before .before .one-station .ensures)
+    (chain (c .before .before .before .before .or-else .ensures) (c .before .before .before .before .before .before .station-size .ensures) (c .before .before .before .before .before .direction-sets .ensures)))) in
     stopped (earlyRules l) (allStateSets l) e (c .enum-told2 .given .1)
 
 pub rules-spec : {M : Type 1} → statement M

@@ -28,7 +28,7 @@ disjoint-requires c κs = search needs
 
 returns : tie.Need-returns
 unfolding startKept
-returns c =     let d = c .before .before .before .before .before in
+returns c = let d = c .before .before .before .before .before in
     let s = d .before .before in
     let l = now (s .args .case) in
     let q = stationRow l (s .args .row) in
@@ -43,7 +43,7 @@ returns c =     let d = c .before .before .before .before .before in
 
 returns-2 : tie.Need-returns-2
 unfolding startKept
-returns-2 c =     let d = c .before .before .before .before in
+returns-2 c = let d = c .before .before .before .before in
     let s = d .before .before in
     let l = now (s .args .case) in
     let q = stationRow l (s .args .row) in

@@ -27,7 +27,7 @@ subset-requires-2 c κs = search needs
 
 returns : tie.Need-returns
 unfolding stateKept
-returns c =     let d = c .before .before .before .before .before .before .before in
+returns c = let d = c .before .before .before .before .before .before .before in
     let s = d .before in
     let l = now (s .args .case) in
     let r = stateRow l (s .args .row) (s .args .z) in
@@ -41,7 +41,7 @@ returns c =     let d = c .before .before .before .before .before .before .befor
 
 returns-2 : tie.Need-returns-2
 unfolding stateKept
-returns-2 c =     let d = c .before .before .before .before .before .before in
+returns-2 c = let d = c .before .before .before .before .before .before in
     let s = d .before in
     let l = now (s .args .case) in
     let r = stateRow l (s .args .row) (s .args .z) in
@@ -55,7 +55,7 @@ returns-2 c =     let d = c .before .before .before .before .before .before in
 
 returns-3 : tie.Need-returns-3
 unfolding stateKept
-returns-3 c =     let d = c .before .before .before .before in
+returns-3 c = let d = c .before .before .before .before in
     let s = d .before in
     let l = now (s .args .case) in
     let r = stateRow l (s .args .row) (s .args .z) in

@@ -28,7 +28,7 @@ element-copy-out-row : tie.Need-element-copy-out-row Inv-loop μ-loop
 element-copy-out-row c = let s = c .before .before in omega (arith, s .pre .0 .stations, s .pre .1 .stations)
 
 station-kept-requires : tie.Need-station-kept-requires Inv-loop μ-loop
-station-kept-requires c κs =     let t = c .before in
+station-kept-requires c κs = let t = c .before in
     let h = t .before in
     let s = h .before in
     let y = s .pre .1 in
@@ -37,7 +37,7 @@ station-kept-requires c κs =     let t = c .before in
     (y .rows .each i p, y .arcs, s .pre .2 .each i p, rw (y .rows .each i p) (s .pre .3 .each i p))
 
 returns : tie.Need-returns Inv-loop μ-loop
-returns c =     let b = c .before in
+returns c = let b = c .before in
     let t = b .before .before in
     let h = t .before in
     let s = h .before in
@@ -53,7 +53,7 @@ loop-less : tie.Need-loop-less Inv-loop μ-loop
 loop-less c = omega arith
 
 loop-again : tie.Need-loop-again Inv-loop μ-loop
-loop-again c =     let b = c .before in
+loop-again c = let b = c .before in
     let t = b .before .before in
     let h = t .before in
     let s = h .before in
@@ -63,7 +63,7 @@ loop-again c =     let b = c .before in
     (omega arith, rest-on (stateSets l) i (s .args .t2 .stations) (h .loop .inv .1) (t .loop-test .taken) q refl)
 
 returns-2 : tie.Need-returns-2 Inv-loop μ-loop
-returns-2 c =     let h = c .before in
+returns-2 c = let h = c .before in
     let s = h .before in
     sym (rest-end (stateSets (now (s .args .case))) (h .loop .s) (s .args .t2 .stations) (h .loop .inv .1) (c .loop-test .left))
 

@@ -31,7 +31,7 @@ state-kept-requires : tie.Need-state-kept-requires Inv-loop μ-loop
 state-kept-requires c κs = search needs
 
 returns : tie.Need-returns Inv-loop μ-loop
-returns c =     let b = c .before in
+returns c = let b = c .before in
     let t = b .before in
     let h = t .before in
     let a = h .before .before .args in
@@ -48,7 +48,7 @@ loop-less : tie.Need-loop-less Inv-loop μ-loop
 loop-less c = omega arith
 
 loop-again : tie.Need-loop-again Inv-loop μ-loop
-loop-again c =     let b = c .before in
+loop-again c = let b = c .before in
     let t = b .before in
     let h = t .before in
     let a = h .before .before .args in
@@ -56,7 +56,7 @@ loop-again c =     let b = c .before in
     (omega arith, every-more (h .loop .z) (stateKept l (a .row) (toZ w64 (ofZ w64 (a .own)))) (h .loop .inv .1) (sym (b .state-kept .ensures) ∙ not-false _ (c .if1 .left)))
 
 returns-2 : tie.Need-returns-2 Inv-loop μ-loop
-returns-2 c =     let h = c .before in
+returns-2 c = let h = c .before in
     let a = h .before .before .args in
     let f = h .before .before .fits in
     let l = now (a .case) in

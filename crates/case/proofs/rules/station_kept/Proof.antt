@@ -43,7 +43,7 @@ start-kept-requires c κs = search needs
 
 returns : tie.Need-returns
 unfolding stationKept
-returns c =     let x = c .before .before .before .before .before in
+returns c = let x = c .before .before .before .before .before in
     let m = x .before in
     let n = m .before in
     let k = n .before in
@@ -61,7 +61,7 @@ returns c =     let x = c .before .before .before .before .before in
 
 returns-2 : tie.Need-returns-2
 unfolding stationKept
-returns-2 c =     let x = c .before .before .before .before in
+returns-2 c = let x = c .before .before .before .before in
     let m = x .before in
     let n = m .before in
     let k = n .before in
@@ -79,7 +79,7 @@ returns-2 c =     let x = c .before .before .before .before in
 
 returns-3 : tie.Need-returns-3
 unfolding stationKept
-returns-3 c =     let x = c .before .before in
+returns-3 c = let x = c .before .before in
     let m = x .before in
     let n = m .before in
     let k = n .before in

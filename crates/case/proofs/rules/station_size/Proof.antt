@@ -26,7 +26,7 @@ station-arcs-requires : tie.Need-station-arcs-requires Inv-loop μ-loop
 station-arcs-requires c κs = search needs
 
 returns : tie.Need-returns Inv-loop μ-loop
-returns c =     let b = c .before in
+returns c = let b = c .before in
     let h = b .before .before in
     let s = h .before in
     let l = now (s .args .case) in
@@ -40,7 +40,7 @@ loop-less : tie.Need-loop-less Inv-loop μ-loop
 loop-less c = omega arith
 
 loop-again : tie.Need-loop-again Inv-loop μ-loop
-loop-again c =     let b = c .before in
+loop-again c = let b = c .before in
     let h = b .before .before in
     let s = h .before in
     let l = now (s .args .case) in
@@ -48,7 +48,7 @@ loop-again c =     let b = c .before in
     (omega arith, rest-on (stationSize l) (h .loop .s) (s .args .layout .stations) (h .loop .inv .1) (b .before .loop-test .taken) (size-yes l (h .loop .s) n (c .if1 .left)) refl)
 
 returns-2 : tie.Need-returns-2 Inv-loop μ-loop
-returns-2 c =     let h = c .before in
+returns-2 c = let h = c .before in
     let s = h .before in
     sym (rest-end (stationSize (now (s .args .case))) (h .loop .s) (s .args .layout .stations) (h .loop .inv .1) (c .loop-test .left))
 

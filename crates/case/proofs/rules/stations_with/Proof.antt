@@ -40,17 +40,18 @@ loop-less : tie.Need-loop-less Inv-loop μ-loop
 loop-less c = omega arith
 
 loop-again : tie.Need-loop-again Inv-loop μ-loop
-loop-again c =     let b = c .before in
+loop-again c = let b = c .before in
     let h = b .before .before .before in
     let a = h .before .args in
     let w = inSet (a .t1) (a .v) in
     let i = h .loop .s in
-    let e : w i ≡ b .member .result = simp (kept (getD (a .t1) i (pos 0)) (b .before .member-arg .given)) at (sym (b .member .ensures)) in
-    (omega arith,
-    ⊎-elim
-    (λ x. x .1 ∙ ap (λ (y : ℕ). y + 1) (h .loop .inv .1) ∙ sym (count-yes w i (e ∙ x .0 .taken)))
-    (λ x. x .1 ∙ h .loop .inv .1 ∙ sym (count-no w i (e ∙ x .0 .left)))
-    (c .if1 .came))
+    let e : w i ≡ b .member .result = simp (kept (getD (a .t1) i (pos 0)) (b .before .member-arg .given)) at (sym (b .member .ensures)) in (
+      omega arith,
+      ⊎-elim
+          (λ x. x .1 ∙ ap (λ (y : ℕ). y + 1) (h .loop .inv .1) ∙ sym (count-yes w i (e ∙ x .0 .taken)))
+          (λ x. x .1 ∙ h .loop .inv .1 ∙ sym (count-no w i (e ∙ x .0 .left)))
+          (c .if1 .came),
+    )
 
 returns : tie.Need-returns Inv-loop μ-loop
 returns c = let e : c .before .loop .s ≡ c .before .before .args .stations = omega arith in rw e at (c .before .loop .inv .1)

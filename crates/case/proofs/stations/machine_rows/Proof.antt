@@ -46,7 +46,7 @@ enum-told-2 c = search needs
 
 returns : tie.Need-returns Inv-loop μ-loop
 unfolding machineFields
-returns c =     let b = c .before .before in
+returns c = let b = c .before .before in
     let t = b .before .before .before in
     let h = t .before in
     let s = h .before in
@@ -63,7 +63,7 @@ loop-less c = omega arith
 
 loop-again : tie.Need-loop-again Inv-loop μ-loop
 unfolding machineFields
-loop-again c =     let b = c .before .before in
+loop-again c = let b = c .before .before in
     let t = b .before .before .before in
     let h = t .before in
     let s = h .before in
@@ -73,7 +73,7 @@ loop-again c =     let b = c .before .before in
     (omega arith, rest-on (machineFields l (a .row)) (h .loop .m) (a .machines) (h .loop .inv .1) (t .loop-test .taken) q (c .enum-told .given .1))
 
 returns-2 : tie.Need-returns-2 Inv-loop μ-loop
-returns-2 c =     let h = c .before in
+returns-2 c = let h = c .before in
     let a = h .before .args in
     let l = now (a .case) in
     sym (rest-end (machineFields l (a .row)) (h .loop .m) (a .machines) (h .loop .inv .1) (c .loop-test .left))

@@ -20,7 +20,7 @@ count-requires-3 : tie.Need-count-requires-3
 count-requires-3 c κs = search needs
 
 direction-rows-requires : tie.Need-direction-rows-requires
-direction-rows-requires c κs =     let s = c .before .before .before in
+direction-rows-requires c κs = let s = c .before .before .before in
     let p = s .pre .1 in
     let l = now (s .args .case) in
     let row = s .args .row in
@@ -30,7 +30,7 @@ direction-rows-requires c κs =     let s = c .before .before .before in
     (s .pre .0, omega arith)
 
 state-rows-requires : tie.Need-state-rows-requires
-state-rows-requires c κs =     let s = c .before .before .before .before in
+state-rows-requires c κs = let s = c .before .before .before .before in
     let p = s .pre .1 in
     let l = now (s .args .case) in
     let row = s .args .row in
@@ -43,7 +43,7 @@ add-machine-rows : tie.Need-add-machine-rows
 add-machine-rows c = search needs
 
 mul-machine-rows : tie.Need-mul-machine-rows
-mul-machine-rows c =     let s = c .before .before .before .before .before in
+mul-machine-rows c = let s = c .before .before .before .before .before in
     let p = s .pre .1 in
     let l = now (s .args .case) in
     let row = s .args .row in
@@ -53,7 +53,7 @@ mul-machine-rows c =     let s = c .before .before .before .before .before in
     omega arith
 
 add-machine-rows-2 : tie.Need-add-machine-rows-2
-add-machine-rows-2 c =     let s = c .before .before .before .before .before in
+add-machine-rows-2 c = let s = c .before .before .before .before .before in
     let p = s .pre .1 in
     let l = now (s .args .case) in
     let row = s .args .row in
@@ -66,7 +66,7 @@ mul-machine-rows-2 : tie.Need-mul-machine-rows-2
 mul-machine-rows-2 c = search needs
 
 add-machine-rows-3 : tie.Need-add-machine-rows-3
-add-machine-rows-3 c =     let s = c .before .before .before .before .before in
+add-machine-rows-3 c = let s = c .before .before .before .before .before in
     let p = s .pre .1 in
     let l = now (s .args .case) in
     let row = s .args .row in
@@ -77,7 +77,7 @@ add-machine-rows-3 c =     let s = c .before .before .before .before .before in
 
 machine-rows-requires : tie.Need-machine-rows-requires
 unfolding machineAt stateAt directionAt
-machine-rows-requires c κs =     let s = c .before .before .before .before .before in
+machine-rows-requires c κs = let s = c .before .before .before .before .before in
     let p = s .pre .1 in
     let l = now (s .args .case) in
     let row = s .args .row in
@@ -94,7 +94,7 @@ or-else-requires-2 c κs = search needs
 
 returns : tie.Need-returns
 unfolding partFields
-returns c =     let s = c .before .before .before .before .before .before .before .before in
+returns c = let s = c .before .before .before .before .before .before .before .before in
     let p = s .pre .1 in
     let l = now (s .args .case) in
     let row = s .args .row in

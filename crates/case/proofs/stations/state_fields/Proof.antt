@@ -29,7 +29,7 @@ or-else-requires-2 c κs = search needs
 
 returns : tie.Need-returns
 unfolding stateRowFields
-returns c =     simp firstNo-append
+returns c = simp firstNo-append
     (chain (c .or-else2 .ensures) (simp (toZ-ofZ (c .before .before .before .before .before .fits .sets)) at (c .before .before .before .before .field .ensures))
     (chain (c .before .or-else .ensures) (c .before .before .before .fields .ensures)
     (c .before .before .field2 .ensures)))

@@ -52,13 +52,13 @@ enum-told-2 c = search needs
 
 returns : tie.Need-returns Inv-loop μ-loop
 unfolding stateFields
-returns c =     let b = c .before .before in
+returns c = let b = c .before .before in
     let t = b .before in
     let h = t .before in
     let s = h .before .before in
     let a = s .args in
     let l = now (a .case) in
-    let q : b .state-fields .result ≡ firstNo (stateFields l (a .row) (h .loop .z)) = 
+    let q : b .state-fields .result ≡ firstNo (stateFields l (a .row) (h .loop .z)) =
     let y : toZ w64 (ofZ w64 (h .before .first-items .result)) ≡ firstItems (directionsAt l (a .row)) = kept _ (h .before .first-items .ok) ∙ h .before .first-items .ensures ∙ ap firstItems (s .pre .2) in
     rw (← state-row l (a .row) (h .loop .z) (s .pre .2), ← y) (b .state-fields .ensures) in
     sym (rest-no (stateFields l (a .row)) (h .loop .z) (a .states) (h .loop .inv .1) (t .loop-test .taken) q (c .enum-told2 .given .1))
@@ -71,19 +71,19 @@ loop-less c = omega arith
 
 loop-again : tie.Need-loop-again Inv-loop μ-loop
 unfolding stateFields
-loop-again c =     let b = c .before .before in
+loop-again c = let b = c .before .before in
     let t = b .before in
     let h = t .before in
     let s = h .before .before in
     let a = s .args in
     let l = now (a .case) in
-    let q : b .state-fields .result ≡ firstNo (stateFields l (a .row) (h .loop .z)) = 
+    let q : b .state-fields .result ≡ firstNo (stateFields l (a .row) (h .loop .z)) =
     let y : toZ w64 (ofZ w64 (h .before .first-items .result)) ≡ firstItems (directionsAt l (a .row)) = kept _ (h .before .first-items .ok) ∙ h .before .first-items .ensures ∙ ap firstItems (s .pre .2) in
     rw (← state-row l (a .row) (h .loop .z) (s .pre .2), ← y) (b .state-fields .ensures) in
     (omega arith, rest-on (stateFields l (a .row)) (h .loop .z) (a .states) (h .loop .inv .1) (t .loop-test .taken) q (c .enum-told .given .1))
 
 returns-2 : tie.Need-returns-2 Inv-loop μ-loop
-returns-2 c =     let h = c .before in
+returns-2 c = let h = c .before in
     let a = h .before .before .args in
     let l = now (a .case) in
     sym (rest-end (stateFields l (a .row)) (h .loop .z) (a .states) (h .loop .inv .1) (c .loop-test .left))

@@ -20,7 +20,7 @@ add-result : tie.Need-add-result
 add-result c = search needs
 
 mul-result : tie.Need-mul-result
-mul-result c =     let s = c .before .before .before in
+mul-result c = let s = c .before .before .before in
     let l = now (s .args .case) in
     let p = s .pre .1 in
     let d : c .before .before .count .result ≡ directionsAt l (s .args .row) = first-is (s .args .row) (c .before .before .count .ensures) in
@@ -29,7 +29,7 @@ mul-result c =     let s = c .before .before .before in
     omega arith
 
 add-result-2 : tie.Need-add-result-2
-add-result-2 c =     let s = c .before .before .before in
+add-result-2 c = let s = c .before .before .before in
     let l = now (s .args .case) in
     let p = s .pre .1 in
     let d : c .before .before .count .result ≡ directionsAt l (s .args .row) = first-is (s .args .row) (c .before .before .count .ensures) in
@@ -41,7 +41,7 @@ mul-result-2 : tie.Need-mul-result-2
 mul-result-2 c = search needs
 
 add-result-3 : tie.Need-add-result-3
-add-result-3 c =     let s = c .before .before .before in
+add-result-3 c = let s = c .before .before .before in
     let l = now (s .args .case) in
     let p = s .pre .1 in
     let d : c .before .before .count .result ≡ directionsAt l (s .args .row) = first-is (s .args .row) (c .before .before .count .ensures) in
@@ -53,7 +53,7 @@ mul-result-3 : tie.Need-mul-result-3
 mul-result-3 c = search needs
 
 add-result-4 : tie.Need-add-result-4
-add-result-4 c =     let s = c .before .before .before in
+add-result-4 c = let s = c .before .before .before in
     let l = now (s .args .case) in
     let p = s .pre .1 in
     let d : c .before .before .count .result ≡ directionsAt l (s .args .row) = first-is (s .args .row) (c .before .before .count .ensures) in
@@ -63,7 +63,7 @@ add-result-4 c =     let s = c .before .before .before in
 
 returns : tie.Need-returns
 unfolding machineAt stateAt directionAt
-returns c =     let s = c .before .before .before in
+returns c = let s = c .before .before .before in
     let l = now (s .args .case) in
     let p = s .pre .1 in
     let d : c .before .before .count .result ≡ directionsAt l (s .args .row) = first-is (s .args .row) (c .before .before .count .ensures) in

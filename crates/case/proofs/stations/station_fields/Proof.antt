@@ -21,14 +21,14 @@ enum-told-2 c = search needs
 
 returns : tie.Need-returns
 unfolding rowFields
-returns c =     let h = c .before .before .before in
+returns c = let h = c .before .before .before in
     let l = now (h .before .args .case) in
     let row = h .before .args .row in
     went (stationHead l row) (partFields l row) (h .station-head .ensures) (c .before .enum-told .given .1) (c .part-rows .ensures)
 
 returns-2 : tie.Need-returns-2
 unfolding rowFields
-returns-2 c =     let h = c .before .before in
+returns-2 c = let h = c .before .before in
     let l = now (h .before .args .case) in
     let row = h .before .args .row in
     stopped (stationHead l row) (partFields l row) (h .station-head .ensures) (c .enum-told2 .given .1)

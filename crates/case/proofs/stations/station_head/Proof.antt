@@ -66,7 +66,7 @@ or-else-requires-4 c κs = search needs
 
 returns : tie.Need-returns
 unfolding stationHead
-returns c =     let u = c .before .before .before .before .before .before .before .before .before in
+returns c = let u = c .before .before .before .before .before .before .before .before .before in
     let t = u .before .before in
     let s = t .before .before in
     let e : toZ w64 (ofZ w64 (t .last .result)) ≡ lastOf (directionsAt (now (s .args .case)) (s .args .row)) = kept _ (t .last .ok) ∙ t .last .ensures ∙ ap lastOf (first-is (s .args .row) (t .before .count .ensures)) in

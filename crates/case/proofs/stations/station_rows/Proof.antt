@@ -34,7 +34,7 @@ enum-told-2 c = search needs
 
 returns : tie.Need-returns Inv-loop μ-loop
 unfolding stationFields
-returns c =     let b = c .before .before in
+returns c = let b = c .before .before in
     let t = b .before in
     let h = t .before in
     let s = h .before in
@@ -54,7 +54,7 @@ loop-less c = omega arith
 
 loop-again : tie.Need-loop-again Inv-loop μ-loop
 unfolding stationFields
-loop-again c =     let b = c .before .before .before in
+loop-again c = let b = c .before .before .before in
     let t = b .before in
     let h = t .before in
     let s = h .before in
@@ -62,18 +62,19 @@ loop-again c =     let b = c .before .before .before in
     let i = h .loop .s in
     let q : b .station-fields .result ≡ firstNo (stationFields l i) = b .station-fields .ensures ∙ ap (λ (r : ℕ). firstNo (rowFields l r)) (h .loop .inv .1) in
     let y = c .before .enum-told .given .1 in
-    let k = row-counted l (h .loop .row) (sym (b .station-fields .ensures) ∙ y) in
-    (omega arith,
-    c .station-end .ensures ∙ ap (stationEnd l) (h .loop .inv .1) ∙ sym (station-next l i),
-    omega (arith, c .station-end .ensures, end-most l (h .loop .row) k, h .loop .inv .2),
-    rest-on (stationFields l) i (s .args .stations) (h .loop .inv .3) (t .loop-test .taken) q y)
+    let k = row-counted l (h .loop .row) (sym (b .station-fields .ensures) ∙ y) in (
+      omega arith,
+      c .station-end .ensures ∙ ap (stationEnd l) (h .loop .inv .1) ∙ sym (station-next l i),
+      omega (arith, c .station-end .ensures, end-most l (h .loop .row) k, h .loop .inv .2),
+      rest-on (stationFields l) i (s .args .stations) (h .loop .inv .3) (t .loop-test .taken) q y,
+    )
 
 ask-requires : tie.Need-ask-requires Inv-loop μ-loop
 ask-requires c κs = search needs
 
 returns-2 : tie.Need-returns-2 Inv-loop μ-loop
 unfolding leftover
-returns-2 c =     let h = c .before .before in
+returns-2 c = let h = c .before .before in
     let s = h .before in
     let l = now (s .args .case) in
     let e : h .loop .s ≡ stationsOf l = omega (arith, s .pre .3, c .before .loop-test .left, h .loop .inv .0) in
