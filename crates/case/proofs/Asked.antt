@@ -1,6 +1,6 @@
 -- Answers to questions that are asked one group after the other.
 -- Assumes nothing.
-use mathlib.Core.Path.{_≡_, refl, sym, ap, ap₂, _∙_}
+use mathlib.Core.Path.{_≡_, sym, ap, ap₂, _∙_}
 use mathlib.Core.List.{List, _++_}
 use Prim.Native.Nat.{ℕ}
 use Rattle.numbers.specs.Question.{Question, firstNo, firstNo-append, orElse}

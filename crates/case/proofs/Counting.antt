@@ -1,22 +1,21 @@
 -- What the questions that have let a count pass say of it.
 -- Assumes nothing.
-use mathlib.Core.Path.{_≡_, refl, sym, ap, _∙_}
+use mathlib.Core.Path.{_≡_, ap, _∙_}
 use mathlib.Core.List.{List}
-use Prim.Native.Nat.{ℕ, suc, _+_, _*_, _-_, _%_, _^_, _<_, _≤_}
+use Prim.Native.Nat.{ℕ, _+_, _*_, _-_, _%_, _^_, _<_, _≤_}
 use native.Mathlib.Nat.{add-zero, mul-le-mul}
 use native.Mathlib.Numerals.{add-one}
 use native.Mathlib.Omega.{arith}
 use lib.IntN.{ℤ, pos, _+ℤ_}
-use lib.ListN.{length}
-use lib.Pow.{pow-lt, pow-pos}
+use lib.Pow.{pow-lt}
 use native.Mathlib.Nat.{mod-eq-of-lt, one-mul}
 use Rattle.numbers.specs.SignedParts.{ints, added, size}
 use Rattle.numbers.specs.SignedBounds.{Bounded}
 use Rattle.numbers.specs.Question.{firstNo}
 use Rattle.numbers.specs.declared.answer.Answer.the-variants.{Yes}
-use Rattle.case.specs.Layout.{countAt, numberAt, timeAt}
+use Rattle.case.specs.Layout.{countAt, timeAt}
 use Rattle.case.specs.Records.{timeOf, timeBefore}
-use Rattle.case.specs.InRange.{InRange, field-yes}
+use Rattle.case.specs.InRange.{field-yes}
 use Rattle.case.specs.TimeFields.{timeField}
 use Rattle.case.specs.Bounds.{Counts}
 

@@ -1,16 +1,14 @@
 -- Rows that begin at an offset, and the questions of one row.
 -- Assumes nothing.
-use mathlib.Core.Path.{_≡_, refl, sym, ap, _∙_}
+use mathlib.Core.Path.{_≡_}
 use mathlib.Core.List.{List}
-use Prim.Native.Nat.{ℕ, _+_, _*_, _<_, _≤_}
+use Prim.Native.Nat.{ℕ, _+_, _*_}
 use native.Mathlib.Omega.{arith}
 use lib.IntN.{ℤ}
 use Rattle.numbers.specs.Question.{firstNo, firstNo-append, orElse}
 use Rattle.numbers.specs.declared.answer.Answer.{Answer}
 use Rattle.case.specs.Layout.{nodesOf, arcsOf, stepsOf, nodeAt, arcAt, directionsAt, directionAt, stateAt, machineAt, stationAt}
-use Rattle.case.specs.Field.{field, fields}
 use Rattle.case.specs.ArcFields.{endFields, kindFields, arcFields}
-use Rattle.case.specs.StationFields.{directionFields, stateRowFields, stateFields, machineFields, firstItems}
 use Rattle.case.proofs.Asked.{chain}
 
 pub arc-row : (l : List ℤ) (e : ℕ) {first : ℕ} → first ≡ arcAt l 0 → first + e * 11 ≡ arcAt l e

@@ -5,15 +5,15 @@ use mathlib.Core.Bool.{Bool, true, false}
 use mathlib.Core.List.{List, [], _∷_}
 use Prim.Native.Nat.{ℕ, _<_, _≤_}
 use borrow.Author.Tests.{le-leb, lt-leb}
-use lib.IntN.{ℤ, pos}
+use lib.IntN.{ℤ}
 use Rattle.numbers.specs.Sets.{memberOf}
 use Rattle.numbers.specs.Sum.{count}
 use Rattle.numbers.specs.Question.{firstNo, answer}
 use Rattle.numbers.specs.declared.answer.Answer.the-variants.{Yes, No}
 use Rattle.case.specs.declared.records.Layout.{Layout}
-use Rattle.case.specs.Layout.{stationsOf, arcsOf, stationAt, directionsAt}
+use Rattle.case.specs.Layout.{stationsOf, stationAt, directionsAt}
 use Rattle.case.specs.Laid.{Laid, inSet}
-use Rattle.case.specs.StationArcs.{arcsBefore, stationArcs, every}
+use Rattle.case.specs.StationArcs.{stationArcs, every}
 use Rattle.case.specs.StationNodes.{stationNodes, plainNodes}
 use Rattle.case.specs.OneStation.{inStation, oneStation}
 use Rattle.case.specs.StationSize.{stationSize}

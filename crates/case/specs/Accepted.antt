@@ -2,28 +2,26 @@
 -- and the rules say what they say of its arcs, nodes and stations.
 -- Assumes nothing.
 use mathlib.Core.Path.{_≡_, refl, sym, ap, _∙_, subst}
-use mathlib.Core.Bool.{Bool, true, false, not, _&&_, _||_, cond}
-use mathlib.Core.List.{List, [], _++_}
-use Prim.Native.Nat.{ℕ, zero, suc, _+_, _*_, _-_, _^_, _<_, _≤_, max}
-use native.Mathlib.Numerals.{add-one}
+use mathlib.Core.Bool.{Bool, true, false, _&&_, cond}
+use mathlib.Core.List.{List, []}
+use Prim.Native.Nat.{ℕ, zero, suc, _+_, _*_, _<_, _≤_}
 use native.Mathlib.Omega.{arith}
-use borrow.Author.Tests.{leb-true, le-leb, lt-leb, eqb-true, eqb-false, not-true, eq-eqb, ne-eqb}
+use borrow.Author.Tests.{leb-true, lt-leb, eqb-false, not-true, ne-eqb}
 use lib.Dec.{eqb, leb}
-use lib.IntN.{ℤ, pos, negsuc, natAbs, _+ℤ_, _-ℤ_}
+use lib.IntN.{ℤ, pos, negsuc, _+ℤ_, _-ℤ_}
 use lib.ListN.{length}
-use lib.Signed.{leZ}
-use Rattle.numbers.specs.Told.{Told, gives}
-use Rattle.numbers.specs.SignedParts.{posPart, ints, added, taken, size}
+use Rattle.numbers.specs.Told.{gives}
+use Rattle.numbers.specs.SignedParts.{ints, added, taken, size}
 use Rattle.numbers.specs.SignedBounds.{Bounded}
 use Rattle.numbers.specs.Sets.{disjointOf, subsetOf}
 use Rattle.numbers.specs.Sum.{count}
-use Rattle.numbers.specs.Question.{Question, firstNo, told, told-same, AllYes, all-yes, none-no}
+use Rattle.numbers.specs.Question.{firstNo, told, told-same, AllYes, all-yes, none-no}
 use Rattle.numbers.specs.Items.{over}
 use Rattle.numbers.specs.declared.answer.Answer.{Answer}
-use Rattle.numbers.specs.declared.answer.Answer.the-variants.{Yes, No}
+use Rattle.numbers.specs.declared.answer.Answer.the-variants.{Yes}
 use Rattle.case.specs.Layout.{numberAt, countAt, nodesOf, arcsOf, stationsOf, stepsOf, massTolerance, pressureTolerance, timeAt, nodeAt, arcAt, directionsAt, statesAt, machinesAt, directionAt, stateAt, machineAt, stationAt, caseEnd}
-use Rattle.case.specs.Records.{timeOf, timeBefore, nodeOf, arcOf, pipeOf, artificialOf, stationRow, stationOf, directionOf, stateOf, machineOf}
-use Rattle.case.specs.Field.{field, fields, lastOf, mostPressure, mostFlow, mostWeight}
+use Rattle.case.specs.Records.{timeOf, timeBefore, nodeOf, arcOf, pipeOf, artificialOf, stationOf, directionOf, stateOf, machineOf}
+use Rattle.case.specs.Field.{field, lastOf, mostPressure, mostFlow, mostWeight}
 use Rattle.case.specs.HeadFields.{headFields, countFields, toleranceFields}
 use Rattle.case.specs.TimeFields.{timeField, timeFields}
 use Rattle.case.specs.NodeFields.{boundFields, demandFields, nodeFields, allNodeFields, leastDemand, mostDemand}

@@ -1,19 +1,18 @@
 -- What a field is known to be once 10 and 11 have let it pass.
 -- Assumes nothing.
-use mathlib.Core.Path.{_≡_, refl, sym, ap, _∙_}
+use mathlib.Core.Path.{_≡_, refl, sym, _∙_}
 use mathlib.Core.Bool.{Bool, true, false, _&&_}
 use mathlib.Core.List.{List, _++_}
 use Prim.Native.Nat.{ℕ, _+_, _<_, _≤_}
 use native.Mathlib.Omega.{arith}
 use borrow.Author.Tests.{ltb-true}
-use lib.IntN.{ℤ, pos, natAbs}
+use lib.IntN.{ℤ, pos}
 use lib.ListN.{length}
 use lib.Signed.{leZ}
-use Rattle.numbers.specs.SignedParts.{posPart, ints, size}
+use Rattle.numbers.specs.SignedParts.{ints, size}
 use Rattle.numbers.specs.Question.{Question, firstNo, firstNo-append, orElse-first, orElse-second, all-yes}
 use Rattle.numbers.specs.Items.{over, over-yes}
-use Rattle.numbers.specs.declared.answer.Answer.{Answer}
-use Rattle.numbers.specs.declared.answer.Answer.the-variants.{Yes, No}
+use Rattle.numbers.specs.declared.answer.Answer.the-variants.{Yes}
 use Rattle.case.specs.Layout.{numberAt, countAt}
 use Rattle.case.specs.Field.{field, fields, nextField}
 

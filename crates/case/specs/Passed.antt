@@ -1,18 +1,16 @@
 -- What the counts are known to be once their questions have let them pass, and what that says of offsets.
 -- Assumes nothing.
-use mathlib.Core.Path.{_≡_, refl, sym, ap, _∙_}
+use mathlib.Core.Path.{_≡_, refl}
 use mathlib.Core.List.{List, _++_}
-use Prim.Native.Nat.{ℕ, zero, suc, _+_, _*_, _<_, _≤_}
+use Prim.Native.Nat.{ℕ, _+_, _<_, _≤_}
 use native.Mathlib.Nat.{mul-le-mul}
 use native.Mathlib.Numerals.{add-one}
 use native.Mathlib.Omega.{arith}
 use borrow.Author.Tests.{leb-true}
 use lib.IntN.{ℤ, pos}
-use Rattle.numbers.specs.Question.{Question, firstNo, all-yes}
-use Rattle.numbers.specs.Items.{over}
+use Rattle.numbers.specs.Question.{firstNo, all-yes}
 use Rattle.numbers.specs.declared.answer.Answer.the-variants.{Yes}
-use Rattle.case.specs.Layout.{nodesOf, arcsOf, stationsOf, stepsOf, directionsAt, statesAt, machinesAt, nodeAt, arcAt, directionAt, stateAt, machineAt, stationEnd, stationAt}
-use Rattle.case.specs.Field.{field, lastOf}
+use Rattle.case.specs.Layout.{arcsOf, stationsOf, stepsOf, nodeAt, arcAt, directionAt, stateAt, machineAt, stationEnd, stationAt}
 use Rattle.case.specs.HeadFields.{countFields, toleranceFields, headFields}
 use Rattle.case.specs.TimeFields.{timeFields}
 use Rattle.case.specs.NodeFields.{allNodeFields}
@@ -24,7 +22,7 @@ use Rattle.case.specs.OneStation.{allOneStation}
 use Rattle.case.specs.StationSize.{stationSize, allStationSizes}
 use Rattle.case.specs.Directions.{allDirectionSets}
 use Rattle.case.specs.Judged.{rowQuestions, listQuestions, earlyRules}
-use Rattle.case.specs.InRange.{InRange, first-yes, second-yes, item-yes, field-yes, field-then, count-most, count-least}
+use Rattle.case.specs.InRange.{first-yes, second-yes, item-yes, field-yes, field-then, count-most, count-least}
 use Rattle.case.specs.Bounds.{Counted, StationCounted, StationsCounted, Sized}
 
 module _ (case : List ℤ) where

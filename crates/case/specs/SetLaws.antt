@@ -4,9 +4,8 @@ use mathlib.Core.Path.{_≡_, refl, sym, ap, _∙_}
 use mathlib.Core.Bool.{Bool, true, false}
 use mathlib.Core.List.{List}
 use mathlib.Core.Logic.{_⊎_, inl, inr, ⊎-elim}
-use Prim.Native.Nat.{ℕ, zero, suc, _+_, _*_, _/_, _%_, _^_, _<_, _≤_, max}
+use Prim.Native.Nat.{ℕ, zero, suc, _+_, _*_, _/_, _^_, _<_, _≤_, max}
 use native.Mathlib.Nat.{pow-suc, one-mul, add-comm}
-use native.Mathlib.Numerals.{add-one}
 use native.Mathlib.Omega.{arith}
 use borrow.Author.Tests.{ltb-true, ltb-false, lt-ltb, eqb-true, eq-eqb, ne-eqb}
 use lib.Bits.{bitOr, or-shr, or-step, or-shifted}
@@ -17,7 +16,7 @@ use Rattle.numbers.specs.Sum.{sumN, onlyN}
 use Rattle.case.specs.Layout.{arcsOf}
 use Rattle.case.specs.Records.{arcOf}
 use Rattle.case.specs.StationArcs.{belongs, arcsBefore, arcBit, arcSet}
-use Rattle.case.specs.StationNodes.{withNode, withEnds, endsOf, stationNodes, plain, plainNodes}
+use Rattle.case.specs.StationNodes.{withNode, endsOf, stationNodes, plain, plainNodes}
 use Rattle.case.specs.CountLaws.{before-yes, before-mono, arcs-lt}
 
 -- ---- items of a union, and of a set of one item

@@ -4,7 +4,7 @@ use mathlib.Core.Bool.{Bool, true, _&&_}
 use mathlib.Core.List.{List}
 use Prim.Native.Nat.{ℕ, zero, suc, _^_}
 use lib.Dec.{eqb, leb}
-use lib.IntN.{ℤ, pos}
+use lib.IntN.{ℤ}
 use Rattle.numbers.specs.Sum.{sumN, onlyN, count}
 use Rattle.case.specs.Layout.{arcsOf}
 use Rattle.case.specs.Records.{arcOf, artificialOf}

@@ -5,8 +5,12 @@ ghost use Rattle.numbers.specs.Question.{firstNo};
 ghost use Rattle.numbers.specs.Items.{over};
 ghost use Rattle.case.specs.Layout.{countAt, arcAt};
 ghost use Rattle.case.specs.ArcFields.{endFields, pipeFields, leastBothWays, memberFields, compressorFields, kindFields, arcFields};
+use super::fields::MOST_FLOW;
+use super::fields::MOST_PRESSURE;
+use super::fields::MOST_WEIGHT;
 use super::fields::field;
 use super::fields::fields;
+use super::offsets::ARC;
 use super::offsets::count;
 use super::offsets::last;
 use numbers::answer::Answer;
@@ -16,12 +20,12 @@ fn end_fields(case: &[i64], row: usize) -> Answer
     requires { ⌜ row < 10000 ⌝ }
     ensures { λ r. ⌜ r ≡ firstNo (endFields (now (case .entry)) row) ⌝ }
 {
-    let last_node = last(count(case, 1, 0));
+    let last_node = last(count(case, 0, 1));
     or_else(
         field(case, row, 0, 6),
         or_else(
             fields(case, row + 1, 2, 0, last_node),
-            field(case, row + 3, 0, 10000000),
+            field(case, row + 3, 0, MOST_FLOW),
         ),
     )
 }
@@ -53,13 +57,16 @@ fn member_fields(case: &[i64], row: usize, kind: usize) -> Answer
     requires { ⌜ (row < 10000) × (kind ≡ countAt (now case) row) ⌝ }
     ensures { λ r. ⌜ r ≡ firstNo (memberFields (now (case .entry)) row) ⌝ }
 {
-    let last_station = last(count(case, 3, 0));
+    let last_station = last(count(case, 0, 3));
     let least = least_both_ways(kind);
     or_else(
         field(case, row + 4, 0, last_station),
         or_else(
             field(case, row + 5, least, 1),
-            or_else(field(case, row + 6, 0, 1000000), field(case, row + 7, 0, 1)),
+            or_else(
+                field(case, row + 6, 0, MOST_WEIGHT),
+                field(case, row + 7, 0, 1),
+            ),
         ),
     )
 }
@@ -72,7 +79,7 @@ fn compressor_fields(case: &[i64], row: usize) -> Answer
         field(case, row + 8, 0, 4095),
         or_else(
             field(case, row + 9, 0, 12),
-            field(case, row + 10, 0, 200000),
+            field(case, row + 10, 0, MOST_PRESSURE),
         ),
     )
 }
@@ -100,7 +107,7 @@ pub(crate) fn arc_rows(case: &[i64], first: usize, arcs: usize) -> Answer
 {
     let mut e: usize = 0;
     while e < arcs {
-        let row = first + e * 11;
+        let row = first + e * ARC;
         let a = or_else(end_fields(case, row), kind_fields(case, row));
         match a {
             Answer::Yes => {}

@@ -7,6 +7,14 @@ use numbers::answer::Answer;
 use numbers::answer::ask;
 use numbers::compare::within;
 
+// Limits that several fields share.
+pub(crate) const MOST_PRESSURE: i64 = 200000;
+
+pub(crate) const LEAST_FLOW: i64 = -10000000;
+pub(crate) const MOST_FLOW: i64 = 10000000;
+
+pub(crate) const MOST_WEIGHT: i64 = 1000000;
+
 pub(crate) fn field(case: &[i64], i: usize, low: i64, high: i64) -> Answer
     ensures { λ r. ⌜ r ≡ firstNo (field (now (case .entry)) i low high) ⌝ }
 {

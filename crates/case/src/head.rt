@@ -1,6 +1,6 @@
 // 10 and 11 of the head and of the times.
 ghost use mathlib.Core.Path.{_≡_};
-ghost use Prim.Native.Nat.{_*_, _<_, _≤_};
+ghost use Prim.Native.Nat.{_<_, _≤_};
 ghost use Rattle.numbers.specs.Question.{firstNo};
 ghost use Rattle.numbers.specs.Items.{over};
 ghost use Rattle.numbers.specs.SignedBounds.{Bounded};
@@ -8,6 +8,7 @@ ghost use Rattle.case.specs.Records.{timeBefore};
 ghost use Rattle.case.specs.HeadFields.{countFields, headFields};
 ghost use Rattle.case.specs.TimeFields.{timeField};
 use super::fields::field;
+use super::offsets::HEAD;
 use super::read::time_before;
 use numbers::answer::Answer;
 use numbers::answer::or_else;
@@ -43,7 +44,7 @@ fn time_field(case: &[i64], i: usize) -> Answer
     ensures { λ r. ⌜ r ≡ firstNo (timeField (now (case .entry)) i) ⌝ }
 {
     let before = time_before(case, i);
-    field(case, 7 + i, before + 1, before + 86400)
+    field(case, HEAD + i, before + 1, before + 86400)
 }
 
 pub(crate) fn times(case: &[i64], steps: usize) -> Answer

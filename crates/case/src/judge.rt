@@ -15,6 +15,9 @@ use super::head::times;
 use super::members::plain_nodes;
 use super::members::station_nodes;
 use super::nodes::node_rows;
+use super::offsets::ARC;
+use super::offsets::HEAD;
+use super::offsets::NODE;
 use super::offsets::count;
 use super::records::Layout;
 use super::rules::rules;
@@ -28,18 +31,18 @@ fn rows(case: &[i64]) -> Answer
     requires { ⌜ Counted (now case) ⌝ }
     ensures { λ r. ⌜ r ≡ firstNo (rowQuestions (now (case .entry))) ⌝ }
 {
-    let nodes = count(case, 1, 0);
-    let arcs = count(case, 2, 0);
-    let stations = count(case, 3, 0);
-    let steps = count(case, 4, 0);
-    let first_arc = 7 + steps + nodes * (6 + steps);
+    let nodes = count(case, 0, 1);
+    let arcs = count(case, 0, 2);
+    let stations = count(case, 0, 3);
+    let steps = count(case, 0, 4);
+    let first_arc = HEAD + steps + nodes * (NODE + steps);
     or_else(
         times(case, steps),
         or_else(
             node_rows(case, steps, nodes),
             or_else(
                 arc_rows(case, first_arc, arcs),
-                station_rows(case, first_arc + arcs * 11, stations),
+                station_rows(case, first_arc + arcs * ARC, stations),
             ),
         ),
     )
@@ -95,11 +98,11 @@ fn lay(case: &[i64]) -> Layout
     requires { ⌜ (Counted (now case)) × (StationsCounted (now case)) ⌝ }
     ensures { λ r. ⌜ Laid (now (case .entry)) r ⌝ }
 {
-    let nodes = count(case, 1, 0);
-    let arcs = count(case, 2, 0);
-    let stations = count(case, 3, 0);
-    let steps = count(case, 4, 0);
-    let first = 7 + steps + nodes * (6 + steps) + arcs * 11;
+    let nodes = count(case, 0, 1);
+    let arcs = count(case, 0, 2);
+    let stations = count(case, 0, 3);
+    let steps = count(case, 0, 4);
+    let first = HEAD + steps + nodes * (NODE + steps) + arcs * ARC;
     let rows = station_firsts(case, first, stations);
     let inside = insides(case, arcs, stations);
     Layout {

@@ -5,8 +5,13 @@ ghost use Rattle.numbers.specs.Question.{firstNo};
 ghost use Rattle.numbers.specs.Items.{over};
 ghost use Rattle.case.specs.Layout.{stepsOf};
 ghost use Rattle.case.specs.NodeFields.{boundFields, demandFields, nodeFields};
+use super::fields::LEAST_FLOW;
+use super::fields::MOST_FLOW;
+use super::fields::MOST_PRESSURE;
 use super::fields::field;
 use super::fields::fields;
+use super::offsets::HEAD;
+use super::offsets::NODE;
 use super::offsets::count;
 use super::offsets::number;
 use numbers::answer::Answer;
@@ -22,9 +27,9 @@ fn bound_fields(case: &[i64], row: usize) -> Answer
     or_else(
         field(case, row, 0, 2),
         or_else(
-            fields(case, row + 1, 3, 0, 200000),
+            fields(case, row + 1, 3, 0, MOST_PRESSURE),
             or_else(
-                field(case, row + 4, low, 200000),
+                field(case, row + 4, low, MOST_PRESSURE),
                 field(case, row + 5, actlow, high),
             ),
         ),
@@ -38,9 +43,9 @@ fn demand_fields(case: &[i64], row: usize, steps: usize) -> Answer
 {
     let kind = count(case, row, 0);
     match kind {
-        1 => fields(case, row + 6, steps, 0, 10000000),
-        2 => fields(case, row + 6, steps, -10000000, 0),
-        _ => fields(case, row + 6, steps, 0, 0),
+        1 => fields(case, row + NODE, steps, 0, MOST_FLOW),
+        2 => fields(case, row + NODE, steps, LEAST_FLOW, 0),
+        _ => fields(case, row + NODE, steps, 0, 0),
     }
 }
 
@@ -48,7 +53,7 @@ fn node_fields(case: &[i64], steps: usize, v: usize) -> Answer
     requires { ⌜ (v < 60) × (steps ≤ 48) × (steps ≡ stepsOf (now case)) ⌝ }
     ensures { λ r. ⌜ r ≡ firstNo (nodeFields (now (case .entry)) v) ⌝ }
 {
-    let row = 7 + steps + v * (6 + steps);
+    let row = HEAD + steps + v * (NODE + steps);
     or_else(bound_fields(case, row), demand_fields(case, row, steps))
 }
 

@@ -7,6 +7,21 @@ ghost use Rattle.case.specs.Bounds.{Counts};
 ghost use Rattle.case.specs.Field.{lastOf};
 use numbers::compare::index;
 
+// How many numbers the rows have; a node's row has a demand for each step besides.
+pub(crate) const HEAD: usize = 7;
+
+pub(crate) const NODE: usize = 6;
+
+pub(crate) const ARC: usize = 11;
+
+pub(crate) const STATION: usize = 5;
+
+pub(crate) const DIRECTION: usize = 3;
+
+pub(crate) const STATE: usize = 4;
+
+pub(crate) const MACHINE: usize = 2;
+
 // The number `j` places into the row that begins at `row`.
 pub(crate) fn number(case: &[i64], row: usize, j: usize) -> i64
     ensures { λ r. ⌜ r ≡ numberAt (now (case .entry)) (row + j) ⌝ }
@@ -42,36 +57,36 @@ pub(crate) fn along(end: usize, at: usize, count: usize, width: usize) -> usize
 pub(crate) fn node_at(case: &[i64], v: usize) -> usize
     ensures { λ r. ⌜ r ≡ min (nodeAt (now (case .entry)) v) (length (now (case .entry))) ⌝ }
 {
-    let steps = count(case, 4, 0);
-    along(case.len(), 7 + steps, v, 6 + steps)
+    let steps = count(case, 0, 4);
+    along(case.len(), HEAD + steps, v, NODE + steps)
 }
 
 pub(crate) fn arc_at(case: &[i64], e: usize) -> usize
     ensures { λ r. ⌜ r ≡ min (arcAt (now (case .entry)) e) (length (now (case .entry))) ⌝ }
 {
-    let nodes = count(case, 1, 0);
-    along(case.len(), node_at(case, nodes), e, 11)
+    let nodes = count(case, 0, 1);
+    along(case.len(), node_at(case, nodes), e, ARC)
 }
 
 pub(crate) fn direction_at(case: &[i64], row: usize, f: usize) -> usize
     ensures { λ r. ⌜ r ≡ min (directionAt row f) (length (now (case .entry))) ⌝ }
 {
     let end = case.len();
-    along(end, along(end, row, 5, 1), f, 3)
+    along(end, along(end, row, STATION, 1), f, DIRECTION)
 }
 
 pub(crate) fn state_at(case: &[i64], row: usize, z: usize) -> usize
     ensures { λ r. ⌜ r ≡ min (stateAt (now (case .entry)) row z) (length (now (case .entry))) ⌝ }
 {
     let directions = count(case, row, 0);
-    along(case.len(), direction_at(case, row, directions), z, 4)
+    along(case.len(), direction_at(case, row, directions), z, STATE)
 }
 
 pub(crate) fn machine_at(case: &[i64], row: usize, m: usize) -> usize
     ensures { λ r. ⌜ r ≡ min (machineAt (now (case .entry)) row m) (length (now (case .entry))) ⌝ }
 {
     let states = count(case, row, 1);
-    along(case.len(), state_at(case, row, states), m, 2)
+    along(case.len(), state_at(case, row, states), m, MACHINE)
 }
 
 // The last index of `n` items, -1 where there are none.

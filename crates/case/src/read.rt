@@ -3,6 +3,8 @@ ghost use mathlib.Core.Path.{_≡_};
 ghost use Prim.Native.Nat.{_+_};
 ghost use Rattle.case.specs.Layout.{numberAt};
 ghost use Rattle.case.specs.Records.{timeOf, timeBefore, nodeOf, arcOf, pipeOf, artificialOf, stationRow, directionRow, stateRow, machineRow};
+use super::offsets::HEAD;
+use super::offsets::NODE;
 use super::offsets::arc_at;
 use super::offsets::count;
 use super::offsets::direction_at;
@@ -23,7 +25,7 @@ use super::records::Station;
 pub fn time(case: &[i64], i: usize) -> i64
     ensures { λ r. ⌜ r ≡ timeOf (now (case .entry)) i ⌝ }
 {
-    number(case, 7, i)
+    number(case, HEAD, i)
 }
 
 // The time at which it begins.
@@ -53,7 +55,7 @@ fn demand(case: &[i64], row: usize, i: usize) -> i64
     ensures { λ r. ⌜ r ≡ numberAt (now (case .entry)) (row + (6 + i)) ⌝ }
 {
     if i < case.len() {
-        number(case, row, 6 + i)
+        number(case, row, NODE + i)
     } else {
         0
     }

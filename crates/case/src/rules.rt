@@ -25,7 +25,6 @@ use super::read::station;
 use super::records::Layout;
 use super::stations::first_items;
 use numbers::answer::Answer;
-use numbers::answer::ask;
 use numbers::answer::or_else;
 use numbers::sets::disjoint;
 use numbers::sets::member;

@@ -8,8 +8,14 @@ ghost use Rattle.case.specs.Layout.{directionsAt, machineAt, stationEnd,
 ghost use Rattle.case.specs.Bounds.{StationCounted};
 ghost use Rattle.case.specs.StationFields.{firstItems, stationHead, directionFields, stateRowFields, stateFields, machineFields, partFields, rowFields, allStationFields};
 ghost use Rattle.case.specs.Leftover.{leftover};
+use super::fields::MOST_FLOW;
+use super::fields::MOST_WEIGHT;
 use super::fields::field;
 use super::fields::fields;
+use super::offsets::DIRECTION;
+use super::offsets::MACHINE;
+use super::offsets::STATE;
+use super::offsets::STATION;
 use super::offsets::count;
 use super::offsets::last;
 use numbers::answer::Answer;
@@ -51,10 +57,10 @@ fn direction_rows(case: &[i64], row: usize, directions: usize) -> Answer
 {
     let mut f: usize = 0;
     while f < directions {
-        let at = row + 5 + f * 3;
+        let at = row + STATION + f * DIRECTION;
         let a = or_else(
             fields(case, at, 2, 0, 1152921504606846975),
-            field(case, at + 2, 0, 1000000),
+            field(case, at + 2, 0, MOST_WEIGHT),
         );
         match a {
             Answer::Yes => {}
@@ -79,7 +85,7 @@ fn state_fields(case: &[i64], at: usize, sets: i64) -> Answer
         field(case, at, 0, sets),
         or_else(
             fields(case, at + 1, 2, 0, 1073741823),
-            field(case, at + 3, 0, 1000000),
+            field(case, at + 3, 0, MOST_WEIGHT),
         ),
     )
 }
@@ -89,10 +95,10 @@ fn state_rows(case: &[i64], row: usize, directions: usize, states: usize) -> Ans
     ensures { λ r. ⌜ r ≡ firstNo (over (stateFields (now (case .entry)) row) 0 states) ⌝ }
 {
     let sets = first_items(directions);
-    let first = row + 5 + directions * 3;
+    let first = row + STATION + directions * DIRECTION;
     let mut z: usize = 0;
     while z < states {
-        let a = state_fields(case, first + z * 4, sets);
+        let a = state_fields(case, first + z * STATE, sets);
         match a {
             Answer::Yes => {}
             Answer::No {
@@ -114,9 +120,9 @@ fn machine_rows(case: &[i64], row: usize, first: usize, machines: usize) -> Answ
 {
     let mut m: usize = 0;
     while m < machines {
-        let at = first + m * 2;
+        let at = first + m * MACHINE;
         let a = or_else(
-            field(case, at, 0, 10000000),
+            field(case, at, 0, MOST_FLOW),
             field(case, at + 1, 1001, 10000),
         );
         match a {
@@ -146,7 +152,12 @@ fn part_rows(case: &[i64], row: usize) -> Answer
         direction_rows(case, row, directions),
         or_else(
             state_rows(case, row, directions, states),
-            machine_rows(case, row, row + 5 + directions * 3 + states * 4, machines),
+            machine_rows(
+                case,
+                row,
+                row + STATION + directions * DIRECTION + states * STATE,
+                machines,
+            ),
         ),
     )
 }
@@ -175,7 +186,7 @@ pub(crate) fn station_end(case: &[i64], row: usize) -> usize
     let directions = count(case, row, 0);
     let states = count(case, row, 1);
     let machines = count(case, row, 2);
-    row + 5 + directions * 3 + states * 4 + machines * 2
+    row + STATION + directions * DIRECTION + states * STATE + machines * MACHINE
 }
 
 // All stations' rows, and then 12.
