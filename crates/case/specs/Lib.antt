@@ -24,3 +24,4 @@ pub mod Laid
 pub mod LaidLaws
 pub mod Ranges
 pub mod Accepted
+pub mod Example
