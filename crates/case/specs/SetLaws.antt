@@ -59,6 +59,7 @@ node-only set v i h = go (ltb v 60) refl
     by : (b : Bool) → eqb v i ≡ b → bit (bitOr set (2 ^ v)) i ≡ 1 → (bit set i ≡ 1) ⊎ (v ≡ i)
     by true e g = inr (eqb-true v i e)
     by false e g = inl (omega (arith, g, bit-or set (2 ^ v) i, bit-pow v i ∙ ap (λ (b : Bool). onlyN b 1) e))
+
     go : (b : Bool) → ltb v 60 ≡ b → (bit set i ≡ 1) ⊎ (v ≡ i)
     go true e = by (eqb v i) refl (rw e at h)
     go false e = inl (rw e at h)
@@ -94,6 +95,7 @@ module _ (case : List ℤ) (w : ℕ → Bool) where
         where
           most : (set : ℕ) → bit set v ≡ 1 → bit (withNode set (arcOf case n .to)) v ≡ 1
           most set y = omega (arith, node-keeps set (arcOf case n .to) v, y)
+
       go : (e < n → bit (endsOf case w n) v ≡ 1) → (b : Bool) → ltb e n ≡ b → bit (endsOf case w (suc n)) v ≡ 1
       go r true q = omega (arith, r (ltb-true e n q), ends-keeps n v)
       go r false q = let z : e ≡ n = omega (arith, ltb-false e n q) in last (rw z at h) (rw z at d)
@@ -108,11 +110,12 @@ module _ (case : List ℤ) (w : ℕ → Bool) where
     where
       this : w n ≡ true → (arcOf case n .from ≡ v) ⊎ (arcOf case n .to ≡ v) → Ends case w (suc n) v
       this k x = record { arc = n; early = omega arith; named = k; ends = x }
+
       go : (bit (endsOf case w n) v ≡ 1 → Ends case w (suc n) v) → (b : Bool) → w n ≡ b → Ends case w (suc n) v
       go r true k =
           ⊎-elim
           (λ (y : bit (withNode (endsOf case w n) (arcOf case n .from)) v ≡ 1).
-              ⊎-elim (λ (x : bit (endsOf case w n) v ≡ 1). r x) (λ (x : arcOf case n .from ≡ v). this k (inl x)) (node-only (endsOf case w n) (arcOf case n .from) v y))
+          ⊎-elim (λ (x : bit (endsOf case w n) v ≡ 1). r x) (λ (x : arcOf case n .from ≡ v). this k (inl x)) (node-only (endsOf case w n) (arcOf case n .from) v y))
           (λ (y : arcOf case n .to ≡ v). this k (inr y))
           (node-only (withNode (endsOf case w n) (arcOf case n .from)) (arcOf case n .to) v (rw k at h))
       go r false k = r (rw k at h)
@@ -157,6 +160,7 @@ module _ (case : List ℤ) (s : ℕ) (w : ℕ → Bool) where
           rw (y, z) (omega (arith, r, rw k at (top (arcsBefore case s n) (arcSet case s w n) (arcsBefore case s e) (arcs-lt case s w n))))
       others q true false y z r = let o : sumN n (arcBit case s w) + 0 ≡ sumN n (arcBit case s w) = omega arith in rw (y, z, o) r
       others q false v y z r = let o : sumN n (arcBit case s w) + 0 ≡ sumN n (arcBit case s w) = omega arith in rw (y, o) r
+
       -- its own
       own : (v : Bool) → belongs case s n ≡ true → w n ≡ v → bit (arcSet case s w (suc n)) (arcsBefore case s n) ≡ onlyN (w n) 1
       own true y z =
@@ -166,6 +170,7 @@ module _ (case : List ℤ) (s : ℕ) (w : ℕ → Bool) where
       own false y z =
           let o : sumN n (arcBit case s w) + 0 ≡ sumN n (arcBit case s w) = omega arith in
           rw (y, z, o) (bit-high (arcsBefore case s n) (arcSet case s w n) (arcsBefore case s n) (arcs-lt case s w n) (omega arith))
+
       go : (e < n → bit (arcSet case s w n) (arcsBefore case s e) ≡ onlyN (w e) 1) → (b : Bool) → ltb e n ≡ b → bit (arcSet case s w (suc n)) (arcsBefore case s e) ≡ onlyN (w e) 1
       go r true q = let l = ltb-true e n q in others l (belongs case s n) (w n) refl refl (r l)
       go r false q = let z : e ≡ n = omega (arith, ltb-false e n q) in rw z (own (w n) (rw z at h) refl)

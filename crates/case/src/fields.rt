@@ -11,6 +11,7 @@ use numbers::compare::within;
 pub(crate) const MOST_PRESSURE: i64 = 200000;
 
 pub(crate) const LEAST_FLOW: i64 = -10000000;
+
 pub(crate) const MOST_FLOW: i64 = 10000000;
 
 pub(crate) const MOST_WEIGHT: i64 = 1000000;
