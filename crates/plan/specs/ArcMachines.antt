@@ -1,0 +1,40 @@
+-- 27: "Not compressing: machines 0? Compressing: at most "most machines", and flow ≤ the sum of their Q?"
+-- Assumes nothing.
+use mathlib.Core.Bool.{Bool, _&&_}
+use mathlib.Core.List.{List}
+use Prim.Native.Nat.{ℕ}
+use lib.Dec.{leb}
+use lib.IntN.{ℤ}
+use lib.Signed.{leZ}
+use Rattle.numbers.specs.Sets.{countOf}
+use Rattle.case.specs.Records.{artificialOf}
+use Rattle.plan.specs.declared.rows.ArcRow.{ArcRow}
+use Rattle.plan.specs.declared.setting.Way.{Way}
+use Rattle.plan.specs.declared.setting.Way.the-variants.{Forward, Backward}
+use Rattle.plan.specs.declared.setting.Mode.the-variants.{Open, Regulating, Compressing}
+use Rattle.plan.specs.declared.setting.Setting.{Setting}
+use Rattle.plan.specs.declared.setting.Setting.the-variants.{Unknown, Off, Active}
+use Rattle.plan.specs.Compared.{isZero}
+use Rattle.plan.specs.PlanRecords.{arcRow}
+use Rattle.plan.specs.Setting.{settingIn}
+use Rattle.plan.specs.Machines.{machineFlow}
+
+-- the flow in the setting's direction
+abbrev pub flowAlong : Way → ArcRow → ℤ
+flowAlong Forward r = r .a
+flowAlong Backward r = r .b
+
+unfoldable pub machinesCarry : List ℤ → List ℤ → ℕ → ℤ → Bool
+machinesCarry case row e flow =
+    leb (countOf (arcRow case row e .machines)) (artificialOf case e .most)
+    && leZ flow (machineFlow case (artificialOf case e .station) (arcRow case row e .machines))
+
+abbrev pub settingMachines : List ℤ → List ℤ → ℕ → Setting → Bool
+settingMachines case row e Unknown = isZero (arcRow case row e .machines)
+settingMachines case row e Off = isZero (arcRow case row e .machines)
+settingMachines case row e (Active way Open) = isZero (arcRow case row e .machines)
+settingMachines case row e (Active way Regulating) = isZero (arcRow case row e .machines)
+settingMachines case row e (Active way Compressing) = machinesCarry case row e (flowAlong way (arcRow case row e))
+
+unfoldable pub machinesUsed : List ℤ → List ℤ → ℕ → Bool
+machinesUsed case row e = settingMachines case row e (settingIn case row e)
