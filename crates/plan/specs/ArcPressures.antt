@@ -17,7 +17,7 @@ use Rattle.plan.specs.declared.setting.Setting.{Setting}
 use Rattle.plan.specs.declared.setting.Setting.the-variants.{Unknown, Off, Active}
 use Rattle.plan.specs.Compared.{same, isZero}
 use Rattle.plan.specs.PlanRecords.{pressureIn, arcRow}
-use Rattle.plan.specs.Setting.{settingIn, inEnd, outEnd}
+use Rattle.plan.specs.Setting.{settingIn, inEnd, outEnd, homeOf}
 use Rattle.plan.specs.Machines.{machineGain}
 
 -- "out bound 0..200,000, where 0 means 200,000"
@@ -30,7 +30,7 @@ basePressure case i v = nodeOf case v i .p0
 
 -- the ratio of a compressing arc, in thousandths
 abbrev pub ratioOf : List ℤ → List ℤ → ℕ → ℤ
-ratioOf case row e = pos 1000 +ℤ machineGain case (artificialOf case e .station) (arcRow case row e .machines)
+ratioOf case row e = pos 1000 +ℤ machineGain case (homeOf case e) (arcRow case row e .machines)
 
 -- compressing from the node `u` to the node `w`
 unfoldable pub compressionKept : List ℤ → List ℤ → ℕ → ℕ → ℕ → ℕ → Bool

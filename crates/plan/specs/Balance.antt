@@ -35,9 +35,12 @@ outflow case row v = sum (arcsOf case) (outPart case row v)
 unfoldable pub inflow : List ℤ → List ℤ → ℕ → ℤ
 inflow case row v = sum (arcsOf case) (inPart case row v)
 
+unfoldable pub netFlow : List ℤ → List ℤ → ℕ → ℤ
+netFlow case row v = outflow case row v -ℤ inflow case row v
+
 -- "flow out - flow in - d"
 unfoldable pub nodeImbalance : List ℤ → List ℤ → ℕ → ℤ
-nodeImbalance case row v = outflow case row v -ℤ inflow case row v -ℤ nodeRow row v .d
+nodeImbalance case row v = netFlow case row v -ℤ nodeRow row v .d
 
 -- the left side of 33
 unfoldable pub nodeResidual : List ℤ → List ℤ → ℕ → ℕ → ℕ

@@ -11,8 +11,8 @@ use Rattle.numbers.specs.declared.answer.Answer.the-variants.{Yes, No}
 use Rattle.case.specs.Layout.{stepsOf}
 use Rattle.case.specs.Judged.{caseQuestions}
 use Rattle.plan.specs.declared.totals.Totals.{Totals}
-use Rattle.plan.specs.declared.judge.Verdict.{Verdict}
-use Rattle.plan.specs.declared.judge.Verdict.the-variants.{Accepted, Refused}
+use Rattle.plan.specs.declared.verdict.Verdict.{Verdict}
+use Rattle.plan.specs.declared.verdict.Verdict.the-variants.{Accepted, Refused}
 use Rattle.plan.specs.PlanLayout.{stepRow}
 use Rattle.plan.specs.PlanHead.{headQuestion}
 use Rattle.plan.specs.Before.{pressureAt}

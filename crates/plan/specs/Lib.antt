@@ -16,4 +16,10 @@ pub mod Balance
 pub mod Step
 pub mod Totals
 pub mod Judged
+pub mod JudgedBytes
+pub mod Sizes
+pub mod Handed
+pub mod Moved
+pub mod Carried
+pub mod Summed
 pub mod TableT

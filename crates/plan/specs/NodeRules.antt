@@ -29,11 +29,15 @@ slacksKept n r =
     && (within (pos 0) (r .uplus) (slackLimit (n .kind) (n .actlow -ℤ n .low))
     && within (pos 0) (r .uminus) (slackLimit (n .kind) (n .high -ℤ n .acthigh))))
 
--- 21: "Is p within low..high; d at or above 0 at a source, at or below 0 at a sink, size at most 10,000,000", which is the range of a demand D; and the slacks
+-- "d at or above 0 at a source, at or below 0 at a sink, size at most 10,000,000", and 0 at an inner node: the range of a demand D
+unfoldable pub boundaryFlowKept : ℕ → ℤ → Bool
+boundaryFlowKept kind d = within (leastDemand kind) d (mostDemand kind)
+
+-- 21: "Is p within low..high", d and the slacks in range?
 unfoldable pub nodeNumbersKept : Node → NodeRow → Bool
 nodeNumbersKept n r =
     within (n .low) (r .p) (n .high)
-    && (within (leastDemand (n .kind)) (r .d) (mostDemand (n .kind))
+    && (boundaryFlowKept (n .kind) (r .d)
     && slacksKept n r)
 
 -- 22: "Is d + s+ - s- = D? (boundary only)"

@@ -9,7 +9,8 @@ use lib.IntN.{ℤ, pos}
 use lib.Signed.{leZ}
 use Rattle.numbers.specs.SignedParts.{posPart}
 use Rattle.case.specs.declared.records.Arc.{Arc}
-use Rattle.case.specs.Records.{arcOf}
+use Rattle.case.specs.Layout.{stationAt}
+use Rattle.case.specs.Records.{arcOf, artificialOf}
 use Rattle.plan.specs.declared.setting.Way.{Way}
 use Rattle.plan.specs.declared.setting.Way.the-variants.{Forward, Backward}
 use Rattle.plan.specs.declared.setting.Mode.{Mode}
@@ -48,6 +49,10 @@ settingOf kind number =
 -- the setting of arc e in a step
 abbrev pub settingIn : List ℤ → List ℤ → ℕ → Setting
 settingIn case row e = settingOf (arcOf case e .kind) (arcRow case row e .setting)
+
+-- where the rows of the arc's station begin
+abbrev pub homeOf : List ℤ → ℕ → ℕ
+homeOf case e = stationAt case (artificialOf case e .station)
 
 -- "In and out ends follow the setting: forward, in is from."
 abbrev pub inEnd : Way → Arc → ℕ

@@ -11,10 +11,11 @@ use Rattle.numbers.specs.Items.{over}
 use Rattle.numbers.specs.SignedParts.{posPart}
 use Rattle.numbers.specs.Sets.{memberOf, subsetOf, disjointOf}
 use Rattle.numbers.specs.Sum.{sum, only, count}
+use Rattle.case.specs.declared.records.Direction.{Direction}
 use Rattle.case.specs.Layout.{nodesOf, arcsOf, stationsOf}
 use Rattle.case.specs.Records.{arcOf, stationOf, directionOf, stateOf}
 use Rattle.case.specs.StationArcs.{belongs, arcSet, every}
-use Rattle.case.specs.StationNodes.{fenceNode}
+use Rattle.case.specs.StationNodes.{stationNodes, plainNodes}
 use Rattle.plan.specs.Compared.{isZero, asked}
 use Rattle.plan.specs.PlanRecords.{arcRow, choiceOf, activeIn, directionIn, stateIn}
 
@@ -70,10 +71,14 @@ stationFlow case row s v = sum (arcsOf case) (stationPart case row s v)
 abbrev pub fenceFlowKept : Bool → Bool → ℤ → Bool
 fenceFlowKept entry exit flow = cond entry (leZ (pos 0) flow) (cond exit (leZ flow (pos 0)) (isZero flow))
 
-unfoldable pub fenceKept : List ℤ → List ℤ → ℕ → ℕ → ℕ → Bool
-fenceKept case row s f v =
-    not (fenceNode case s v)
-    || fenceFlowKept (memberOf (directionOf case s f .entry) v) (memberOf (directionOf case s f .exit) v) (stationFlow case row s v)
+-- `inside` are the station's nodes, `plain` the nodes that end an arc of kind 0 to 2; a fence node is in both
+unfoldable pub fenceNodeKept : Direction → ℤ → ℤ → ℕ → ℤ → Bool
+fenceNodeKept chosen inside plain v flow =
+    not (memberOf inside v && memberOf plain v)
+    || fenceFlowKept (memberOf (chosen .entry) v) (memberOf (chosen .exit) v) flow
+
+abbrev pub fenceKept : List ℤ → List ℤ → ℕ → ℕ → ℕ → Bool
+fenceKept case row s f v = fenceNodeKept (directionOf case s f) (stationNodes case s) (plainNodes case) v (stationFlow case row s v)
 
 unfoldable pub fenceFlowsKept : List ℤ → List ℤ → ℕ → Bool
 fenceFlowsKept case row s = every (nodesOf case) (fenceKept case row s (directionIn case row s))

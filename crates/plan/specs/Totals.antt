@@ -35,23 +35,26 @@ abbrev pub changed : Bool → Bool → Bool
 changed true b = not b
 changed false b = b
 
-unfoldable pub directionCost : List ℤ → (ℕ → ℕ) → List ℤ → ℕ → ℕ
-directionCost case was row s = onlyN (not (eqb (directionIn case row s) (was s))) (directionOf case s (directionIn case row s) .weight)
+unfoldable pub directionCost : List ℤ → ℕ → List ℤ → ℕ → ℕ
+directionCost case was row s = onlyN (not (eqb (directionIn case row s) was)) (directionOf case s (directionIn case row s) .weight)
 
-unfoldable pub stateCost : List ℤ → (ℕ → ℕ) → List ℤ → ℕ → ℕ
-stateCost case was row s = onlyN (not (eqb (stateIn case row s) (was s))) (stateOf case s (stateIn case row s) .weight)
+unfoldable pub stateCost : List ℤ → ℕ → List ℤ → ℕ → ℕ
+stateCost case was row s = onlyN (not (eqb (stateIn case row s) was)) (stateOf case s (stateIn case row s) .weight)
 
-unfoldable pub activityCost : List ℤ → (ℕ → Bool) → List ℤ → ℕ → ℕ
-activityCost case was row e = onlyN (leb 3 (arcOf case e .kind) && changed (was e) (activeIn case row e)) (artificialOf case e .weight)
+unfoldable pub activityCost : List ℤ → Bool → List ℤ → ℕ → ℕ
+activityCost case was row e = onlyN (leb 3 (arcOf case e .kind) && changed was (activeIn case row e)) (artificialOf case e .weight)
 
-unfoldable pub directionCosts : List ℤ → (ℕ → ℕ) → List ℤ → ℕ
-directionCosts case was row = sumN (stationsOf case) (directionCost case was row)
+unfoldable pub choiceCost : List ℤ → (ℕ → ℕ) → (ℕ → ℕ) → List ℤ → ℕ → ℕ
+choiceCost case wasDirection wasState row s = directionCost case (wasDirection s) row s + stateCost case (wasState s) row s
 
-unfoldable pub stateCosts : List ℤ → (ℕ → ℕ) → List ℤ → ℕ
-stateCosts case was row = sumN (stationsOf case) (stateCost case was row)
+unfoldable pub choiceCosts : List ℤ → (ℕ → ℕ) → (ℕ → ℕ) → List ℤ → ℕ
+choiceCosts case wasDirection wasState row = sumN (stationsOf case) (choiceCost case wasDirection wasState row)
+
+abbrev pub activityPart : List ℤ → (ℕ → Bool) → List ℤ → ℕ → ℕ
+activityPart case was row e = activityCost case (was e) row e
 
 unfoldable pub activityCosts : List ℤ → (ℕ → Bool) → List ℤ → ℕ
-activityCosts case was row = sumN (arcsOf case) (activityCost case was row)
+activityCosts case was row = sumN (arcsOf case) (activityPart case was row)
 
 -- ---- "residual (the left sides of 28 and 33, summed)"
 
@@ -82,8 +85,7 @@ stepDemandSlack case plan i = demandSlackIn case (stepRow case plan i)
 
 unfoldable pub stepSwitching : List ℤ → List ℤ → ℕ → ℕ
 stepSwitching case plan i =
-    directionCosts case (directionAt case plan i) (stepRow case plan i)
-    + stateCosts case (stateAt case plan i) (stepRow case plan i)
+    choiceCosts case (directionAt case plan i) (stateAt case plan i) (stepRow case plan i)
     + activityCosts case (activeAt case plan i) (stepRow case plan i)
 
 unfoldable pub stepResidual : List ℤ → List ℤ → ℕ → ℕ

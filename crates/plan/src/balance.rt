@@ -1,0 +1,100 @@
+// 33, of every node of a step. The arcs are passed once, for all nodes.
+ghost use mathlib.Core.Path.{_≡_};
+ghost use Prim.Native.Nat.{_<_};
+ghost use lib.IntN.{pos};
+ghost use Rattle.numbers.specs.Question.{firstNo};
+ghost use Rattle.numbers.specs.SignedBounds.{Bounded};
+ghost use Rattle.case.specs.Layout.{nodesOf, arcsOf};
+ghost use Rattle.case.specs.Laid.{Holds};
+ghost use Rattle.plan.specs.Balance.{flowAtFrom, flowAtTo, netFlow, nodeResidual, allBalanceQuestions};
+ghost use Rattle.plan.specs.Moved.{movedAt, NetSized};
+ghost use Rattle.plan.specs.Sizes.{FlowsSized, NodesSized};
+ghost use Rattle.plan.specs.Handed.{AcceptedCase, AtStep, AtBalance};
+use numbers::answer::Answer;
+use numbers::compare::at;
+use numbers::compare::at_most;
+use case::read::arc;
+use case::records::Layout;
+use super::pipes::duration;
+use super::pipes::size;
+use super::rows::arc_row;
+use super::rows::node_row;
+
+// The net flows with one arc more, which takes `out` from node `from` and brings `into` to node `to`.
+pub(crate) fn moved(net: [i64; 60], from: usize, to: usize, out: i64, into: i64) -> [i64; 60]
+    requires { ⌜ (from < 60) × (to < 60) × (Bounded out 20000000) × (Bounded into 20000000) × (NetSized net) ⌝ }
+    ensures { λ r. ⌜ Holds (pos 0) r (movedAt net from to out into) 60 ⌝ }
+{
+    let mut next = net;
+    next[from] = next[from] + out;
+    next[to] = next[to] - into;
+    next
+}
+
+// A pipe's flow is a at from and b at to, any other arc's a - b at both.
+pub struct Ends {
+    pub from: i64,
+    pub to: i64,
+}
+
+fn end_flows(case: &[i64], row: &[i64], e: usize) -> Ends
+    requires { ⌜ (AcceptedCase (now case)) × (e < arcsOf (now case)) × (FlowsSized (now case) (now row)) ⌝ }
+    ensures { λ r. ⌜ (r .from ≡ flowAtFrom (now (case .entry)) (now (row .entry)) e) × (r .to ≡ flowAtTo (now (case .entry)) (now (row .entry)) e) ⌝ }
+{
+    let r = arc_row(case, row, e);
+    if arc(case, e).kind == 2 {
+        Ends { from: r.a, to: r.b }
+    } else {
+        let flow = r.a - r.b;
+        Ends {
+            from: flow,
+            to: flow,
+        }
+    }
+}
+
+// Each node's flow out less its flow in.
+pub(crate) fn net_flows(case: &[i64], row: &[i64], arcs: usize) -> [i64; 60]
+    requires { ⌜ (AcceptedCase (now case)) × (arcs ≡ arcsOf (now case)) × (FlowsSized (now case) (now row)) ⌝ }
+    ensures { λ r. ⌜ Holds (pos 0) r (netFlow (now (case .entry)) (now (row .entry))) (nodesOf (now (case .entry))) ⌝ }
+{
+    let mut net = [0i64; 60];
+    let mut e: usize = 0;
+    while e < arcs {
+        let c = arc(case, e);
+        let flow = end_flows(case, row, e);
+        net = moved(net, c.from, c.to, flow.from, flow.to);
+        e += 1;
+    }
+    net
+}
+
+// The left side of 33, by the node's net flow.
+pub(crate) fn node_residual(case: &[i64], row: &[i64], i: usize, v: usize, net: i64) -> usize
+    requires { ⌜ AtBalance (now case) (now row) i v net ⌝ }
+    ensures { λ r. ⌜ r ≡ nodeResidual (now (case .entry)) (now (row .entry)) i v ⌝ }
+{
+    size(duration(case, i)) * size(net - node_row(row, v).d)
+}
+
+pub(crate) fn balance_answers(case: &[i64], row: &[i64], layout: Layout, i: usize) -> Answer
+    requires { ⌜ (AtStep (now case) layout i) × (FlowsSized (now case) (now row)) × (NodesSized (now case) (now row)) ⌝ }
+    ensures { λ r. ⌜ r ≡ firstNo (allBalanceQuestions (now (case .entry)) (now (row .entry)) i) ⌝ }
+{
+    let nodes = layout.nodes;
+    let most = at(case, 5);
+    let net = net_flows(case, row, layout.arcs);
+    let mut v: usize = 0;
+    while v < nodes {
+        let residual = node_residual(case, row, i, v, net[v]);
+        if !at_most(residual as i64, most) {
+            return Answer::No {
+                number: 33,
+                step: i + 1,
+                place: v,
+            };
+        }
+        v += 1;
+    }
+    Answer::Yes
+}
