@@ -1,30 +1,12 @@
 -- The groups of a 64-bit number, as a loop takes them off: at most ten.
 -- Assumes nothing.
 use mathlib.Core.Path.{_≡_, refl, ap, _∙_}
-use mathlib.Core.Bool.{Bool, true, false, cond}
-use mathlib.Core.List.{List, [], _∷_}
+use mathlib.Core.List.{_∷_}
 use Prim.Native.Nat.{ℕ, zero, suc, _+_, _*_, _-_, _/_, _%_, _^_, _≤_, _<_}
 use native.Mathlib.Nat.{pow-suc}
 use native.Mathlib.Omega.{arith}
-use borrow.Author.Tests.{lt-ltb, le-ltb}
-use lib.Dec.{ltb}
 use lib.ListN.{length}
-use Rattle.numbers.specs.Groups.{groups, groupsUpTo}
-
-pub one-group : (more m : ℕ) → m < 128 → groupsUpTo more m ≡ m ∷ []
-one-group zero m h = refl
-one-group (suc more) m h = rw (lt-ltb m 128 h)
-
-pub more-groups : (more m : ℕ) → 128 ≤ m → groupsUpTo (suc more) m ≡ (m % 128 + 128) ∷ groupsUpTo more (m / 128)
-more-groups more m h = rw (le-ltb m 128 h)
-
-pub some-group : (more m : ℕ) → 1 ≤ length (groupsUpTo more m)
-some-group zero m = omega arith
-some-group (suc more) m = go (ltb m 128)
-  where
-    go : (b : Bool) → 1 ≤ length (cond b (m ∷ []) ((m % 128 + 128) ∷ groupsUpTo more (m / 128)))
-    go true = omega arith
-    go false = omega arith
+use Rattle.numbers.specs.Groups.{groups, groupsUpTo, one-group, more-groups}
 
 -- `rest` is what is left of a 64-bit number with room for `more` groups before the last
 pub record Left (rest more : ℕ) : Type 0 where

@@ -9,9 +9,9 @@ use native.Mathlib.Omega.{arith}
 use borrow.Author.Tests.{le-leb, lt-leb, leb-true, leb-false}
 use lib.IntN.{ℤ, pos}
 use lib.Dec.{leb}
-use lib.ListN.{length, getD, take, drop, set, length-append, drop-of-length-le}
-use lib.Seq.{sets, sets-eq, length-sets, drop-cons}
-use Rattle.numbers.specs.Told.{gives, refuses}
+use lib.ListN.{length, getD, drop, set, length-append, drop-of-length-le}
+use lib.Seq.{sets, length-sets, drop-cons}
+use Rattle.numbers.specs.Told.{gives, refuses, overlay-sets}
 use Rattle.numbers.specs.Groups.{groups, encode, sizeOf, writeTold, written}
 use Rattle.numbers.specs.Mapping.{unsignedOf}
 use Rattle.numbers.specs.declared.writer.Size.the-variants.{Fits, Over}
@@ -115,10 +115,7 @@ module _ (list : List ℤ) (bytes : List ℕ) where
 
   pub written-fits : {n : ℕ} → Fitting n → sets bytes 0 (encode list) ≡ written list bytes
   unfolding written
-  written-fits f = rw (le-leb _ _ (f .fits)) (sets-eq (encode list) bytes 0 (omega (arith, f .fits)) ∙ drop-none)
-    where
-      drop-none : take 0 bytes ++ encode list ++ drop (0 + length (encode list)) bytes ≡ encode list ++ drop (length (encode list)) bytes
-      drop-none = let e : 0 + length (encode list) ≡ length (encode list) = omega arith in rw e
+  written-fits f = rw (le-leb _ _ (f .fits)) (overlay-sets (encode list) bytes (f .fits))
 
   pub told-over : length bytes < length (encode list) → refuses 4 0 0 ≡ writeTold list (length bytes)
   unfolding writeTold

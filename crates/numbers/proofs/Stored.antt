@@ -1,64 +1,19 @@
 -- The numbers of the bytes, stored one after the other in the lent list.
 -- Assumes nothing.
 use mathlib.Core.Path.{_≡_, refl, ap, sym, subst, _∙_}
-use mathlib.Core.Bool.{Bool, true, false, cond}
 use mathlib.Core.List.{List, [], _∷_, _++_}
 use Prim.Native.Nat.{ℕ, zero, suc, _+_, _-_, _≤_, _<_}
 use native.Mathlib.Numerals.{add-one}
 use native.Mathlib.Omega.{arith}
-use lib.Dec.{leb, ltb, eqb}
 use lib.IntN.{ℤ, pos}
 use lib.ListN.{length, getD, take, drop, set, length-set, length-drop, drop-of-length-le}
-use lib.Seq.{sets, sets-eq, length-sets, drop-cons, drop-drop}
+use lib.Seq.{sets, drop-cons, drop-drop}
 use Rattle.numbers.specs.Mapping.{signedOf}
-use Rattle.numbers.specs.Told.{Told, gives, refuses, overlay}
-use Rattle.numbers.specs.Reading.{numberOf, laterBytes, lastByte, inFront, Read, Ending, all, no, stopped, withFirst, afterNumber, readFrom, readOf, readTold, endTold}
+use Rattle.numbers.specs.Told.{overlay, overlay-sets}
+use Rattle.numbers.specs.ReadingBounds.{used-some}
+use Rattle.numbers.specs.Reading.{numberOf, Read, Ending, all, no, stopped, withFirst, afterNumber, readFrom, readOf, readTold, endTold}
 use Rattle.numbers.specs.declared.reader.Number.{Number}
 use Rattle.numbers.specs.declared.reader.Number.the-variants.{Whole, Refused}
-
--- ---- a number takes at least one byte, and no more than there are
-
--- a whole number takes 1 to n bytes
-abbrev pub Within : ℕ → Number → Type 0
-Within n (Whole value used) = (1 ≤ used) × (used ≤ n)
-Within n (Refused number) = Unit {0}
-
-within-front : (group n : ℕ) (r : Number) → Within n r → Within (suc n) (inFront group r)
-within-front group n (Whole v u) w = (omega arith, omega (arith, w .1))
-within-front group n (Refused m) w = tt
-
-within-last : (b n : ℕ) → Within (suc n) (lastByte b)
-within-last b n = go (eqb b 0)
-  where
-    go : (t : Bool) → Within (suc n) (cond t (Refused 2) (Whole b 1))
-    go true = tt
-    go false = (omega arith, omega arith)
-
-within-later : (more : ℕ) (bytes : List ℕ) → Within (length bytes) (laterBytes more bytes)
-within-later zero [] = tt
-within-later zero (b ∷ bytes) = go (leb b 1)
-  where
-    go : (t : Bool) → Within (suc (length bytes)) (cond t (lastByte b) (Refused 2))
-    go true = within-last b (length bytes)
-    go false = tt
-within-later (suc more) [] = tt
-within-later (suc more) (b ∷ bytes) = go (within-later more bytes) (ltb b 128)
-  where
-    go : Within (length bytes) (laterBytes more bytes) → (t : Bool) → Within (suc (length bytes)) (cond t (lastByte b) (inFront (b - 128) (laterBytes more bytes)))
-    go w true = within-last b (length bytes)
-    go w false = within-front (b - 128) (length bytes) (laterBytes more bytes) w
-
-pub within-number : (bytes : List ℕ) → Within (length bytes) (numberOf bytes)
-unfolding numberOf
-within-number [] = tt
-within-number (b ∷ bytes) = go (ltb b 128)
-  where
-    go : (t : Bool) → Within (suc (length bytes)) (cond t (Whole b 1) (inFront (b - 128) (laterBytes 8 bytes)))
-    go true = (omega arith, omega arith)
-    go false = within-front (b - 128) (length bytes) (laterBytes 8 bytes) (within-later 8 bytes)
-
-pub used-some : (bytes : List ℕ) {v u : ℕ} → numberOf bytes ≡ Whole v u → (1 ≤ u) × (u ≤ length bytes)
-used-some bytes e = subst (Within (length bytes)) e (within-number bytes)
 
 -- ---- what is read from `at` on, by what stands there
 
@@ -109,11 +64,9 @@ module _ {bytes : List ℕ} {old list : List ℤ} {at count : ℕ} (s : Storing 
       let d : readOf bytes (length old) .ended ≡ e = s .ended ∙ ap (λ (x : Read). x .ended) r in
       let n : length (readOf bytes (length old) .stored) ≡ count = s .counted ∙ ap (λ (x : Read). count + length (x .stored)) r ∙ omega arith in
       let l : sets old 0 (readOf bytes (length old) .stored) ≡ list = s .result ∙ ap (λ (x : Read). sets list count (x .stored)) r in
-      let fits : 0 + length (readOf bytes (length old) .stored) ≤ length old = omega (arith, n, s .upto) in
-      let z : 0 + length (readOf bytes (length old) .stored) ≡ length (readOf bytes (length old) .stored) = omega arith in
       record {
         told = rw (d, n);
-        stored = sym l ∙ sets-eq (readOf bytes (length old) .stored) old 0 fits ∙ rw z;
+        stored = sym l ∙ overlay-sets (readOf bytes (length old) .stored) old (omega (arith, n, s .upto));
       }
 
   pub store-end : length bytes ≤ at → Stopped bytes old list all count

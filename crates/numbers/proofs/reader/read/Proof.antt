@@ -9,9 +9,10 @@ use mir.Syntax.{w64}
 use mir.Val.{toZ, ofZ}
 use Rattle.numbers.specs.Mapping.{signedOf}
 use Rattle.numbers.specs.Reading.{numberOf}
+use Rattle.numbers.specs.ReadingBounds.{used-some}
 use Rattle.numbers.specs.declared.reader.Number.the-variants.{Whole}
 use lib.ListN.{length, drop, length-drop}
-use Rattle.numbers.proofs.Stored.{Storing, storing, store-end, store-full, store-no, store-turn, used-some}
+use Rattle.numbers.proofs.Stored.{Storing, storing, store-end, store-full, store-no, store-turn}
 use Rattle.numbers.proofs.reader.read.Statement.{statement}
 use Rattle.numbers.proofs.reader.read.Tie as tie
 use Rattle.numbers.proofs.reader.read.Reads as reads

@@ -1,0 +1,48 @@
+-- What the questions that have let a count pass say of it.
+-- Assumes nothing.
+use mathlib.Core.Path.{_≡_, refl, sym, ap, _∙_}
+use mathlib.Core.List.{List}
+use Prim.Native.Nat.{ℕ, suc, _+_, _*_, _-_, _%_, _^_, _<_, _≤_}
+use native.Mathlib.Nat.{add-zero, mul-le-mul}
+use native.Mathlib.Numerals.{add-one}
+use native.Mathlib.Omega.{arith}
+use lib.IntN.{ℤ, pos, _+ℤ_}
+use lib.ListN.{length}
+use lib.Pow.{pow-lt, pow-pos}
+use native.Mathlib.Nat.{mod-eq-of-lt, one-mul}
+use Rattle.numbers.specs.SignedParts.{ints, added, size}
+use Rattle.numbers.specs.SignedBounds.{Bounded}
+use Rattle.numbers.specs.Question.{firstNo}
+use Rattle.numbers.specs.declared.answer.Answer.the-variants.{Yes}
+use Rattle.case.specs.Layout.{countAt, numberAt, timeAt}
+use Rattle.case.specs.Records.{timeOf, timeBefore}
+use Rattle.case.specs.InRange.{InRange, field-yes}
+use Rattle.case.specs.TimeFields.{timeField}
+use Rattle.case.specs.Bounds.{Counts}
+
+-- a row's first number
+pub first-is : {case : List ℤ} (row : ℕ) {r : ℕ} → Counts case (row + 0) r → r ≡ countAt case row
+first-is {case} row c = c .value ∙ ap (countAt case) (add-zero row)
+
+-- times grow by at most a day a step
+pub time-grows : (case : List ℤ) (i : ℕ) {n : ℕ} → Bounded (timeBefore case i) n → firstNo (timeField case i) ≡ Yes → Bounded (timeBefore case (i + 1)) (n + 86400)
+unfolding timeField
+time-grows case i b e =
+    let r = field-yes case (timeAt i) (timeBefore case i +ℤ pos 1) (timeBefore case i +ℤ pos 86400) e in
+    let t = timeBefore case i in
+    rw (add-one i) (record { bound = omega (ints, r .least, r .most, added t (pos 1), added t (pos 86400), size t, size (timeOf case i), b .bound) })
+
+-- a shift that does not leave the word
+pub shifted : (n : ℕ) → n < 64 → 1 * 2 ^ n % 18446744073709551616 ≡ 2 ^ n
+shifted n h = let p : 2 ^ n < 2 ^ 64 = pow-lt h in rw (one-mul, mod-eq-of-lt p)
+
+-- a set of the first n items fits
+pub items-fit : (n : ℕ) → n < 62 → 2 ^ n - 1 < 2 ^ 63
+items-fit n h = let p : 2 ^ n < 2 ^ 62 = pow-lt h in omega arith
+
+-- the row of node v begins within the first 10,000 numbers
+pub node-row : (v k : ℕ) → v < 60 → k ≤ 48 → 7 + k + v * (6 + k) < 4000
+node-row v k h l =
+    let a : v ≤ 60 = omega arith in
+    let b : 6 + k ≤ 54 = omega arith in
+    omega (arith, mul-le-mul a b)

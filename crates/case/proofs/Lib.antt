@@ -1,0 +1,4 @@
+pub mod Reading
+pub mod Asked
+pub mod Counting
+pub mod Rows

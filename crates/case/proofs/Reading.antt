@@ -1,0 +1,63 @@
+-- Reading at places that may lie past the end.
+-- Assumes nothing.
+use mathlib.Core.Path.{_≡_, refl, sym, ap, _∙_}
+use mathlib.Core.List.{List}
+use mathlib.Core.Bool.{Bool, true, false}
+use Prim.Native.Nat.{ℕ, _+_, _*_, _-_, _/_, _<_, _≤_, _^_, min}
+use native.Mathlib.Nat.{div-lt-iff-lt-mul, le-div-iff-mul-le, add-zero}
+use native.Mathlib.Omega.{arith}
+use lib.Dec.{leb}
+use borrow.Author.Tests.{leb-true, leb-false}
+use lib.IntN.{ℤ, pos, negsuc}
+use lib.Signed.{mag}
+use lib.ListN.{length, getD, List·getD-eq-default}
+use mir.Syntax.{w64}
+use mir.Val.{toZ, ofZ}
+use mir.Facts.{toZ-ofZ}
+use Rattle.numbers.specs.SignedParts.{posPart}
+
+-- a number past the end
+pub past : (case : List ℤ) (i : ℕ) → length case ≤ i → pos 0 ≡ getD case i (pos 0)
+past case i h = sym (List·getD-eq-default case (pos 0) h)
+
+-- what is read from a row on is the same from where the row begins, or from the end if that is nearer
+pub near : (case : List ℤ) (row j : ℕ) → getD case (min row (length case) + j) (pos 0) ≡ getD case (row + j) (pos 0)
+near case row j = go (leb row (length case)) refl
+  where
+    go : (b : Bool) → leb row (length case) ≡ b → getD case (min row (length case) + j) (pos 0) ≡ getD case (row + j) (pos 0)
+    go true e = let h = leb-true row (length case) e in let m : min row (length case) ≡ row = omega arith in rw m
+    go false e =
+        let h = leb-false row (length case) e in
+        let m : min row (length case) ≡ length case = omega arith in
+        rw m (sym (past case (length case + j) (omega arith)) ∙ past case (row + j) (omega arith))
+
+-- rows that do not fit before the end
+pub rows-past : (room count width : ℕ) → 0 < width → room / width < count → room < count * width
+rows-past room count width h l = div-lt-iff-lt-mul h .0 l
+
+-- rows that do
+pub rows-fit : (room count width : ℕ) → 0 < width → count ≤ room / width → count * width ≤ room
+rows-fit room count width h l = le-div-iff-mul-le h .0 l
+
+-- a count is below 2^63
+pub count-small : (z : ℤ) → mag z < 2 ^ 63 → posPart z < 2 ^ 63
+count-small (pos n) h = h
+count-small (negsuc n) h = omega arith
+
+-- a signed number is what the machine reads back from its bits
+pub kept : (z : ℤ) → mag z < 2 ^ 63 → toZ w64 (ofZ w64 z) ≡ z
+kept z h = toZ-ofZ {w = w64} {z = z} (record { sfits = h })
+
+-- a number j places into a row, read from where `r` says that the row begins
+pub number-in : (case : List ℤ) (row j : ℕ) {r : ℕ} {z : ℤ} → r ≡ min row (length case) → z ≡ getD case (r + j) (pos 0) → z ≡ getD case (row + j) (pos 0)
+number-in case row j e h = h ∙ ap (λ (i : ℕ). getD case (i + j) (pos 0)) e ∙ near case row j
+
+pub count-in : (case : List ℤ) (row j : ℕ) {r n : ℕ} → r ≡ min row (length case) → n ≡ posPart (getD case (r + j) (pos 0)) → n ≡ posPart (getD case (row + j) (pos 0))
+count-in case row j e h = h ∙ ap posPart (number-in case row j e refl)
+
+-- the same of a row's first number
+pub first-number : (case : List ℤ) (row : ℕ) {r : ℕ} {z : ℤ} → r ≡ min row (length case) → z ≡ getD case (r + 0) (pos 0) → z ≡ getD case row (pos 0)
+first-number case row e h = number-in case row 0 e h ∙ ap (λ (i : ℕ). getD case i (pos 0)) (add-zero row)
+
+pub first-count : (case : List ℤ) (row : ℕ) {r n : ℕ} → r ≡ min row (length case) → n ≡ posPart (getD case (r + 0) (pos 0)) → n ≡ posPart (getD case row (pos 0))
+first-count case row e h = h ∙ ap posPart (first-number case row e refl)

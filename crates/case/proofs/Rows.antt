@@ -1,0 +1,30 @@
+-- Rows that begin at an offset, and the questions of one row.
+-- Assumes nothing.
+use mathlib.Core.Path.{_≡_, refl, sym, ap, _∙_}
+use mathlib.Core.List.{List}
+use Prim.Native.Nat.{ℕ, _+_, _*_, _<_, _≤_}
+use native.Mathlib.Omega.{arith}
+use lib.IntN.{ℤ}
+use Rattle.numbers.specs.Question.{firstNo, firstNo-append, orElse}
+use Rattle.numbers.specs.declared.answer.Answer.{Answer}
+use Rattle.case.specs.Layout.{arcAt, directionsAt, directionAt, stateAt, machineAt}
+use Rattle.case.specs.Field.{field, fields}
+use Rattle.case.specs.ArcFields.{endFields, kindFields, arcFields}
+use Rattle.case.specs.StationFields.{directionFields, stateRowFields, stateFields, machineFields, firstItems}
+use Rattle.case.proofs.Asked.{chain}
+
+pub arc-row : (l : List ℤ) (e : ℕ) {first : ℕ} → first ≡ arcAt l 0 → first + e * 11 ≡ arcAt l e
+unfolding arcAt
+arc-row l e h = omega (arith, h)
+
+pub state-row : (l : List ℤ) (row z : ℕ) {d : ℕ} → d ≡ directionsAt l row → row + 5 + d * 3 + z * 4 ≡ stateAt l row z
+unfolding stateAt directionAt
+state-row l row z h = rw h
+
+pub machine-row : (l : List ℤ) (row m : ℕ) {first : ℕ} → first ≡ machineAt l row 0 → first + m * 2 ≡ machineAt l row m
+unfolding machineAt
+machine-row l row m h = omega (arith, h)
+
+pub arc-asked : (l : List ℤ) (e row : ℕ) {a b r : Answer} → row ≡ arcAt l e → r ≡ orElse a b → a ≡ firstNo (endFields l row) → b ≡ firstNo (kindFields l row) → r ≡ firstNo (arcFields l e)
+unfolding arcFields
+arc-asked l e row h o p q = rw (← h, firstNo-append) (chain o p q)

@@ -1,0 +1,55 @@
+use Rattle.case.specs.Layout.{stateAt}
+use Rattle.case.proofs.Reading.{number-in, count-in, first-number, kept}
+use denote.Ref.{now}
+use mathlib.Core.Path.{_≡_, refl, sym, ap, _∙_}
+use borrow.Author.Needs.{needs}
+use Rattle.case.proofs.read.state.Statement.{statement}
+use Rattle.case.proofs.read.state.Tie as tie
+use Rattle.case.proofs.read.state.Reads as reads
+use Rattle.case.proofs.read.state.Lts as lts
+use Rattle.case.proofs.offsets.count.Reads as count-reads
+use Rattle.case.proofs.offsets.number.Reads as number-reads
+use Rattle.case.proofs.offsets.state_at.Reads as state-at-reads
+
+-- src/read.rt:128:9
+state-at-requires : tie.Need-state-at-requires
+state-at-requires c κs = search needs
+
+-- src/read.rt:130:21
+number-requires : tie.Need-number-requires
+number-requires c κs = search needs
+
+-- src/read.rt:131:13
+number-requires-2 : tie.Need-number-requires-2
+number-requires-2 c κs = search needs
+
+-- src/read.rt:132:14
+number-requires-3 : tie.Need-number-requires-3
+number-requires-3 c κs = search needs
+
+-- src/read.rt:133:17
+count-requires : tie.Need-count-requires
+count-requires c κs = search needs
+
+-- src/read.rt:125:1
+returns : tie.Need-returns
+returns c =     let a = c .before .before .before .before .before .args in
+    let l = now (a .case) in
+    let row = stateAt l (a .row) (a .z) in
+    let r = c .before .before .before .before .state-at .ensures in
+    let e0 = kept (c .before .before .before .number .result) (c .before .before .before .number .ok) ∙ first-number l row r (c .before .before .before .number .ensures) in
+    let e1 = kept (c .before .before .number2 .result) (c .before .before .number2 .ok) ∙ number-in l row 1 r (c .before .before .number2 .ensures) in
+    let e2 = kept (c .before .number3 .result) (c .before .number3 .ok) ∙ number-in l row 2 r (c .before .number3 .ensures) in
+    let e3 = count-in l row 3 r (c .count .ensures .value) in
+    rw (e0, e1, e2, e3)
+
+pub state-spec : {M : Type 1} → statement M
+state-spec =
+    tie.close
+    (tie.spec
+    state-at-requires
+    number-requires
+    number-requires-2
+    number-requires-3
+    count-requires
+    returns)

@@ -1,0 +1,152 @@
+// The answer on a case, and its layout.
+ghost use mathlib.Core.Path.{_≡_};
+ghost use Prim.Native.Nat.{_≤_};
+ghost use lib.IntN.{pos};
+ghost use Rattle.numbers.specs.Question.{firstNo, told};
+ghost use Rattle.numbers.specs.declared.answer.Answer.the-variants.{Yes};
+ghost use Rattle.case.specs.Layout.{arcsOf, stationsOf, stationAt};
+ghost use Rattle.case.specs.StationNodes.{stationNodes};
+ghost use Rattle.case.specs.Bounds.{Counted, StationsCounted};
+ghost use Rattle.case.specs.Laid.{Holds, Laid};
+ghost use Rattle.case.specs.Judged.{rowQuestions, listQuestions, judgedCase};
+use numbers::answer::Answer;
+use numbers::answer::or_else;
+use super::arcs::arc_rows;
+use super::head::head;
+use super::head::times;
+use super::members::plain_nodes;
+use super::members::station_nodes;
+use super::nodes::node_rows;
+use super::offsets::count;
+use super::records::Layout;
+use super::rules::rules;
+use super::stations::station_end;
+use super::stations::station_rows;
+
+// 10 to 12 past the head, whose counts are in range.
+fn rows(case: &[i64]) -> Answer
+    requires { ⌜ Counted (now case) ⌝ }
+    ensures { λ r. ⌜ r ≡ firstNo (rowQuestions (now (case .entry))) ⌝ }
+{
+    let nodes = count(case, 1, 0);
+    let arcs = count(case, 2, 0);
+    let stations = count(case, 3, 0);
+    let steps = count(case, 4, 0);
+    let first_arc = 7 + steps + nodes * (6 + steps);
+    or_else(
+        times(case, steps),
+        or_else(
+            node_rows(case, steps, nodes),
+            or_else(
+                arc_rows(case, first_arc, arcs),
+                station_rows(case, first_arc + arcs * 11, stations),
+            ),
+        ),
+    )
+}
+
+// 10 to 12.
+fn list_answer(case: &[i64]) -> Answer
+    ensures { λ r. ⌜ r ≡ firstNo (listQuestions (now (case .entry))) ⌝ }
+{
+    let a = head(case);
+    match a {
+        Answer::Yes => rows(case),
+        Answer::No {
+            number: _,
+            step: _,
+            place: _,
+        } => a,
+    }
+}
+
+// Where each station's rows begin.
+fn station_firsts(case: &[i64], first: usize, stations: usize) -> [usize; 8]
+    requires { ⌜ (first ≤ 5000) × (first ≡ stationAt (now case) 0) × (stations ≤ 8) × (stations ≡ stationsOf (now case)) × (StationsCounted (now case)) ⌝ }
+    ensures { λ r. ⌜ Holds 0 r (stationAt (now (case .entry))) stations ⌝ }
+{
+    let mut rows = [0usize; 8];
+    let mut row = first;
+    let mut s: usize = 0;
+    while s < stations {
+        rows[s] = row;
+        row = station_end(case, row);
+        s += 1;
+    }
+    rows
+}
+
+// Each station's nodes.
+fn insides(case: &[i64], arcs: usize, stations: usize) -> [i64; 8]
+    requires { ⌜ (stations ≤ 8) × (arcs ≡ arcsOf (now case)) ⌝ }
+    ensures { λ r. ⌜ Holds (pos 0) r (stationNodes (now (case .entry))) stations ⌝ }
+{
+    let mut inside = [0i64; 8];
+    let mut s: usize = 0;
+    while s < stations {
+        inside[s] = station_nodes(case, s, arcs);
+        s += 1;
+    }
+    inside
+}
+
+// The layout of a case whose fields are all there and in range.
+fn lay(case: &[i64]) -> Layout
+    requires { ⌜ (Counted (now case)) × (StationsCounted (now case)) ⌝ }
+    ensures { λ r. ⌜ Laid (now (case .entry)) r ⌝ }
+{
+    let nodes = count(case, 1, 0);
+    let arcs = count(case, 2, 0);
+    let stations = count(case, 3, 0);
+    let steps = count(case, 4, 0);
+    let first = 7 + steps + nodes * (6 + steps) + arcs * 11;
+    let rows = station_firsts(case, first, stations);
+    let inside = insides(case, arcs, stations);
+    Layout {
+        steps: steps,
+        nodes: nodes,
+        arcs: arcs,
+        stations: stations,
+        rows: rows,
+        inside: inside,
+        plain: plain_nodes(case, arcs),
+    }
+}
+
+// The answer on a case: yes, or the number, the step and the place of the first "no".
+pub fn judge_case(case: &[i64]) -> Answer
+    ensures { λ r. ⌜ told r ≡ judgedCase (now (case .entry)) ⌝ }
+{
+    let a = list_answer(case);
+    match a {
+        Answer::Yes => rules(case, lay(case)),
+        Answer::No {
+            number: _,
+            step: _,
+            place: _,
+        } => a,
+    }
+}
+
+// The layout of a case; of a list that 10 to 12 refuse it holds nothing.
+pub fn layout(case: &[i64]) -> Layout
+    ensures { λ r. ⌜ (firstNo (listQuestions (now (case .entry))) ≡ Yes → Laid (now (case .entry)) r) ⌝ }
+{
+    let a = list_answer(case);
+    match a {
+        Answer::Yes => lay(case),
+        Answer::No {
+            number: _,
+            step: _,
+            place: _,
+        } => Layout {
+            steps: 0,
+            nodes: 0,
+            arcs: 0,
+            stations: 0,
+            rows: [0; 8],
+            inside: [0; 8],
+            plain: 0,
+        },
+    }
+}

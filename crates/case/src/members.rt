@@ -1,0 +1,117 @@
+// A station's arcs and nodes. Every function is total, but for the set of the arcs that are active.
+ghost use mathlib.Core.Path.{_≡_};
+ghost use Prim.Native.Nat.{_≤_};
+ghost use lib.IntN.{pos};
+ghost use Rattle.case.specs.StationArcs.{belongs, arcsBefore, arcSet};
+ghost use Rattle.case.specs.StationNodes.{withNode, withEnds, endsOf, plain};
+ghost use Rattle.case.specs.States.{activeAtStart};
+use super::offsets::arc_at;
+use super::offsets::count;
+
+// Is arc `e` one of station `s`'s artificial arcs?
+pub fn belongs(case: &[i64], s: usize, e: usize) -> bool
+    ensures { λ r. ⌜ r ≡ belongs (now (case .entry)) s e ⌝ }
+{
+    let row = arc_at(case, e);
+    if 3 <= count(case, row, 0) {
+        count(case, row, 4) == s
+    } else {
+        false
+    }
+}
+
+// Is arc `e` a valve, a regulator or a pipe?
+pub fn plain(case: &[i64], e: usize) -> bool
+    ensures { λ r. ⌜ r ≡ plain (now (case .entry)) e ⌝ }
+{
+    let row = arc_at(case, e);
+    count(case, row, 0) <= 2
+}
+
+// How many of the first `arcs` arcs are the station's.
+pub fn station_arcs(case: &[i64], s: usize, arcs: usize) -> usize
+    ensures { λ r. ⌜ r ≡ arcsBefore (now (case .entry)) s arcs ⌝ }
+{
+    let mut n: usize = 0;
+    let mut e: usize = 0;
+    while e < arcs {
+        if belongs(case, s, e) {
+            n += 1;
+        }
+        e += 1;
+    }
+    n
+}
+
+// Those of the station's arcs that are active at step 0, as a set.
+pub(crate) fn start_set(case: &[i64], s: usize, arcs: usize) -> i64
+    requires { ⌜ arcsBefore (now case) s arcs ≤ 30 ⌝ }
+    ensures { λ r. ⌜ r ≡ pos (arcSet (now (case .entry)) s (activeAtStart (now (case .entry))) arcs) ⌝ }
+{
+    let mut set: usize = 0;
+    let mut n: usize = 0;
+    let mut e: usize = 0;
+    while e < arcs {
+        if belongs(case, s, e) {
+            if active(case, e) {
+                set += 1usize << n;
+            }
+            n += 1;
+        }
+        e += 1;
+    }
+    set as i64
+}
+
+// Is arc `e` active at step 0?
+pub fn active(case: &[i64], e: usize) -> bool
+    ensures { λ r. ⌜ r ≡ activeAtStart (now (case .entry)) e ⌝ }
+{
+    let row = arc_at(case, e);
+    1 <= count(case, row, 7)
+}
+
+// The set with the node in it.
+fn with_node(set: usize, v: usize) -> usize
+    ensures { λ r. ⌜ r ≡ withNode set v ⌝ }
+{
+    if v < 60 { set | (1usize << v) } else { set }
+}
+
+// The set with both ends of arc `e` in it.
+fn with_ends(case: &[i64], set: usize, e: usize) -> usize
+    ensures { λ r. ⌜ r ≡ withEnds (now (case .entry)) set e ⌝ }
+{
+    let row = arc_at(case, e);
+    with_node(with_node(set, count(case, row, 1)), count(case, row, 2))
+}
+
+// The ends of the station's arcs among the first `arcs`, as a node set.
+pub fn station_nodes(case: &[i64], s: usize, arcs: usize) -> i64
+    ensures { λ r. ⌜ r ≡ pos (endsOf (now (case .entry)) (belongs (now (case .entry)) s) arcs) ⌝ }
+{
+    let mut set: usize = 0;
+    let mut e: usize = 0;
+    while e < arcs {
+        if belongs(case, s, e) {
+            set = with_ends(case, set, e);
+        }
+        e += 1;
+    }
+    set as i64
+}
+
+// The ends of the first `arcs` arcs of kind 0 to 2, as a node set.
+pub fn plain_nodes(case: &[i64], arcs: usize) -> i64
+    ensures { λ r. ⌜ r ≡ pos (endsOf (now (case .entry)) (plain (now (case .entry))) arcs) ⌝ }
+{
+    let mut set: usize = 0;
+    let mut e: usize = 0;
+    while e < arcs {
+        if plain(case, e) {
+            set = with_ends(case, set, e);
+        }
+        e += 1;
+    }
+    set as i64
+}

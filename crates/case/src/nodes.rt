@@ -1,0 +1,75 @@
+// 10 and 11 of the node rows.
+ghost use mathlib.Core.Path.{_≡_};
+ghost use Prim.Native.Nat.{_<_, _≤_};
+ghost use Rattle.numbers.specs.Question.{firstNo};
+ghost use Rattle.numbers.specs.Items.{over};
+ghost use Rattle.case.specs.Layout.{stepsOf};
+ghost use Rattle.case.specs.NodeFields.{boundFields, demandFields, nodeFields};
+use numbers::answer::Answer;
+use numbers::answer::or_else;
+use super::fields::field;
+use super::fields::fields;
+use super::offsets::count;
+use super::offsets::number;
+
+fn bound_fields(case: &[i64], row: usize) -> Answer
+    requires { ⌜ row < 10000 ⌝ }
+    ensures { λ r. ⌜ r ≡ firstNo (boundFields (now (case .entry)) row) ⌝ }
+{
+    let low = number(case, row, 2);
+    let high = number(case, row, 3);
+    let actlow = number(case, row, 4);
+    or_else(
+        field(case, row, 0, 2),
+        or_else(
+            fields(case, row + 1, 3, 0, 200000),
+            or_else(
+                field(case, row + 4, low, 200000),
+                field(case, row + 5, actlow, high),
+            ),
+        ),
+    )
+}
+
+// The demands, whose range goes by the node's kind.
+fn demand_fields(case: &[i64], row: usize, steps: usize) -> Answer
+    requires { ⌜ (row < 10000) × (steps ≤ 48) × (steps ≡ stepsOf (now case)) ⌝ }
+    ensures { λ r. ⌜ r ≡ firstNo (demandFields (now (case .entry)) row) ⌝ }
+{
+    let kind = count(case, row, 0);
+    match kind {
+        1 => fields(case, row + 6, steps, 0, 10000000),
+        2 => fields(case, row + 6, steps, -10000000, 0),
+        _ => fields(case, row + 6, steps, 0, 0),
+    }
+}
+
+fn node_fields(case: &[i64], steps: usize, v: usize) -> Answer
+    requires { ⌜ (v < 60) × (steps ≤ 48) × (steps ≡ stepsOf (now case)) ⌝ }
+    ensures { λ r. ⌜ r ≡ firstNo (nodeFields (now (case .entry)) v) ⌝ }
+{
+    let row = 7 + steps + v * (6 + steps);
+    or_else(bound_fields(case, row), demand_fields(case, row, steps))
+}
+
+pub(crate) fn node_rows(case: &[i64], steps: usize, nodes: usize) -> Answer
+    requires { ⌜ (nodes ≤ 60) × (steps ≤ 48) × (steps ≡ stepsOf (now case)) ⌝ }
+    ensures { λ r. ⌜ r ≡ firstNo (over (nodeFields (now (case .entry))) 0 nodes) ⌝ }
+{
+    let mut v: usize = 0;
+    while v < nodes {
+        let a = node_fields(case, steps, v);
+        match a {
+            Answer::Yes => {}
+            Answer::No {
+                number: _,
+                step: _,
+                place: _,
+            } => {
+                return a;
+            }
+        }
+        v += 1;
+    }
+    Answer::Yes
+}

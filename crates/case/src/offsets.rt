@@ -1,0 +1,83 @@
+// Where rows begin, for reading. A row past the end of the list begins at the end: nothing is read there.
+ghost use mathlib.Core.Path.{_≡_};
+ghost use Prim.Native.Nat.{_+_, _*_, _<_, _^_, min};
+ghost use lib.ListN.{length};
+ghost use Rattle.case.specs.Layout.{numberAt, nodeAt, arcAt, directionAt, stateAt, machineAt};
+ghost use Rattle.case.specs.Bounds.{Counts};
+ghost use Rattle.case.specs.Field.{lastOf};
+use numbers::compare::index;
+
+// The number `j` places into the row that begins at `row`.
+pub(crate) fn number(case: &[i64], row: usize, j: usize) -> i64
+    ensures { λ r. ⌜ r ≡ numberAt (now (case .entry)) (row + j) ⌝ }
+{
+    if row < case.len() {
+        if j < case.len() - row {
+            return case[row + j];
+        }
+    }
+    0
+}
+
+pub(crate) fn count(case: &[i64], row: usize, j: usize) -> usize
+    ensures { λ r. ⌜ Counts (now (case .entry)) (row + j) r ⌝ }
+{
+    index(number(case, row, j))
+}
+
+// The place `count` rows of `width` numbers past `at`, or the end.
+pub(crate) fn along(end: usize, at: usize, count: usize, width: usize) -> usize
+    requires { ⌜ 0 < width ⌝ }
+    ensures { λ r. ⌜ r ≡ min (at + count * width) end ⌝ }
+{
+    if end <= at {
+        return end;
+    }
+    if (end - at) / width < count {
+        return end;
+    }
+    at + count * width
+}
+
+pub(crate) fn node_at(case: &[i64], v: usize) -> usize
+    ensures { λ r. ⌜ r ≡ min (nodeAt (now (case .entry)) v) (length (now (case .entry))) ⌝ }
+{
+    let steps = count(case, 4, 0);
+    along(case.len(), 7 + steps, v, 6 + steps)
+}
+
+pub(crate) fn arc_at(case: &[i64], e: usize) -> usize
+    ensures { λ r. ⌜ r ≡ min (arcAt (now (case .entry)) e) (length (now (case .entry))) ⌝ }
+{
+    let nodes = count(case, 1, 0);
+    along(case.len(), node_at(case, nodes), e, 11)
+}
+
+pub(crate) fn direction_at(case: &[i64], row: usize, f: usize) -> usize
+    ensures { λ r. ⌜ r ≡ min (directionAt row f) (length (now (case .entry))) ⌝ }
+{
+    let end = case.len();
+    along(end, along(end, row, 5, 1), f, 3)
+}
+
+pub(crate) fn state_at(case: &[i64], row: usize, z: usize) -> usize
+    ensures { λ r. ⌜ r ≡ min (stateAt (now (case .entry)) row z) (length (now (case .entry))) ⌝ }
+{
+    let directions = count(case, row, 0);
+    along(case.len(), direction_at(case, row, directions), z, 4)
+}
+
+pub(crate) fn machine_at(case: &[i64], row: usize, m: usize) -> usize
+    ensures { λ r. ⌜ r ≡ min (machineAt (now (case .entry)) row m) (length (now (case .entry))) ⌝ }
+{
+    let states = count(case, row, 1);
+    along(case.len(), state_at(case, row, states), m, 2)
+}
+
+// The last index of `n` items, -1 where there are none.
+pub(crate) fn last(n: usize) -> i64
+    requires { ⌜ n < 2 ^ 63 ⌝ }
+    ensures { λ r. ⌜ r ≡ lastOf n ⌝ }
+{
+    (n as i64) - 1
+}

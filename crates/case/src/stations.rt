@@ -1,0 +1,192 @@
+// 10 and 11 of the station rows, and 12.
+ghost use mathlib.Core.Path.{_≡_};
+ghost use mathlib.Core.List.{_++_};
+ghost use Prim.Native.Nat.{_<_, _≤_};
+ghost use Rattle.numbers.specs.Question.{firstNo};
+ghost use Rattle.numbers.specs.Items.{over};
+ghost use Rattle.case.specs.Layout.{directionsAt, machineAt, stationEnd, stationAt, stationsOf};
+ghost use Rattle.case.specs.Bounds.{StationCounted};
+ghost use Rattle.case.specs.StationFields.{firstItems, stationHead, directionFields, stateRowFields, stateFields, machineFields, partFields, rowFields, allStationFields};
+ghost use Rattle.case.specs.Leftover.{leftover};
+use numbers::answer::Answer;
+use numbers::answer::ask;
+use numbers::answer::or_else;
+use super::fields::field;
+use super::fields::fields;
+use super::offsets::count;
+use super::offsets::last;
+
+// The set of the first `n` items.
+pub(crate) fn first_items(n: usize) -> i64
+    requires { ⌜ n < 62 ⌝ }
+    ensures { λ r. ⌜ r ≡ firstItems n ⌝ }
+{
+    ((1usize << n) - 1) as i64
+}
+
+pub(crate) fn station_head(case: &[i64], row: usize) -> Answer
+    requires { ⌜ row < 10000 ⌝ }
+    ensures { λ r. ⌜ r ≡ firstNo (stationHead (now (case .entry)) row) ⌝ }
+{
+    let last_direction = last(count(case, row, 0));
+    let last_state = last(count(case, row, 1));
+    or_else(
+        field(case, row, 1, 8),
+        or_else(
+            field(case, row + 1, 1, 16),
+            or_else(
+                field(case, row + 2, 0, 12),
+                or_else(field(case, row + 3, 0, last_direction), field(case, row + 4, 0, last_state)),
+            ),
+        ),
+    )
+}
+
+fn direction_rows(case: &[i64], row: usize, directions: usize) -> Answer
+    requires { ⌜ (row < 10000) × (directions ≤ 8) ⌝ }
+    ensures { λ r. ⌜ r ≡ firstNo (over (directionFields (now (case .entry)) row) 0 directions) ⌝ }
+{
+    let mut f: usize = 0;
+    while f < directions {
+        let at = row + 5 + f * 3;
+        let a = or_else(fields(case, at, 2, 0, 1152921504606846975), field(case, at + 2, 0, 1000000));
+        match a {
+            Answer::Yes => {}
+            Answer::No {
+                number: _,
+                step: _,
+                place: _,
+            } => {
+                return a;
+            }
+        }
+        f += 1;
+    }
+    Answer::Yes
+}
+
+fn state_fields(case: &[i64], at: usize, sets: i64) -> Answer
+    requires { ⌜ at < 20000 ⌝ }
+    ensures { λ r. ⌜ r ≡ firstNo (stateRowFields (now (case .entry)) at sets) ⌝ }
+{
+    or_else(
+        field(case, at, 0, sets),
+        or_else(fields(case, at + 1, 2, 0, 1073741823), field(case, at + 3, 0, 1000000)),
+    )
+}
+
+fn state_rows(case: &[i64], row: usize, directions: usize, states: usize) -> Answer
+    requires { ⌜ (row < 10000) × (directions ≤ 8) × (directions ≡ directionsAt (now case) row) × (states ≤ 16) ⌝ }
+    ensures { λ r. ⌜ r ≡ firstNo (over (stateFields (now (case .entry)) row) 0 states) ⌝ }
+{
+    let sets = first_items(directions);
+    let first = row + 5 + directions * 3;
+    let mut z: usize = 0;
+    while z < states {
+        let a = state_fields(case, first + z * 4, sets);
+        match a {
+            Answer::Yes => {}
+            Answer::No {
+                number: _,
+                step: _,
+                place: _,
+            } => {
+                return a;
+            }
+        }
+        z += 1;
+    }
+    Answer::Yes
+}
+
+fn machine_rows(case: &[i64], row: usize, first: usize, machines: usize) -> Answer
+    requires { ⌜ (first < 20000) × (first ≡ machineAt (now case) row 0) × (machines ≤ 12) ⌝ }
+    ensures { λ r. ⌜ r ≡ firstNo (over (machineFields (now (case .entry)) row) 0 machines) ⌝ }
+{
+    let mut m: usize = 0;
+    while m < machines {
+        let at = first + m * 2;
+        let a = or_else(field(case, at, 0, 10000000), field(case, at + 1, 1001, 10000));
+        match a {
+            Answer::Yes => {}
+            Answer::No {
+                number: _,
+                step: _,
+                place: _,
+            } => {
+                return a;
+            }
+        }
+        m += 1;
+    }
+    Answer::Yes
+}
+
+// The directions, states and machines of a station whose counts are in range.
+fn part_rows(case: &[i64], row: usize) -> Answer
+    requires { ⌜ (row < 10000) × (StationCounted (now case) row) ⌝ }
+    ensures { λ r. ⌜ r ≡ firstNo (partFields (now (case .entry)) row) ⌝ }
+{
+    let directions = count(case, row, 0);
+    let states = count(case, row, 1);
+    let machines = count(case, row, 2);
+    or_else(
+        direction_rows(case, row, directions),
+        or_else(
+            state_rows(case, row, directions, states),
+            machine_rows(case, row, row + 5 + directions * 3 + states * 4, machines),
+        ),
+    )
+}
+
+// All rows of the station whose rows begin at `row`.
+fn station_fields(case: &[i64], row: usize) -> Answer
+    requires { ⌜ row < 10000 ⌝ }
+    ensures { λ r. ⌜ r ≡ firstNo (rowFields (now (case .entry)) row) ⌝ }
+{
+    let a = station_head(case, row);
+    match a {
+        Answer::Yes => part_rows(case, row),
+        Answer::No {
+            number: _,
+            step: _,
+            place: _,
+        } => a,
+    }
+}
+
+// The index past the station's last row.
+pub(crate) fn station_end(case: &[i64], row: usize) -> usize
+    requires { ⌜ (row < 10000) × (StationCounted (now case) row) ⌝ }
+    ensures { λ r. ⌜ r ≡ stationEnd (now (case .entry)) row ⌝ }
+{
+    let directions = count(case, row, 0);
+    let states = count(case, row, 1);
+    let machines = count(case, row, 2);
+    row + 5 + directions * 3 + states * 4 + machines * 2
+}
+
+// All stations' rows, and then 12.
+pub(crate) fn station_rows(case: &[i64], first: usize, stations: usize) -> Answer
+    requires { ⌜ (first < 5000) × (first ≡ stationAt (now case) 0) × (stations ≤ 8) × (stations ≡ stationsOf (now case)) ⌝ }
+    ensures { λ r. ⌜ r ≡ firstNo (allStationFields (now (case .entry)) ++ leftover (now (case .entry))) ⌝ }
+{
+    let mut row = first;
+    let mut s: usize = 0;
+    while s < stations {
+        let a = station_fields(case, row);
+        match a {
+            Answer::Yes => {}
+            Answer::No {
+                number: _,
+                step: _,
+                place: _,
+            } => {
+                return a;
+            }
+        }
+        row = station_end(case, row);
+        s += 1;
+    }
+    ask(case.len() <= row, 12, 0, row)
+}

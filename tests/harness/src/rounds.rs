@@ -1,0 +1,202 @@
+//! Rounds: an accepted pair from a seed, and everything that is made from it.
+
+use inputs::aimed::{AIMS, LEDGER_AIMS};
+use inputs::bytes::{BYTES_AIMS, encode};
+use inputs::damage::{any_list, damage_bytes, damage_list};
+use inputs::generate;
+use inputs::{Pair, Refused, Rng};
+
+use crate::beside::{Beside, Difference, Reply};
+use crate::demand_3;
+
+/// Above this many numbers only some of the changes are made.
+const LARGE: usize = 6_000;
+
+/// Damaged lists and damaged strings of each round.
+const DAMAGED: usize = 24;
+
+/// A pair with its lists.
+struct Input {
+    pair: Pair,
+    case: Vec<i64>,
+    plan: Vec<i64>,
+    /// How many of the changes are left out.
+    spared: usize,
+}
+
+/// Everything that is made from one seed.
+pub fn round(beside: &mut Beside, seed: u64) -> Result<(), Difference> {
+    let mut rng = Rng::new(seed);
+    let pair = generate::accepted(&mut rng);
+    pair_round(beside, &mut rng, pair)
+}
+
+/// Everything that is made from one accepted pair.
+pub fn pair_round(beside: &mut Beside, rng: &mut Rng, pair: Pair) -> Result<(), Difference> {
+    let (case, plan) = (pair.case.list(), pair.plan.list());
+    let spared = if plan.len() > LARGE { 9 } else { 0 };
+    let input = Input {
+        pair,
+        case,
+        plan,
+        spared,
+    };
+    accepted(beside, &input)?;
+    ledgers(beside, rng, &input)?;
+    aims(beside, rng, &input)?;
+    damaged_lists(beside, rng, &input)?;
+    strings(beside, rng, &input)?;
+    damaged_strings(beside, rng, &input)
+}
+
+impl Input {
+    /// Is this change made? Of a large pair only one in ten is.
+    fn is_due(&self, rng: &mut Rng) -> bool {
+        rng.once_in(1 + self.spared)
+    }
+}
+
+fn must_be_accepted(reply: &Reply, what: &str) -> Result<(), Difference> {
+    if reply.answer == 0 {
+        return Ok(());
+    }
+    Err(Difference {
+        text: format!("{what} was to be accepted; the second checker says {reply:?}"),
+    })
+}
+
+fn accepted(beside: &mut Beside, input: &Input) -> Result<(), Difference> {
+    let reply = beside.case(&input.case)?;
+    must_be_accepted(&reply, "the case")?;
+    let reply = beside.plan(&input.case, &input.plan)?;
+    must_be_accepted(&reply, "the plan")
+}
+
+/// Random sets and steps, held against demand 3, and sets and steps that are refused.
+fn ledgers(beside: &mut Beside, rng: &mut Rng, input: &Input) -> Result<(), Difference> {
+    let lists = [input.case.as_slice(), input.plan.as_slice()];
+    let steps = input.pair.steps() as i64;
+    for _ in 0..4 {
+        let set = rng.part_of((1 << input.pair.case.nodes.len()) - 1);
+        let s = rng.within(0..=steps);
+        let t = rng.within(s..=steps);
+        let reply = beside.ledger(lists, set, s, t)?;
+        must_be_accepted(&reply, "the ledger")?;
+        demand_3::check(&input.pair.case, s, t, &reply.out[..6]).map_err(|wrong| Difference {
+            text: format!("set {set}, {s} to {t}: {wrong}\n{lists:?}"),
+        })?;
+    }
+    for (name, aim) in LEDGER_AIMS {
+        if let Some(aimed) = aim(rng, &input.pair) {
+            let reply = beside.ledger(lists, aimed.set, aimed.s, aimed.t)?;
+            reply.expect(aimed.expect, name)?;
+            beside.tally.aim(name);
+        }
+    }
+    Ok(())
+}
+
+fn aims(beside: &mut Beside, rng: &mut Rng, input: &Input) -> Result<(), Difference> {
+    for (name, aim) in AIMS {
+        if !input.is_due(rng) {
+            continue;
+        }
+        let Some(aimed) = aim(rng, &input.pair) else {
+            continue;
+        };
+        let reply = beside.plan(&aimed.case, &aimed.plan)?;
+        reply.expect(aimed.expect, name)?;
+        beside.tally.aim(name);
+        beside.case(&aimed.case)?;
+        if rng.once_in(8) {
+            // Refused before the set is looked at.
+            let reply = beside.ledger([&aimed.case, &aimed.plan], rng.bits() as i64, 0, 1)?;
+            reply.expect(aimed.expect, name)?;
+        }
+    }
+    Ok(())
+}
+
+fn damaged_lists(beside: &mut Beside, rng: &mut Rng, input: &Input) -> Result<(), Difference> {
+    for _ in 0..DAMAGED {
+        if !input.is_due(rng) {
+            continue;
+        }
+        let (mut case, mut plan) = (input.case.clone(), input.plan.clone());
+        match rng.below(8) {
+            0 => case = any_list(rng, 40),
+            1 => plan = any_list(rng, 40),
+            2 | 3 => damage_list(rng, &mut case),
+            4 => {
+                damage_list(rng, &mut case);
+                damage_list(rng, &mut plan);
+            }
+            _ => damage_list(rng, &mut plan),
+        }
+        let reply = beside.plan(&case, &plan)?;
+        beside.case(&case)?;
+        if rng.once_in(4) || reply.answer == 0 {
+            beside.ledger([&case, &plan], rng.bits() as i64 & 7, 0, 1)?;
+        }
+    }
+    Ok(())
+}
+
+/// Byte strings that are accepted, and such that are refused while they are read.
+fn strings(beside: &mut Beside, rng: &mut Rng, input: &Input) -> Result<(), Difference> {
+    let (case, plan) = (encode(&input.case).bytes, encode(&input.plan).bytes);
+    let rooms = [input.case.len(), input.plan.len()];
+    for more in [0, rng.below(5)] {
+        let reply = beside.bytes([&case, &plan], rooms.map(|room| room + more))?;
+        must_be_accepted(&reply, "the pair of strings")?;
+    }
+    beside.write(&input.plan, plan.len())?;
+    for (name, aim) in BYTES_AIMS {
+        if !input.is_due(rng) {
+            continue;
+        }
+        if let Some(aimed) = aim(rng, &input.case) {
+            let reply = beside.bytes([&aimed.bytes, &plan], [aimed.room, rooms[1]])?;
+            reply.expect(aimed.expect, name)?;
+            beside.line([Some(&aimed.bytes), Some(&plan)])?;
+        }
+        if let Some(aimed) = aim(rng, &input.plan) {
+            let expect = Refused {
+                number: aimed.expect.number + 4,
+                ..aimed.expect
+            };
+            let reply = beside.bytes([&case, &aimed.bytes], [rooms[0], aimed.room])?;
+            reply.expect(expect, name)?;
+            beside.line([Some(&case), Some(&aimed.bytes)])?;
+        }
+    }
+    files(beside, [&case, &plan])
+}
+
+/// The program's line, also where a file is missing.
+fn files(beside: &mut Beside, [case, plan]: [&[u8]; 2]) -> Result<(), Difference> {
+    beside.line([Some(case), Some(plan)])?;
+    beside.line([Some(case), None])?;
+    beside.line([None, Some(plan)])?;
+    Ok(())
+}
+
+fn damaged_strings(beside: &mut Beside, rng: &mut Rng, input: &Input) -> Result<(), Difference> {
+    let (case, plan) = (encode(&input.case).bytes, encode(&input.plan).bytes);
+    for _ in 0..DAMAGED {
+        if !input.is_due(rng) {
+            continue;
+        }
+        let mut strings = [case.clone(), plan.clone()];
+        let mut rooms = [input.case.len(), input.plan.len()];
+        let hit = rng.below(2);
+        match rng.below(4) {
+            0 => rooms[hit] = rng.below(rooms[hit] + 2),
+            _ => damage_bytes(rng, &mut strings[hit]),
+        }
+        let [case, plan] = &strings;
+        beside.bytes([case, plan], rooms.map(|room| room + rng.below(2)))?;
+        beside.read(&strings[hit], rooms[hit])?;
+    }
+    Ok(())
+}

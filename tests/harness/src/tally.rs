@@ -1,0 +1,101 @@
+//! How many inputs ended in each question.
+
+use std::collections::BTreeMap;
+use std::fmt;
+
+/// Every question an input can end in.
+const QUESTIONS: [u8; 31] = [
+    1, 2, 3, 4, 5, 6, 7, 10, 11, 12, 13, 14, 15, 16, 17, 20, 21, 22, 23, 24, 25, 26, 27, 28, 29,
+    30, 31, 32, 33, 40, 41,
+];
+
+/// Fewer inputs than this leave a question unreached.
+pub const LEAST: u64 = 20;
+
+#[derive(Clone, Debug, Default)]
+pub struct Tally {
+    /// Inputs that ended in a refusal, by its number.
+    refused: BTreeMap<i64, u64>,
+    pub accepted: u64,
+    /// Accepted with pressure slack, demand slack, switching cost and residual above 0.
+    pub all_above_0: u64,
+    pub ledgers: u64,
+    /// Strings read and lists written without a "no".
+    pub coded: u64,
+    /// Inputs of each aimed change.
+    pub aimed: BTreeMap<&'static str, u64>,
+}
+
+impl Tally {
+    pub fn refuse(&mut self, number: i64) {
+        *self.refused.entry(number).or_default() += 1;
+    }
+
+    pub fn accept(&mut self, totals: &[i64]) {
+        self.accepted += 1;
+        if totals[..4].iter().all(|&total| total > 0) {
+            self.all_above_0 += 1;
+        }
+    }
+
+    pub fn aim(&mut self, name: &'static str) {
+        *self.aimed.entry(name).or_default() += 1;
+    }
+
+    pub fn count(&self, question: u8) -> u64 {
+        self.refused.get(&i64::from(question)).copied().unwrap_or(0)
+    }
+
+    /// All inputs counted here.
+    pub fn inputs(&self) -> u64 {
+        self.refused.values().sum::<u64>() + self.accepted + self.ledgers + self.coded
+    }
+
+    pub fn add(&mut self, other: &Tally) {
+        for (&number, &count) in &other.refused {
+            *self.refused.entry(number).or_default() += count;
+        }
+        for (&name, &count) in &other.aimed {
+            *self.aimed.entry(name).or_default() += count;
+        }
+        self.accepted += other.accepted;
+        self.all_above_0 += other.all_above_0;
+        self.ledgers += other.ledgers;
+        self.coded += other.coded;
+    }
+
+    /// What was reached too seldom.
+    pub fn gaps(&self) -> Vec<String> {
+        let mut gaps: Vec<String> = QUESTIONS
+            .iter()
+            .filter(|&&question| self.count(question) < LEAST)
+            .map(|question| format!("question {question}"))
+            .collect();
+        if self.accepted < LEAST {
+            gaps.push("accepted".to_string());
+        }
+        if self.all_above_0 < LEAST {
+            gaps.push("accepted with all four totals above 0".to_string());
+        }
+        let seldom = self.aimed.iter().filter(|&(_, &count)| count < LEAST);
+        gaps.extend(seldom.map(|(name, _)| format!("aim {name}")));
+        gaps
+    }
+}
+
+impl fmt::Display for Tally {
+    fn fmt(&self, f: &mut fmt::Formatter<'_>) -> fmt::Result {
+        writeln!(f, "question    inputs")?;
+        for question in QUESTIONS {
+            writeln!(f, "{question:>8} {:>9}", self.count(question))?;
+        }
+        writeln!(f, "accepted {:>9}", self.accepted)?;
+        writeln!(
+            f,
+            "  of these with all four totals above 0: {}",
+            self.all_above_0
+        )?;
+        writeln!(f, "ledgers {:>10}", self.ledgers)?;
+        writeln!(f, "read or written {}", self.coded)
+    }
+}

@@ -1,0 +1,17 @@
+//! Inputs for a gas plan checker, all of them from a seed.
+//!
+//! Accepted pairs of case and plan are built so that they must be accepted. Aimed
+//! changes turn one into a pair with a known first "no"; damage changes it at random.
+#![forbid(unsafe_code)]
+
+pub mod aimed;
+pub mod bytes;
+pub mod damage;
+pub mod generate;
+pub mod model;
+pub mod rng;
+pub mod slips;
+pub mod table_t;
+
+pub use model::{Pair, Refused};
+pub use rng::Rng;

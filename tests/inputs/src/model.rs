@@ -1,0 +1,381 @@
+//! Cases and plans as rows, from which their lists are made.
+
+use std::ops::RangeInclusive;
+
+pub const MOST_FLOW: i64 = 10_000_000;
+pub const MOST_PRESSURE: i64 = 200_000;
+pub const MOST_WEIGHT: i64 = 1_000_000;
+
+pub const INNER: i64 = 0;
+pub const SOURCE: i64 = 1;
+pub const SINK: i64 = 2;
+
+pub const VALVE: i64 = 0;
+pub const REGULATOR: i64 = 1;
+pub const PIPE: i64 = 2;
+pub const SHORTCUT: i64 = 3;
+pub const REGULATING: i64 = 4;
+pub const COMPRESSOR: i64 = 5;
+pub const COMBINED: i64 = 6;
+
+/// Places among an arc row's seven more fields, of a pipe and of an artificial arc.
+pub const C: usize = 0;
+pub const F: usize = 1;
+pub const G: usize = 2;
+pub const H: usize = 3;
+pub const STATION: usize = 0;
+pub const BOTH_WAYS: usize = 1;
+pub const WEIGHT: usize = 2;
+pub const ACTIVE: usize = 3;
+pub const MACHINES: usize = 4;
+pub const MOST: usize = 5;
+pub const OUT_BOUND: usize = 6;
+
+#[derive(Clone, Debug, Default)]
+pub struct Case {
+    pub mass_tolerance: i64,
+    pub pressure_tolerance: i64,
+    /// The times of steps 1 to k.
+    pub times: Vec<i64>,
+    pub nodes: Vec<Node>,
+    pub arcs: Vec<Arc>,
+    pub stations: Vec<Station>,
+}
+
+#[derive(Clone, Debug, Default)]
+pub struct Node {
+    pub kind: i64,
+    pub p0: i64,
+    pub low: i64,
+    pub high: i64,
+    pub actlow: i64,
+    pub acthigh: i64,
+    pub demands: Vec<i64>,
+}
+
+#[derive(Clone, Debug, Default)]
+pub struct Arc {
+    pub kind: i64,
+    pub from: usize,
+    pub to: usize,
+    pub qmax: i64,
+    pub more: [i64; 7],
+}
+
+#[derive(Clone, Debug, Default)]
+pub struct Station {
+    pub direction_at_0: usize,
+    pub state_at_0: usize,
+    /// Entry set, exit set, weight.
+    pub directions: Vec<[i64; 3]>,
+    /// Direction set, on set, off set, weight.
+    pub states: Vec<[i64; 4]>,
+    /// Flow Q, ratio R.
+    pub machines: Vec<[i64; 2]>,
+}
+
+/// Places in a station's rows.
+pub const ENTRY: usize = 0;
+pub const EXIT: usize = 1;
+pub const DIRECTIONS: usize = 0;
+pub const ON: usize = 1;
+pub const OFF: usize = 2;
+
+#[derive(Clone, Debug, Default)]
+pub struct Plan {
+    /// Step 1 first.
+    pub steps: Vec<Step>,
+}
+
+#[derive(Clone, Debug, Default)]
+pub struct Step {
+    pub nodes: Vec<NodeRow>,
+    pub arcs: Vec<ArcRow>,
+    pub stations: Vec<StationRow>,
+}
+
+#[derive(Clone, Copy, Debug, Default)]
+pub struct NodeRow {
+    pub p: i64,
+    pub d: i64,
+    pub s_plus: i64,
+    pub s_minus: i64,
+    pub u_plus: i64,
+    pub u_minus: i64,
+}
+
+#[derive(Clone, Copy, Debug, Default)]
+pub struct ArcRow {
+    pub a: i64,
+    pub b: i64,
+    pub setting: i64,
+    pub machines: i64,
+}
+
+#[derive(Clone, Copy, Debug, Default)]
+pub struct StationRow {
+    pub direction: i64,
+    pub state: i64,
+}
+
+/// A case and a plan.
+#[derive(Clone, Debug, Default)]
+pub struct Pair {
+    pub case: Case,
+    pub plan: Plan,
+}
+
+/// The first "no" an input is to end in.
+#[derive(Clone, Copy, Debug, PartialEq, Eq)]
+pub struct Refused {
+    pub number: u8,
+    pub step: usize,
+    pub place: usize,
+}
+
+/// A field of the case list with the range it has there.
+#[derive(Clone, Debug)]
+pub struct Field {
+    pub value: i64,
+    pub range: RangeInclusive<i64>,
+}
+
+impl Case {
+    pub fn list(&self) -> Vec<i64> {
+        self.fields().iter().map(|field| field.value).collect()
+    }
+
+    /// dt of a step.
+    pub fn span(&self, step: usize) -> i64 {
+        let before = if step == 1 { 0 } else { self.times[step - 2] };
+        self.times[step - 1] - before
+    }
+
+    /// A station's artificial arcs, in arc order.
+    pub fn station_arcs(&self, station: usize) -> Vec<usize> {
+        (0..self.arcs.len())
+            .filter(|&arc| self.arcs[arc].station() == Some(station))
+            .collect()
+    }
+
+    /// Nodes that end an artificial arc of the station and an arc of kind 0 to 2.
+    pub fn fence(&self, station: usize) -> Vec<usize> {
+        let ends = |node: usize, wanted: Option<usize>| {
+            self.arcs
+                .iter()
+                .any(|arc| (arc.from == node || arc.to == node) && arc.station() == wanted)
+        };
+        (0..self.nodes.len())
+            .filter(|&node| ends(node, Some(station)) && ends(node, None))
+            .collect()
+    }
+
+    /// Every field of the case list, in order.
+    pub fn fields(&self) -> Vec<Field> {
+        let mut fields = Vec::new();
+        let steps = self.times.len() as i64;
+        let mut put = |value: i64, range| fields.push(Field { value, range });
+        put(1, 1..=1);
+        put(self.nodes.len() as i64, 1..=60);
+        put(self.arcs.len() as i64, 0..=120);
+        put(self.stations.len() as i64, 0..=8);
+        put(steps, 1..=48);
+        put(self.mass_tolerance, 0..=1_000_000);
+        put(self.pressure_tolerance, 0..=1_000);
+        let mut before = 0;
+        for &time in &self.times {
+            put(time, before + 1..=before + 86_400);
+            before = time;
+        }
+        self.nodes.iter().for_each(|node| node.fields(&mut fields));
+        for arc in &self.arcs {
+            arc.fields(self, &mut fields);
+        }
+        for station in &self.stations {
+            station.fields(&mut fields);
+        }
+        fields
+    }
+}
+
+impl Node {
+    fn fields(&self, fields: &mut Vec<Field>) {
+        let mut put = |value: i64, range| fields.push(Field { value, range });
+        put(self.kind, 0..=2);
+        put(self.p0, 0..=MOST_PRESSURE);
+        put(self.low, 0..=MOST_PRESSURE);
+        put(self.high, 0..=MOST_PRESSURE);
+        put(self.actlow, self.low..=MOST_PRESSURE);
+        put(self.acthigh, self.actlow..=self.high);
+        for &demand in &self.demands {
+            let range = match self.kind {
+                INNER => 0..=0,
+                SOURCE => 0..=MOST_FLOW,
+                _ => -MOST_FLOW..=0,
+            };
+            put(demand, range);
+        }
+    }
+}
+
+impl Arc {
+    pub fn station(&self) -> Option<usize> {
+        (self.kind >= SHORTCUT).then_some(self.more[STATION] as usize)
+    }
+
+    pub fn has_machines(&self) -> bool {
+        self.kind >= COMPRESSOR
+    }
+
+    /// Is this setting of this arc compressing?
+    pub fn compresses(&self, setting: i64) -> bool {
+        (self.kind == COMPRESSOR && setting > 0) || (self.kind == COMBINED && setting > 2)
+    }
+
+    /// The in and the out end under this setting.
+    pub fn ends(&self, setting: i64) -> (usize, usize) {
+        if is_backward(setting) {
+            (self.to, self.from)
+        } else {
+            (self.from, self.to)
+        }
+    }
+
+    /// What the out bound field means.
+    pub fn out_bound(&self) -> i64 {
+        match self.more[OUT_BOUND] {
+            0 => MOST_PRESSURE,
+            bound => bound,
+        }
+    }
+
+    fn fields(&self, case: &Case, fields: &mut Vec<Field>) {
+        let mut put = |value: i64, range| fields.push(Field { value, range });
+        let last_node = case.nodes.len() as i64 - 1;
+        put(self.kind, 0..=6);
+        put(self.from as i64, 0..=last_node);
+        put(self.to as i64, 0..=last_node);
+        put(self.qmax, 0..=MOST_FLOW);
+        let ranges = self.ranges_of_more(case.stations.len() as i64 - 1);
+        for (value, range) in self.more.into_iter().zip(ranges) {
+            put(value, range);
+        }
+    }
+
+    /// What isn't used is 0.
+    fn ranges_of_more(&self, last_station: i64) -> Vec<RangeInclusive<i64>> {
+        let friction = 0..=10_000_000;
+        let slope = -200_000..=200_000;
+        let station = 0..=last_station;
+        let weight = 0..=MOST_WEIGHT;
+        let machines = 0..=4_095;
+        let mut ranges = match self.kind {
+            VALVE | REGULATOR => vec![],
+            PIPE => vec![1..=100_000_000, friction.clone(), friction, slope],
+            SHORTCUT => vec![station, 1..=1, weight, 0..=1],
+            REGULATING => vec![station, 0..=1, weight, 0..=1],
+            _ => {
+                let bound = 0..=MOST_PRESSURE;
+                vec![station, 0..=1, weight, 0..=1, machines, 0..=12, bound]
+            }
+        };
+        ranges.resize(7, 0..=0);
+        ranges
+    }
+}
+
+/// Even settings above 0 are the backward ones.
+pub fn is_backward(setting: i64) -> bool {
+    setting > 0 && setting % 2 == 0
+}
+
+impl Station {
+    fn fields(&self, fields: &mut Vec<Field>) {
+        let mut put = |value: i64, range| fields.push(Field { value, range });
+        let directions = self.directions.len() as i64;
+        let states = self.states.len() as i64;
+        put(directions, 1..=8);
+        put(states, 1..=16);
+        put(self.machines.len() as i64, 0..=12);
+        put(self.direction_at_0 as i64, 0..=directions - 1);
+        put(self.state_at_0 as i64, 0..=states - 1);
+        for &[entry, exit, weight] in &self.directions {
+            put(entry, 0..=(1 << 60) - 1);
+            put(exit, 0..=(1 << 60) - 1);
+            put(weight, 0..=MOST_WEIGHT);
+        }
+        for &[supported, on, off, weight] in &self.states {
+            put(supported, 0..=(1 << directions) - 1);
+            put(on, 0..=(1 << 30) - 1);
+            put(off, 0..=(1 << 30) - 1);
+            put(weight, 0..=MOST_WEIGHT);
+        }
+        for &[flow, ratio] in &self.machines {
+            put(flow, 0..=MOST_FLOW);
+            put(ratio, 1_001..=10_000);
+        }
+    }
+}
+
+impl Plan {
+    pub fn list(&self) -> Vec<i64> {
+        let mut list = vec![1, self.steps.len() as i64];
+        for step in &self.steps {
+            for row in &step.nodes {
+                list.extend([
+                    row.p,
+                    row.d,
+                    row.s_plus,
+                    row.s_minus,
+                    row.u_plus,
+                    row.u_minus,
+                ]);
+            }
+            for row in &step.arcs {
+                list.extend([row.a, row.b, row.setting, row.machines]);
+            }
+            for row in &step.stations {
+                list.extend([row.direction, row.state]);
+            }
+        }
+        list
+    }
+}
+
+impl Pair {
+    pub fn steps(&self) -> usize {
+        self.plan.steps.len()
+    }
+
+    pub fn node(&self, step: usize, node: usize) -> NodeRow {
+        self.plan.steps[step - 1].nodes[node]
+    }
+
+    pub fn node_mut(&mut self, step: usize, node: usize) -> &mut NodeRow {
+        &mut self.plan.steps[step - 1].nodes[node]
+    }
+
+    pub fn arc(&self, step: usize, arc: usize) -> ArcRow {
+        self.plan.steps[step - 1].arcs[arc]
+    }
+
+    pub fn arc_mut(&mut self, step: usize, arc: usize) -> &mut ArcRow {
+        &mut self.plan.steps[step - 1].arcs[arc]
+    }
+
+    pub fn station(&self, step: usize, station: usize) -> StationRow {
+        self.plan.steps[step - 1].stations[station]
+    }
+
+    pub fn station_mut(&mut self, step: usize, station: usize) -> &mut StationRow {
+        &mut self.plan.steps[step - 1].stations[station]
+    }
+
+    /// Pressure of a node, p0 at step 0.
+    pub fn pressure(&self, step: usize, node: usize) -> i64 {
+        match step {
+            0 => self.case.nodes[node].p0,
+            _ => self.node(step, node).p,
+        }
+    }
+}
