@@ -16,8 +16,8 @@ activeOf xs e = getD xs e false
 abbrev pub indexOf : List ℕ → ℕ → ℕ
 indexOf xs s = getD xs s 0
 
-pub record Carried (case : List ℤ) (p : Previous) (pressure : ℕ → ℤ) (active : ℕ → Bool) (direction state : ℕ → ℕ) : Type 0 where
-  pub pressures : Holds (pos 0) (p .pressures) pressure (nodesOf case)
-  pub active : Holds false (p .active) active (arcsOf case)
-  pub directions : Holds 0 (p .directions) direction (stationsOf case)
-  pub states : Holds 0 (p .states) state (stationsOf case)
+pub record Carried (case : List ℤ) (x : Previous) (p : ℕ → ℤ) (a : ℕ → Bool) (f z : ℕ → ℕ) : Type 0 where
+  pub pressures : Holds (pos 0) (x .pressures) p (nodesOf case)
+  pub active : Holds false (x .active) a (arcsOf case)
+  pub directions : Holds 0 (x .directions) f (stationsOf case)
+  pub states : Holds 0 (x .states) z (stationsOf case)

@@ -55,7 +55,7 @@ pub record AtFlow (case old row : List ℤ) (i e : ℕ) : Type 0 where
   pub accepted : AcceptedCase case
   pub step : i < stepsOf case
   pub arc : e < arcsOf case
-  pub old : PressuresSized (numberAt old) (nodesOf case)
+  pub before : PressuresSized (numberAt old) (nodesOf case)
   pub pressures : PressuresSized (pressureIn row) (nodesOf case)
   pub flows : ArcRowSized (arcRow case row e)
 
@@ -81,7 +81,7 @@ pub record AtBalance (case row : List ℤ) (i v : ℕ) (net : ℤ) : Type 0 wher
   pub node : v < nodesOf case
   pub flows : FlowsSized case row
   pub rows : NodesSized case row
-  pub net : net ≡ netFlow case row v
+  pub is : net ≡ netFlow case row v
 
 -- 30: every station's direction and state are its own
 pub record ChoicesKept (case row : List ℤ) : Type 0 where
@@ -90,7 +90,7 @@ pub record ChoicesKept (case row : List ℤ) : Type 0 where
 
 -- a step of which every question has been answered yes
 pub record StepKept (case old row : List ℤ) (i : ℕ) : Type 0 where
-  pub old : PressuresSized (numberAt old) (nodesOf case)
+  pub before : PressuresSized (numberAt old) (nodesOf case)
   pub rows : NodesSized case row
   pub flows : FlowsSized case row
   pub choices : ChoicesKept case row

@@ -20,14 +20,21 @@ use super::pipes::size;
 use super::rows::arc_row;
 use super::rows::node_row;
 
+// Each node's net flow.
+pub struct Net {
+    pub flows: [i64; 60],
+}
+
 // The net flows with one arc more, which takes `out` from node `from` and brings `into` to node `to`.
-pub(crate) fn moved(net: [i64; 60], from: usize, to: usize, out: i64, into: i64) -> [i64; 60]
-    requires { ⌜ (from < 60) × (to < 60) × (Bounded out 20000000) × (Bounded into 20000000) × (NetSized net) ⌝ }
-    ensures { λ r. ⌜ Holds (pos 0) r (movedAt net from to out into) 60 ⌝ }
+pub(crate) fn moved(net: Net, from: usize, to: usize, out: i64, into: i64) -> Net
+    requires { ⌜ (from < 60) × (to < 60) × (Bounded out 20000000) × (Bounded into 20000000) × (NetSized (net .flows)) ⌝ }
+    ensures { λ r. ⌜ Holds (pos 0) (r .flows) (movedAt (net .flows) from to out into) 60 ⌝ }
 {
     let mut next = net;
-    next[from] = next[from] + out;
-    next[to] = next[to] - into;
+    let leaving = next.flows[from] + out;
+    next.flows[from] = leaving;
+    let entering = next.flows[to] - into;
+    next.flows[to] = entering;
     next
 }
 
@@ -54,11 +61,11 @@ fn end_flows(case: &[i64], row: &[i64], e: usize) -> Ends
 }
 
 // Each node's flow out less its flow in.
-pub(crate) fn net_flows(case: &[i64], row: &[i64], arcs: usize) -> [i64; 60]
+pub(crate) fn net_flows(case: &[i64], row: &[i64], arcs: usize) -> Net
     requires { ⌜ (AcceptedCase (now case)) × (arcs ≡ arcsOf (now case)) × (FlowsSized (now case) (now row)) ⌝ }
-    ensures { λ r. ⌜ Holds (pos 0) r (netFlow (now (case .entry)) (now (row .entry))) (nodesOf (now (case .entry))) ⌝ }
+    ensures { λ r. ⌜ Holds (pos 0) (r .flows) (netFlow (now (case .entry)) (now (row .entry))) (nodesOf (now (case .entry))) ⌝ }
 {
-    let mut net = [0i64; 60];
+    let mut net = Net { flows: [0; 60] };
     let mut e: usize = 0;
     while e < arcs {
         let c = arc(case, e);
@@ -86,7 +93,7 @@ pub(crate) fn balance_answers(case: &[i64], row: &[i64], layout: Layout, i: usiz
     let net = net_flows(case, row, layout.arcs);
     let mut v: usize = 0;
     while v < nodes {
-        let residual = node_residual(case, row, i, v, net[v]);
+        let residual = node_residual(case, row, i, v, net.flows[v]);
         if !at_most(residual as i64, most) {
             return Answer::No {
                 number: 33,

@@ -13,4 +13,4 @@ pub mod previous; // previous.rt: what is carried from step to step
 pub mod totals; // totals.rt: the six totals
 pub mod verdict; // verdict.rt: accepted with the totals, or refused
 pub mod steps; // steps.rt: one step, and every step
-// pub mod judge; // judge.rt: the verdict on two lists, and on two byte strings
+pub mod judge; // judge.rt: the verdict on two lists, and on two byte strings

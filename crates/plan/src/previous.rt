@@ -17,7 +17,7 @@ use case::read::node;
 use case::read::station;
 use case::records::Layout;
 use super::rows::arc_row;
-use super::rows::choice;
+use super::rows::choice_of;
 use super::rows::pressure;
 
 pub struct Previous {
@@ -34,7 +34,8 @@ fn start_pressures(case: &[i64], nodes: usize) -> [i64; 60]
     let mut pressures = [0i64; 60];
     let mut v: usize = 0;
     while v < nodes {
-        pressures[v] = node(case, v, 0).p0;
+        let p0 = node(case, v, 0).p0;
+        pressures[v] = p0;
         v += 1;
     }
     pressures
@@ -131,7 +132,7 @@ fn row_directions(old: [usize; 8], case: &[i64], row: &[i64], stations: usize) -
     let mut directions = old;
     let mut s: usize = 0;
     while s < stations {
-        directions[s] = index(choice(case, row, s).direction);
+        directions[s] = index(choice_of(case, row, s).direction);
         s += 1;
     }
     directions
@@ -144,7 +145,7 @@ fn row_states(old: [usize; 8], case: &[i64], row: &[i64], stations: usize) -> [u
     let mut states = old;
     let mut s: usize = 0;
     while s < stations {
-        states[s] = index(choice(case, row, s).state);
+        states[s] = index(choice_of(case, row, s).state);
         s += 1;
     }
     states
@@ -155,10 +156,14 @@ pub(crate) fn after(previous: Previous, case: &[i64], row: &[i64], layout: Layou
     requires { ⌜ (Counted (now case)) × (Laid (now case) layout) ⌝ }
     ensures { λ r. ⌜ Carried (now (case .entry)) r (pressureIn (now (row .entry))) (activeIn (now (case .entry)) (now (row .entry))) (directionIn (now (case .entry)) (now (row .entry))) (stateIn (now (case .entry)) (now (row .entry))) ⌝ }
 {
-    let pressures = row_pressures(previous.pressures, row, layout.nodes);
-    let active = row_active(previous.active, case, row, layout.arcs);
-    let directions = row_directions(previous.directions, case, row, layout.stations);
-    let states = row_states(previous.states, case, row, layout.stations);
+    let old_pressures = previous.pressures;
+    let old_active = previous.active;
+    let old_directions = previous.directions;
+    let old_states = previous.states;
+    let pressures = row_pressures(old_pressures, row, layout.nodes);
+    let active = row_active(old_active, case, row, layout.arcs);
+    let directions = row_directions(old_directions, case, row, layout.stations);
+    let states = row_states(old_states, case, row, layout.stations);
     Previous {
         pressures: pressures,
         active: active,

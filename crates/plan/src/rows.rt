@@ -66,7 +66,7 @@ pub fn arc_row(case: &[i64], row: &[i64], e: usize) -> ArcRow
     }
 }
 
-pub fn choice(case: &[i64], row: &[i64], s: usize) -> Choice
+pub fn choice_of(case: &[i64], row: &[i64], s: usize) -> Choice
     requires { ⌜ (Counted (now case)) × (s < stationsOf (now case)) ⌝ }
     ensures { λ r. ⌜ r ≡ choiceOf (now (case .entry)) (now (row .entry)) s ⌝ }
 {

@@ -27,9 +27,10 @@ use case::read::state;
 use case::read::station;
 use case::records::Direction;
 use case::records::Layout;
+use super::balance::Net;
 use super::balance::moved;
 use super::rows::arc_row;
-use super::rows::choice;
+use super::rows::choice_of;
 
 // Is it the index of one of `n` items?
 fn one_of(x: i64, n: usize) -> bool
@@ -80,7 +81,7 @@ fn choice_kept(case: &[i64], row: &[i64], layout: Layout, i: usize, s: usize) ->
 {
     let first = layout.rows[s];
     let has = station(case, first);
-    let chosen = choice(case, row, s);
+    let chosen = choice_of(case, row, s);
     if one_of(chosen.direction, has.directions) {
         if one_of(chosen.state, has.states) {
             return state_obeyed(case, row, first, s, layout.arcs, index(chosen.direction), index(chosen.state));
@@ -111,11 +112,11 @@ fn machines_once(case: &[i64], row: &[i64], layout: Layout, i: usize, s: usize) 
 }
 
 // The net flow from each node into the station's arcs.
-fn station_flows(case: &[i64], row: &[i64], s: usize, arcs: usize) -> [i64; 60]
+fn station_flows(case: &[i64], row: &[i64], s: usize, arcs: usize) -> Net
     requires { ⌜ (AcceptedCase (now case)) × (arcs ≡ arcsOf (now case)) × (FlowsSized (now case) (now row)) ⌝ }
-    ensures { λ r. ⌜ Holds (pos 0) r (stationFlow (now (case .entry)) (now (row .entry)) s) (nodesOf (now (case .entry))) ⌝ }
+    ensures { λ r. ⌜ Holds (pos 0) (r .flows) (stationFlow (now (case .entry)) (now (row .entry)) s) (nodesOf (now (case .entry))) ⌝ }
 {
-    let mut net = [0i64; 60];
+    let mut net = Net { flows: [0; 60] };
     let mut e: usize = 0;
     while e < arcs {
         if belongs(case, s, e) {
@@ -156,13 +157,13 @@ fn fence_flows_kept(case: &[i64], row: &[i64], layout: Layout, i: usize, s: usiz
     ensures { λ r. ⌜ r ≡ fenceFlowsKept (now (case .entry)) (now (row .entry)) s ⌝ }
 {
     let net = station_flows(case, row, s, layout.arcs);
-    let chosen = direction(case, layout.rows[s], index(choice(case, row, s).direction));
+    let chosen = direction(case, layout.rows[s], index(choice_of(case, row, s).direction));
     let inside = layout.inside[s];
     let plain = layout.plain;
     let nodes = layout.nodes;
     let mut v: usize = 0;
     while v < nodes {
-        if !fence_kept(chosen, inside, plain, v, net[v]) {
+        if !fence_kept(chosen, inside, plain, v, net.flows[v]) {
             return false;
         }
         v += 1;

@@ -19,10 +19,11 @@ use case::read::state;
 use case::records::Layout;
 use super::balance::net_flows;
 use super::balance::node_residual;
+use super::machines::Sum;
 use super::pipes::pipe_residual;
 use super::previous::Previous;
 use super::rows::arc_row;
-use super::rows::choice;
+use super::rows::choice_of;
 use super::rows::node_row;
 
 pub struct Totals {
@@ -40,12 +41,7 @@ pub struct Slacks {
     pub demand: i64,
 }
 
-// A sum in the making.
-pub struct Gas {
-    pub value: i64,
-}
-
-pub(crate) fn slacks(case: &[i64], row: &[i64], nodes: usize) -> Slacks
+pub(crate) fn slacks_of(case: &[i64], row: &[i64], nodes: usize) -> Slacks
     requires { ⌜ (AcceptedCase (now case)) × (nodes ≡ nodesOf (now case)) × (NodesSized (now case) (now row)) ⌝ }
     ensures { λ r. ⌜ Slacked (now (case .entry)) (now (row .entry)) r ⌝ }
 {
@@ -68,7 +64,7 @@ fn direction_cost(case: &[i64], row: &[i64], first: usize, s: usize, was: usize)
     requires { ⌜ (AcceptedCase (now case)) × (s < stationsOf (now case)) × (first ≡ stationAt (now case) s) ⌝ }
     ensures { λ r. ⌜ r ≡ directionCost (now (case .entry)) was (now (row .entry)) s ⌝ }
 {
-    let f = index(choice(case, row, s).direction);
+    let f = index(choice_of(case, row, s).direction);
     if f == was {
         0
     } else {
@@ -81,7 +77,7 @@ fn state_cost(case: &[i64], row: &[i64], first: usize, s: usize, was: usize) -> 
     requires { ⌜ (AcceptedCase (now case)) × (s < stationsOf (now case)) × (first ≡ stationAt (now case) s) ⌝ }
     ensures { λ r. ⌜ r ≡ stateCost (now (case .entry)) was (now (row .entry)) s ⌝ }
 {
-    let z = index(choice(case, row, s).state);
+    let z = index(choice_of(case, row, s).state);
     if z == was {
         0
     } else {
@@ -162,7 +158,7 @@ pub(crate) fn node_residuals(case: &[i64], old: &[i64], row: &[i64], i: usize, l
     let mut sum: usize = 0;
     let mut v: usize = 0;
     while v < nodes {
-        sum += node_residual(case, row, i, v, net[v]);
+        sum += node_residual(case, row, i, v, net.flows[v]);
         v += 1;
     }
     sum
@@ -186,7 +182,7 @@ pub(crate) fn gas(case: &[i64], pressures: &[i64], arcs: usize) -> i64
     requires { ⌜ (AcceptedCase (now case)) × (arcs ≡ arcsOf (now case)) × (PressuresSized (numberAt (now pressures)) (nodesOf (now case))) ⌝ }
     ensures { λ r. ⌜ r ≡ gasAt (now (case .entry)) (numberAt (now (pressures .entry))) ⌝ }
 {
-    let mut sum = Gas { value: 0 };
+    let mut sum = Sum { value: 0 };
     let mut e: usize = 0;
     while e < arcs {
         sum.value = sum.value + pipe_gas(case, pressures, e);
@@ -201,9 +197,12 @@ pub(crate) fn added(totals: Totals, case: &[i64], row: &[i64], previous: Previou
     ensures { λ r. ⌜ Added (now (case .entry)) (now (row .entry)) previous i totals r ⌝ }
 {
     let old = previous.pressures;
-    let slack = slacks(case, row, layout.nodes);
-    let choices = choice_costs(case, previous.directions, previous.states, row, layout);
-    let activity = activity_costs(case, previous.active, row, layout.arcs);
+    let slack = slacks_of(case, row, layout.nodes);
+    let directions = previous.directions;
+    let states = previous.states;
+    let active = previous.active;
+    let choices = choice_costs(case, directions, states, row, layout);
+    let activity = activity_costs(case, active, row, layout.arcs);
     let pipes = pipe_residuals(case, &old, row, i, layout.arcs);
     let nodes = node_residuals(case, &old, row, i, layout);
     Totals {

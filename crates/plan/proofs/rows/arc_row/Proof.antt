@@ -1,0 +1,77 @@
+use borrow.Author.Needs.{needs}
+use Rattle.plan.proofs.rows.arc_row.Statement.{statement}
+use Rattle.plan.proofs.rows.arc_row.Tie as tie
+use Rattle.plan.proofs.rows.arc_row.Reads as reads
+use Rattle.plan.proofs.rows.arc_row.Lts as lts
+use Rattle.numbers.proofs.compare.at.Reads as at-reads
+use Rattle.numbers.proofs.compare.index.Reads as index-reads
+
+-- src/rows.rt:59:23
+at-requires : tie.Need-at-requires
+at-requires c κs = search needs
+
+-- src/rows.rt:59:9
+index-requires : tie.Need-index-requires
+index-requires c κs = search needs
+
+-- src/rows.rt:60:17
+mul-first : tie.Need-mul-first
+mul-first c = ?
+
+-- src/rows.rt:60:29
+mul-first-2 : tie.Need-mul-first-2
+mul-first-2 c = search needs
+
+-- src/rows.rt:60:17
+add-first : tie.Need-add-first
+add-first c = ?
+
+-- src/rows.rt:62:12
+at-requires-2 : tie.Need-at-requires-2
+at-requires-2 c κs = search needs
+
+-- src/rows.rt:63:20
+add-at : tie.Need-add-at
+add-at c = ?
+
+-- src/rows.rt:63:12
+at-requires-3 : tie.Need-at-requires-3
+at-requires-3 c κs = search needs
+
+-- src/rows.rt:64:26
+add-at-2 : tie.Need-add-at-2
+add-at-2 c = ?
+
+-- src/rows.rt:64:18
+at-requires-4 : tie.Need-at-requires-4
+at-requires-4 c κs = search needs
+
+-- src/rows.rt:65:27
+add-at-3 : tie.Need-add-at-3
+add-at-3 c = ?
+
+-- src/rows.rt:65:19
+at-requires-5 : tie.Need-at-requires-5
+at-requires-5 c κs = search needs
+
+-- src/rows.rt:55:1
+returns : tie.Need-returns
+returns c = ?
+
+pub arc-row-spec : {M : Type 1} → statement M
+arc-row-spec =
+    tie.close
+    (tie.spec
+    at-requires
+    index-requires
+    mul-first
+    mul-first-2
+    add-first
+    at-requires-2
+    add-at
+    at-requires-3
+    add-at-2
+    at-requires-4
+    add-at-3
+    at-requires-5
+    returns)
