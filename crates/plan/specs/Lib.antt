@@ -19,6 +19,9 @@ pub mod Judged
 pub mod JudgedBytes
 pub mod Sizes
 pub mod Handed
+pub mod CaseFacts
+pub mod Kept
+pub mod Accepted
 pub mod Moved
 pub mod Carried
 pub mod Summed
