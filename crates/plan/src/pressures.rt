@@ -24,6 +24,7 @@ use case::read::artificial;
 use case::read::node;
 use case::records::Artificial;
 use case::records::Layout;
+use super::bools::both;
 use super::machines::machine_flow;
 use super::machines::machine_gain;
 use super::rows::arc_row;
@@ -35,7 +36,7 @@ use super::setting::setting_of;
 
 // Where the rows of station `s` begin.
 fn home(layout: Layout, s: usize) -> usize
-    ensures { λ r. ⌜ r ≡ getD (layout .rows) s 0 ⌝ }
+    ensures { λ r. ⌜ (s < 8 → r ≡ getD (layout .rows) s 0) ⌝ }
 {
     if s < 8 { layout.rows[s] } else { 0 }
 }
@@ -57,13 +58,13 @@ fn compression_kept(case: &[i64], row: &[i64], first: usize, i: usize, e: usize,
 {
     let p_in = pressure(row, u);
     let p_out = pressure(row, w);
-    if at_most(p_in, p_out) {
-        if at_most(p_out, out_bound(artificial(case, e))) {
-            let ratio = 1000 + machine_gain(case, first, arc_row(case, row, e).machines);
-            return at_most(1000 * p_out, node(case, u, i).p0 * ratio);
-        }
-    }
-    false
+    let bound = out_bound(artificial(case, e));
+    let ratio = 1000 + machine_gain(case, first, arc_row(case, row, e).machines);
+    let reach = node(case, u, i).p0 * ratio;
+    both(
+        at_most(p_in, p_out),
+        both(at_most(p_out, bound), at_most(1000 * p_out, reach)),
+    )
 }
 
 // An active arc from node `u` to node `w`.
@@ -117,11 +118,10 @@ fn machines_carry(case: &[i64], row: &[i64], first: usize, e: usize, flow: i64) 
     ensures { λ r. ⌜ r ≡ machinesCarry (now (case .entry)) (now (row .entry)) e flow ⌝ }
 {
     let machines = arc_row(case, row, e).machines;
-    if count(machines) <= artificial(case, e).most {
-        at_most(flow, machine_flow(case, first, machines))
-    } else {
-        false
-    }
+    both(
+        count(machines) <= artificial(case, e).most,
+        at_most(flow, machine_flow(case, first, machines)),
+    )
 }
 
 // The machines of an active arc with the flow `flow` in the setting's direction.

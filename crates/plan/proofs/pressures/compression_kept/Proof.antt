@@ -6,74 +6,75 @@ use Rattle.plan.proofs.pressures.compression_kept.Lts as lts
 use Rattle.case.proofs.read.artificial.Reads as artificial-reads
 use Rattle.case.proofs.read.node.Reads as node-reads
 use Rattle.numbers.proofs.compare.at_most.Reads as at-most-reads
+use Rattle.plan.proofs.bools.both.Reads as both-reads
 use Rattle.plan.proofs.machines.machine_gain.Reads as machine-gain-reads
 use Rattle.plan.proofs.pressures.out_bound.Reads as out-bound-reads
 use Rattle.plan.proofs.rows.arc_row.Reads as arc-row-reads
 use Rattle.plan.proofs.rows.pressure.Reads as pressure-reads
 
--- src/pressures.rt:58:9
+-- src/pressures.rt:59:9
 pressure-requires : tie.Need-pressure-requires
 pressure-requires c κs = search needs
 
--- src/pressures.rt:59:9
+-- src/pressures.rt:60:9
 pressure-requires-2 : tie.Need-pressure-requires-2
 pressure-requires-2 c κs = search needs
 
--- src/pressures.rt:60:8
-at-most-requires : tie.Need-at-most-requires
-at-most-requires c κs = search needs
-
--- src/pressures.rt:61:37
+-- src/pressures.rt:61:27
 artificial-requires : tie.Need-artificial-requires
 artificial-requires c κs = search needs
 
--- src/pressures.rt:61:27
+-- src/pressures.rt:61:9
 out-bound-requires : tie.Need-out-bound-requires
 out-bound-requires c κs = search needs
 
--- src/pressures.rt:61:12
-at-most-requires-2 : tie.Need-at-most-requires-2
-at-most-requires-2 c κs = search needs
-
--- src/pressures.rt:62:58
+-- src/pressures.rt:62:50
 arc-row-requires : tie.Need-arc-row-requires
 arc-row-requires c κs = search needs
 
--- src/pressures.rt:62:32
+-- src/pressures.rt:62:24
 machine-gain-requires : tie.Need-machine-gain-requires
 machine-gain-requires c κs = search needs
 
--- src/pressures.rt:62:25
+-- src/pressures.rt:62:17
 add-ratio : tie.Need-add-ratio
 add-ratio c = ?
 
--- src/pressures.rt:63:28
-mul-at-most : tie.Need-mul-at-most
-mul-at-most c = ?
-
--- src/pressures.rt:63:42
+-- src/pressures.rt:63:17
 node-requires : tie.Need-node-requires
 node-requires c κs = search needs
 
--- src/pressures.rt:63:42
-mul-at-most-2 : tie.Need-mul-at-most-2
-mul-at-most-2 c = ?
+-- src/pressures.rt:63:17
+mul-reach : tie.Need-mul-reach
+mul-reach c = ?
 
--- src/pressures.rt:63:13
+-- src/pressures.rt:65:9
+at-most-requires : tie.Need-at-most-requires
+at-most-requires c κs = search needs
+
+-- src/pressures.rt:66:14
+at-most-requires-2 : tie.Need-at-most-requires-2
+at-most-requires-2 c κs = search needs
+
+-- src/pressures.rt:66:45
+mul-at-most : tie.Need-mul-at-most
+mul-at-most c = ?
+
+-- src/pressures.rt:66:37
 at-most-requires-3 : tie.Need-at-most-requires-3
 at-most-requires-3 c κs = search needs
 
--- src/pressures.rt:63:13
+-- src/pressures.rt:66:9
+both-requires : tie.Need-both-requires
+both-requires c κs = search needs
+
+-- src/pressures.rt:64:5
+both-requires-2 : tie.Need-both-requires-2
+both-requires-2 c κs = search needs
+
+-- src/pressures.rt:55:1
 returns : tie.Need-returns
 returns c = ?
-
--- src/pressures.rt:54:1
-returns-2 : tie.Need-returns-2
-returns-2 c = ?
-
--- src/pressures.rt:54:1
-returns-3 : tie.Need-returns-3
-returns-3 c = ?
 
 pub compression-kept-spec : {M : Type 1} → statement M
 compression-kept-spec =
@@ -81,17 +82,17 @@ compression-kept-spec =
     (tie.spec
     pressure-requires
     pressure-requires-2
-    at-most-requires
     artificial-requires
     out-bound-requires
-    at-most-requires-2
     arc-row-requires
     machine-gain-requires
     add-ratio
-    mul-at-most
     node-requires
-    mul-at-most-2
+    mul-reach
+    at-most-requires
+    at-most-requires-2
+    mul-at-most
     at-most-requires-3
-    returns
-    returns-2
-    returns-3)
+    both-requires
+    both-requires-2
+    returns)
