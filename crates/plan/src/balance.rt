@@ -1,0 +1,115 @@
+// 33, of every node of a step. The arcs are passed once, for all nodes.
+ghost use mathlib.Core.Path.{_≡_};
+ghost use Prim.Native.Nat.{_<_};
+ghost use lib.IntN.{pos};
+ghost use Rattle.numbers.specs.Question.{firstNo};
+ghost use Rattle.numbers.specs.SignedBounds.{Bounded};
+ghost use Rattle.case.specs.Layout.{numberAt, nodesOf, arcsOf};
+ghost use Rattle.case.specs.Laid.{Holds};
+ghost use Rattle.plan.specs.Balance.{flowAtFrom, flowAtTo, netFlow, nodeResidual, allBalanceQuestions};
+ghost use Rattle.plan.specs.Moved.{movedAt, arcMoved, NetSized};
+ghost use Rattle.plan.specs.Sizes.{FlowsSized, NodesSized};
+ghost use Rattle.plan.specs.Handed.{AcceptedCase, AtStep, AtBalance};
+use numbers::answer::Answer;
+use numbers::compare::at;
+use numbers::compare::at_most;
+use case::read::arc;
+use case::records::Layout;
+use super::pipes::duration;
+use super::pipes::size;
+use super::rows::arc_row;
+use super::rows::node_row;
+
+// Each node's net flow.
+pub struct Net {
+    pub flows: [i64; 60],
+}
+
+// The net flows with one arc more, which takes `out` from node `from` and brings `into` to node `to`.
+pub(crate) fn moved(net: Net, from: usize, to: usize, out: i64, into: i64) -> Net
+    requires { ⌜ (from < 60) × (to < 60) × (Bounded out 20000000) × (Bounded into 20000000) × (NetSized (net .flows)) ⌝ }
+    ensures { λ r. ⌜ Holds (pos 0) (r .flows) (movedAt from to out into (numberAt (net .flows))) 60 ⌝ }
+{
+    let mut next = net;
+    let leaving = next.flows[from] + out;
+    next.flows[from] = leaving;
+    let entering = next.flows[to] - into;
+    next.flows[to] = entering;
+    next
+}
+
+// A pipe's flow is a at from and b at to, any other arc's a - b at both.
+pub struct Ends {
+    pub from: i64,
+    pub to: i64,
+}
+
+fn end_flows(case: &[i64], row: &[i64], e: usize) -> Ends
+    requires { ⌜ (AcceptedCase (now case)) × (e < arcsOf (now case)) × (FlowsSized (now case) (now row)) ⌝ }
+    ensures { λ r. ⌜ (r .from ≡ flowAtFrom (now (case .entry)) (now (row .entry)) e) × (r .to ≡ flowAtTo (now (case .entry)) (now (row .entry)) e) ⌝ }
+{
+    let r = arc_row(case, row, e);
+    if arc(case, e).kind == 2 {
+        Ends { from: r.a, to: r.b }
+    } else {
+        let flow = r.a - r.b;
+        Ends {
+            from: flow,
+            to: flow,
+        }
+    }
+}
+
+// The net flows with arc `e`.
+fn arc_moved(net: Net, case: &[i64], row: &[i64], e: usize) -> Net
+    requires { ⌜ (AcceptedCase (now case)) × (e < arcsOf (now case)) × (FlowsSized (now case) (now row)) × (NetSized (net .flows)) ⌝ }
+    ensures { λ r. ⌜ Holds (pos 0) (r .flows) (arcMoved (now (case .entry)) (now (row .entry)) e (numberAt (net .flows))) 60 ⌝ }
+{
+    let c = arc(case, e);
+    let flow = end_flows(case, row, e);
+    moved(net, c.from, c.to, flow.from, flow.to)
+}
+
+// Each node's flow out less its flow in.
+pub(crate) fn net_flows(case: &[i64], row: &[i64], arcs: usize) -> Net
+    requires { ⌜ (AcceptedCase (now case)) × (arcs ≡ arcsOf (now case)) × (FlowsSized (now case) (now row)) ⌝ }
+    ensures { λ r. ⌜ Holds (pos 0) (r .flows) (netFlow (now (case .entry)) (now (row .entry))) (nodesOf (now (case .entry))) ⌝ }
+{
+    let mut net = Net { flows: [0; 60] };
+    let mut e: usize = 0;
+    while e < arcs {
+        net = arc_moved(net, case, row, e);
+        e += 1;
+    }
+    net
+}
+
+// The left side of 33, by the node's net flow.
+pub(crate) fn node_residual(case: &[i64], row: &[i64], i: usize, v: usize, net: i64) -> usize
+    requires { ⌜ AtBalance (now case) (now row) i v net ⌝ }
+    ensures { λ r. ⌜ r ≡ nodeResidual (now (case .entry)) (now (row .entry)) i v ⌝ }
+{
+    size(duration(case, i)) * size(net - node_row(row, v).d)
+}
+
+pub(crate) fn balance_answers(case: &[i64], row: &[i64], layout: Layout, i: usize) -> Answer
+    requires { ⌜ (AtStep (now case) layout i) × (FlowsSized (now case) (now row)) × (NodesSized (now case) (now row)) ⌝ }
+    ensures { λ r. ⌜ r ≡ firstNo (allBalanceQuestions (now (case .entry)) (now (row .entry)) i) ⌝ }
+{
+    let nodes = layout.nodes;
+    let most = at(case, 5);
+    let net = net_flows(case, row, layout.arcs);
+    let mut v: usize = 0;
+    while v < nodes {
+        let residual = node_residual(case, row, i, v, net.flows[v]);
+        if !at_most(residual as i64, most) {
+            return Answer::No {
+                number: 33,
+                step: i + 1,
+                place: v,
+            };
+        }
+        v += 1;
+    }
+    Answer::Yes
+}

@@ -1,0 +1,167 @@
+// 26 and 27, of one arc. The arc's kind and its setting choose the rule.
+ghost use mathlib.Core.Path.{_≡_};
+ghost use Prim.Native.Nat.{_<_, _≤_};
+ghost use lib.ListN.{getD};
+ghost use Rattle.numbers.specs.Question.{firstNo};
+ghost use Rattle.case.specs.Layout.{nodesOf, arcsOf};
+ghost use Rattle.case.specs.Records.{arcOf};
+ghost use Rattle.case.specs.Bounds.{Counted};
+ghost use Rattle.plan.specs.declared.setting.Mode.the-variants as modes;
+ghost use Rattle.plan.specs.Setting.{homeOf, settingIn};
+ghost use Rattle.plan.specs.ArcPressures.{outBound, compressionKept, modePressures, settingPressures, pressuresKept};
+ghost use Rattle.plan.specs.ArcMachines.{machinesCarry, modeMachines, machinesUsed};
+ghost use Rattle.plan.specs.ArcRules.{pressureQuestions};
+ghost use Rattle.plan.specs.Sizes.{MachinesSized};
+ghost use Rattle.plan.specs.Handed.{AtArc, Compresses};
+use numbers::answer::Answer;
+use numbers::answer::ask;
+use numbers::answer::or_else;
+use numbers::compare::at_most;
+use numbers::compare::same;
+use numbers::sets::count;
+use case::read::arc;
+use case::read::artificial;
+use case::read::node;
+use case::records::Artificial;
+use case::records::Layout;
+use super::bools::both;
+use super::machines::machine_flow;
+use super::machines::machine_gain;
+use super::rows::arc_row;
+use super::rows::pressure;
+use super::setting::Mode;
+use super::setting::Setting;
+use super::setting::Way;
+use super::setting::setting_of;
+
+// Where the rows of station `s` begin.
+fn home(layout: Layout, s: usize) -> usize
+    ensures { λ r. ⌜ (s < 8 → r ≡ getD (layout .rows) s 0) ⌝ }
+{
+    if s < 8 { layout.rows[s] } else { 0 }
+}
+
+fn out_bound(x: Artificial) -> i64
+    ensures { λ r. ⌜ r ≡ outBound x ⌝ }
+{
+    if same(x.outbound, 0) {
+        200000
+    } else {
+        x.outbound
+    }
+}
+
+// Compressing from node `u` to node `w`; the rows of the arc's station begin at `first`.
+fn compression_kept(case: &[i64], row: &[i64], first: usize, i: usize, e: usize, u: usize, w: usize) -> bool
+    requires { ⌜ Compresses (now case) (now row) first i e u w ⌝ }
+    ensures { λ r. ⌜ r ≡ compressionKept (now (case .entry)) (now (row .entry)) i e u w ⌝ }
+{
+    let p_in = pressure(row, u);
+    let p_out = pressure(row, w);
+    let bound = out_bound(artificial(case, e));
+    let ratio = 1000 + machine_gain(case, first, arc_row(case, row, e).machines);
+    let reach = node(case, u, i).p0 * ratio;
+    both(
+        at_most(p_in, p_out),
+        both(at_most(p_out, bound), at_most(1000 * p_out, reach)),
+    )
+}
+
+// An active arc from node `u` to node `w`.
+fn mode_pressures(case: &[i64], row: &[i64], layout: Layout, i: usize, e: usize, mode: Mode, u: usize, w: usize) -> bool
+    requires { ⌜ (AtArc (now case) (now row) layout i e) × (u < nodesOf (now case)) × (w < nodesOf (now case)) × (mode ≡ modes.Compressing → 3 ≤ arcOf (now case) e .kind) ⌝ }
+    ensures { λ r. ⌜ r ≡ modePressures (now (case .entry)) (now (row .entry)) i e mode u w ⌝ }
+{
+    match mode {
+        Mode::Open => same(pressure(row, u), pressure(row, w)),
+        Mode::Regulating => at_most(pressure(row, w), pressure(row, u)),
+        Mode::Compressing => {
+            let s = artificial(case, e).station;
+            compression_kept(case, row, home(layout, s), i, e, u, w)
+        }
+    }
+}
+
+fn setting_pressures(case: &[i64], row: &[i64], layout: Layout, i: usize, e: usize, setting: Setting) -> bool
+    requires { ⌜ (AtArc (now case) (now row) layout i e) × (setting ≡ settingIn (now case) (now row) e) ⌝ }
+    ensures { λ r. ⌜ r ≡ settingPressures (now (case .entry)) (now (row .entry)) i e setting ⌝ }
+{
+    match setting {
+        Setting::Unknown => true,
+        Setting::Off => true,
+        Setting::Active { way, mode } => {
+            let c = arc(case, e);
+            match way {
+                Way::Forward => mode_pressures(case, row, layout, i, e, mode, c.from, c.to),
+                Way::Backward => mode_pressures(case, row, layout, i, e, mode, c.to, c.from),
+            }
+        }
+    }
+}
+
+// 26
+fn pressures_kept(case: &[i64], row: &[i64], layout: Layout, i: usize, e: usize) -> bool
+    requires { ⌜ AtArc (now case) (now row) layout i e ⌝ }
+    ensures { λ r. ⌜ r ≡ pressuresKept (now (case .entry)) (now (row .entry)) i e ⌝ }
+{
+    let c = arc(case, e);
+    let kind = c.kind;
+    match kind {
+        1 => at_most(pressure(row, c.to), pressure(row, c.from)),
+        _ => setting_pressures(case, row, layout, i, e, setting_of(kind, arc_row(case, row, e).setting)),
+    }
+}
+
+// Are there few enough machines, and do they carry the flow?
+fn machines_carry(case: &[i64], row: &[i64], first: usize, e: usize, flow: i64) -> bool
+    requires { ⌜ (Counted (now case)) × (e < arcsOf (now case)) × (first ≡ homeOf (now case) e) × (MachinesSized (now case) first) ⌝ }
+    ensures { λ r. ⌜ r ≡ machinesCarry (now (case .entry)) (now (row .entry)) e flow ⌝ }
+{
+    let machines = arc_row(case, row, e).machines;
+    both(
+        count(machines) <= artificial(case, e).most,
+        at_most(flow, machine_flow(case, first, machines)),
+    )
+}
+
+// The machines of an active arc with the flow `flow` in the setting's direction.
+fn mode_machines(case: &[i64], row: &[i64], layout: Layout, i: usize, e: usize, mode: Mode, flow: i64) -> bool
+    requires { ⌜ (AtArc (now case) (now row) layout i e) × (mode ≡ modes.Compressing → 3 ≤ arcOf (now case) e .kind) ⌝ }
+    ensures { λ r. ⌜ r ≡ modeMachines (now (case .entry)) (now (row .entry)) e mode flow ⌝ }
+{
+    match mode {
+        Mode::Compressing => {
+            let s = artificial(case, e).station;
+            machines_carry(case, row, home(layout, s), e, flow)
+        }
+        Mode::Open => same(arc_row(case, row, e).machines, 0),
+        Mode::Regulating => same(arc_row(case, row, e).machines, 0),
+    }
+}
+
+// 27
+fn machines_used(case: &[i64], row: &[i64], layout: Layout, i: usize, e: usize) -> bool
+    requires { ⌜ AtArc (now case) (now row) layout i e ⌝ }
+    ensures { λ r. ⌜ r ≡ machinesUsed (now (case .entry)) (now (row .entry)) e ⌝ }
+{
+    let r = arc_row(case, row, e);
+    let setting = setting_of(arc(case, e).kind, r.setting);
+    match setting {
+        Setting::Unknown => same(r.machines, 0),
+        Setting::Off => same(r.machines, 0),
+        Setting::Active { way, mode } => match way {
+            Way::Forward => mode_machines(case, row, layout, i, e, mode, r.a),
+            Way::Backward => mode_machines(case, row, layout, i, e, mode, r.b),
+        },
+    }
+}
+
+pub(crate) fn pressure_answer(case: &[i64], row: &[i64], layout: Layout, i: usize, e: usize) -> Answer
+    requires { ⌜ AtArc (now case) (now row) layout i e ⌝ }
+    ensures { λ r. ⌜ r ≡ firstNo (pressureQuestions (now (case .entry)) (now (row .entry)) i e) ⌝ }
+{
+    or_else(
+        ask(pressures_kept(case, row, layout, i, e), 26, i + 1, e),
+        ask(machines_used(case, row, layout, i, e), 27, i + 1, e),
+    )
+}

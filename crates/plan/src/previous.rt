@@ -1,0 +1,173 @@
+// What a step knows of the step before it. Before step 1 it is p0 and the step-0 choices.
+ghost use mathlib.Core.Path.{_≡_};
+ghost use mathlib.Core.Bool.{false};
+ghost use Prim.Native.Nat.{_≤_};
+ghost use lib.IntN.{pos};
+ghost use Rattle.case.specs.Layout.{arcsOf, stationsOf};
+ghost use Rattle.case.specs.States.{activeAtStart};
+ghost use Rattle.case.specs.Bounds.{Counted};
+ghost use Rattle.case.specs.Laid.{Holds, Laid};
+ghost use Rattle.plan.specs.PlanRecords.{pressureIn, activeIn, directionIn, stateIn};
+ghost use Rattle.plan.specs.Before.{startPressure, startDirection, startState};
+ghost use Rattle.plan.specs.Carried.{Carried};
+use numbers::compare::at_most;
+use numbers::compare::index;
+use case::members::active;
+use case::read::node;
+use case::read::station;
+use case::records::Layout;
+use super::rows::arc_row;
+use super::rows::choice_of;
+use super::rows::pressure;
+
+pub struct Previous {
+    pub pressures: [i64; 60],
+    pub active: [bool; 120],
+    pub directions: [usize; 8],
+    pub states: [usize; 8],
+}
+
+fn start_pressures(case: &[i64], nodes: usize) -> [i64; 60]
+    requires { ⌜ nodes ≤ 60 ⌝ }
+    ensures { λ r. ⌜ Holds (pos 0) r (startPressure (now (case .entry))) nodes ⌝ }
+{
+    let mut pressures = [0i64; 60];
+    let mut v: usize = 0;
+    while v < nodes {
+        let p0 = node(case, v, 0).p0;
+        pressures[v] = p0;
+        v += 1;
+    }
+    pressures
+}
+
+fn start_active(case: &[i64], arcs: usize) -> [bool; 120]
+    requires { ⌜ arcs ≤ 120 ⌝ }
+    ensures { λ r. ⌜ Holds false r (activeAtStart (now (case .entry))) arcs ⌝ }
+{
+    let mut on = [false; 120];
+    let mut e: usize = 0;
+    while e < arcs {
+        on[e] = active(case, e);
+        e += 1;
+    }
+    on
+}
+
+fn start_directions(case: &[i64], layout: Layout) -> [usize; 8]
+    requires { ⌜ (Counted (now case)) × (Laid (now case) layout) ⌝ }
+    ensures { λ r. ⌜ Holds 0 r (startDirection (now (case .entry))) (stationsOf (now (case .entry))) ⌝ }
+{
+    let mut directions = [0usize; 8];
+    let stations = layout.stations;
+    let mut s: usize = 0;
+    while s < stations {
+        directions[s] = station(case, layout.rows[s]).direction;
+        s += 1;
+    }
+    directions
+}
+
+fn start_states(case: &[i64], layout: Layout) -> [usize; 8]
+    requires { ⌜ (Counted (now case)) × (Laid (now case) layout) ⌝ }
+    ensures { λ r. ⌜ Holds 0 r (startState (now (case .entry))) (stationsOf (now (case .entry))) ⌝ }
+{
+    let mut states = [0usize; 8];
+    let stations = layout.stations;
+    let mut s: usize = 0;
+    while s < stations {
+        states[s] = station(case, layout.rows[s]).state;
+        s += 1;
+    }
+    states
+}
+
+// Before step 1.
+pub(crate) fn start(case: &[i64], layout: Layout) -> Previous
+    requires { ⌜ (Counted (now case)) × (Laid (now case) layout) ⌝ }
+    ensures { λ r. ⌜ Carried (now (case .entry)) r (startPressure (now (case .entry))) (activeAtStart (now (case .entry))) (startDirection (now (case .entry))) (startState (now (case .entry))) ⌝ }
+{
+    let pressures = start_pressures(case, layout.nodes);
+    let active = start_active(case, layout.arcs);
+    let directions = start_directions(case, layout);
+    let states = start_states(case, layout);
+    Previous {
+        pressures: pressures,
+        active: active,
+        directions: directions,
+        states: states,
+    }
+}
+
+fn row_pressures(old: [i64; 60], row: &[i64], nodes: usize) -> [i64; 60]
+    requires { ⌜ nodes ≤ 60 ⌝ }
+    ensures { λ r. ⌜ Holds (pos 0) r (pressureIn (now (row .entry))) nodes ⌝ }
+{
+    let mut pressures = old;
+    let mut v: usize = 0;
+    while v < nodes {
+        pressures[v] = pressure(row, v);
+        v += 1;
+    }
+    pressures
+}
+
+fn row_active(old: [bool; 120], case: &[i64], row: &[i64], arcs: usize) -> [bool; 120]
+    requires { ⌜ (Counted (now case)) × (arcs ≡ arcsOf (now case)) ⌝ }
+    ensures { λ r. ⌜ Holds false r (activeIn (now (case .entry)) (now (row .entry))) arcs ⌝ }
+{
+    let mut on = old;
+    let mut e: usize = 0;
+    while e < arcs {
+        on[e] = at_most(1, arc_row(case, row, e).setting);
+        e += 1;
+    }
+    on
+}
+
+fn row_directions(old: [usize; 8], case: &[i64], row: &[i64], stations: usize) -> [usize; 8]
+    requires { ⌜ (Counted (now case)) × (stations ≡ stationsOf (now case)) ⌝ }
+    ensures { λ r. ⌜ Holds 0 r (directionIn (now (case .entry)) (now (row .entry))) stations ⌝ }
+{
+    let mut directions = old;
+    let mut s: usize = 0;
+    while s < stations {
+        directions[s] = index(choice_of(case, row, s).direction);
+        s += 1;
+    }
+    directions
+}
+
+fn row_states(old: [usize; 8], case: &[i64], row: &[i64], stations: usize) -> [usize; 8]
+    requires { ⌜ (Counted (now case)) × (stations ≡ stationsOf (now case)) ⌝ }
+    ensures { λ r. ⌜ Holds 0 r (stateIn (now (case .entry)) (now (row .entry))) stations ⌝ }
+{
+    let mut states = old;
+    let mut s: usize = 0;
+    while s < stations {
+        states[s] = index(choice_of(case, row, s).state);
+        s += 1;
+    }
+    states
+}
+
+// Past a step, whose part of the plan is `row`.
+pub(crate) fn after(previous: Previous, case: &[i64], row: &[i64], layout: Layout) -> Previous
+    requires { ⌜ (Counted (now case)) × (Laid (now case) layout) ⌝ }
+    ensures { λ r. ⌜ Carried (now (case .entry)) r (pressureIn (now (row .entry))) (activeIn (now (case .entry)) (now (row .entry))) (directionIn (now (case .entry)) (now (row .entry))) (stateIn (now (case .entry)) (now (row .entry))) ⌝ }
+{
+    let old_pressures = previous.pressures;
+    let old_active = previous.active;
+    let old_directions = previous.directions;
+    let old_states = previous.states;
+    let pressures = row_pressures(old_pressures, row, layout.nodes);
+    let active = row_active(old_active, case, row, layout.arcs);
+    let directions = row_directions(old_directions, case, row, layout.stations);
+    let states = row_states(old_states, case, row, layout.stations);
+    Previous {
+        pressures: pressures,
+        active: active,
+        directions: directions,
+        states: states,
+    }
+}

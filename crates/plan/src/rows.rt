@@ -1,0 +1,80 @@
+// The rows of one step as records by value, read off the step's part of the plan list. A number past the end reads as 0.
+ghost use mathlib.Core.Path.{_≡_};
+ghost use Prim.Native.Nat.{_<_};
+ghost use Rattle.case.specs.Layout.{arcsOf, stationsOf, nodesOf};
+ghost use Rattle.case.specs.Bounds.{Counted};
+ghost use Rattle.plan.specs.PlanRecords.{nodeRow, pressureIn, arcRow, choiceOf};
+use numbers::compare::at;
+use numbers::compare::index;
+
+pub struct NodeRow {
+    pub p: i64,
+    pub d: i64,
+    pub splus: i64,
+    pub sminus: i64,
+    pub uplus: i64,
+    pub uminus: i64,
+}
+
+pub struct ArcRow {
+    pub a: i64,
+    pub b: i64,
+    pub setting: i64,
+    pub machines: i64, // a set
+}
+
+// A station's row.
+pub struct Choice {
+    pub direction: i64,
+    pub state: i64,
+}
+
+pub fn node_row(row: &[i64], v: usize) -> NodeRow
+    requires { ⌜ v < 1000000 ⌝ }
+    ensures { λ r. ⌜ r ≡ nodeRow (now (row .entry)) v ⌝ }
+{
+    let first = v * 6;
+    NodeRow {
+        p: at(row, first),
+        d: at(row, first + 1),
+        splus: at(row, first + 2),
+        sminus: at(row, first + 3),
+        uplus: at(row, first + 4),
+        uminus: at(row, first + 5),
+    }
+}
+
+// A node's pressure alone.
+pub fn pressure(row: &[i64], v: usize) -> i64
+    requires { ⌜ v < 1000000 ⌝ }
+    ensures { λ r. ⌜ r ≡ pressureIn (now (row .entry)) v ⌝ }
+{
+    at(row, v * 6)
+}
+
+pub fn arc_row(case: &[i64], row: &[i64], e: usize) -> ArcRow
+    requires { ⌜ (Counted (now case)) × (e < arcsOf (now case)) ⌝ }
+    ensures { λ r. ⌜ r ≡ arcRow (now (case .entry)) (now (row .entry)) e ⌝ }
+{
+    let nodes = index(at(case, 1));
+    let first = nodes * 6 + e * 4;
+    ArcRow {
+        a: at(row, first),
+        b: at(row, first + 1),
+        setting: at(row, first + 2),
+        machines: at(row, first + 3),
+    }
+}
+
+pub fn choice_of(case: &[i64], row: &[i64], s: usize) -> Choice
+    requires { ⌜ (Counted (now case)) × (s < stationsOf (now case)) ⌝ }
+    ensures { λ r. ⌜ r ≡ choiceOf (now (case .entry)) (now (row .entry)) s ⌝ }
+{
+    let nodes = index(at(case, 1));
+    let arcs = index(at(case, 2));
+    let first = nodes * 6 + arcs * 4 + s * 2;
+    Choice {
+        direction: at(row, first),
+        state: at(row, first + 1),
+    }
+}

@@ -1,0 +1,123 @@
+// One step, and every step of a plan, one after the other.
+ghost use mathlib.Core.Path.{_≡_};
+ghost use Rattle.numbers.specs.Question.{firstNo};
+ghost use Rattle.numbers.specs.Items.{over};
+ghost use Rattle.case.specs.Layout.{numberAt, nodesOf, arcsOf, stepsOf};
+ghost use Rattle.case.specs.Laid.{Laid};
+ghost use Rattle.plan.specs.Step.{stepQuestions};
+ghost use Rattle.plan.specs.Judged.{planStep, verdictOf};
+ghost use Rattle.plan.specs.Totals.{totalsOf};
+ghost use Rattle.plan.specs.Sizes.{PressuresSized};
+ghost use Rattle.plan.specs.Summed.{Opened, Closed};
+ghost use Rattle.plan.specs.Handed.{AcceptedCase, AtStep, PlanLaid};
+use numbers::answer::Answer;
+use numbers::answer::or_else;
+use case::records::Layout;
+use super::arcs::arc_answers;
+use super::balance::balance_answers;
+use super::nodes::node_answers;
+use super::previous::Previous;
+use super::previous::after;
+use super::previous::start;
+use super::stations::station_answers;
+use super::totals::Totals;
+use super::totals::added;
+use super::totals::gas;
+use super::verdict::Verdict;
+
+// Every question of a step, whose part of the plan is `row`.
+fn step(case: &[i64], row: &[i64], previous: Previous, layout: Layout, i: usize) -> Answer
+    requires { ⌜ (AtStep (now case) layout i) × (PressuresSized (numberAt (previous .pressures)) (nodesOf (now case))) ⌝ }
+    ensures { λ r. ⌜ r ≡ firstNo (stepQuestions (now (case .entry)) (numberAt (previous .pressures)) (now (row .entry)) i) ⌝ }
+{
+    let old = previous.pressures;
+    let nodes = node_answers(case, row, i, layout.nodes);
+    match nodes {
+        Answer::Yes => {}
+        Answer::No {
+            number: _,
+            step: _,
+            place: _,
+        } => {
+            return nodes;
+        }
+    }
+    let arcs = arc_answers(case, &old, row, layout, i);
+    match arcs {
+        Answer::Yes => or_else(
+            station_answers(case, row, layout, i),
+            balance_answers(case, row, layout, i),
+        ),
+        Answer::No {
+            number: _,
+            step: _,
+            place: _,
+        } => arcs,
+    }
+}
+
+// No totals yet, but for the gas before step 1.
+fn opened(case: &[i64], previous: Previous, arcs: usize) -> Totals
+    requires { ⌜ (AcceptedCase (now case)) × (arcs ≡ arcsOf (now case)) × (PressuresSized (numberAt (previous .pressures)) (nodesOf (now case))) ⌝ }
+    ensures { λ r. ⌜ Opened (now (case .entry)) (numberAt (previous .pressures)) r ⌝ }
+{
+    let old = previous.pressures;
+    Totals {
+        pressure: 0,
+        demand: 0,
+        switching: 0,
+        residual: 0,
+        opening: gas(case, &old, arcs),
+        closing: 0,
+    }
+}
+
+// The totals with the gas past the last step.
+fn closed(totals: Totals, case: &[i64], previous: Previous, arcs: usize) -> Totals
+    requires { ⌜ (AcceptedCase (now case)) × (arcs ≡ arcsOf (now case)) × (PressuresSized (numberAt (previous .pressures)) (nodesOf (now case))) ⌝ }
+    ensures { λ r. ⌜ Closed (now (case .entry)) (numberAt (previous .pressures)) totals r ⌝ }
+{
+    let old = previous.pressures;
+    Totals {
+        pressure: totals.pressure,
+        demand: totals.demand,
+        switching: totals.switching,
+        residual: totals.residual,
+        opening: totals.opening,
+        closing: gas(case, &old, arcs),
+    }
+}
+
+// A step judge that waves a step through falls to the promise, as does one that looks at the first step's part alone.
+pub(crate) fn steps(case: &[i64], plan: &[i64], layout: Layout) -> Verdict
+    requires { ⌜ (AcceptedCase (now case)) × (Laid (now case) layout) × (PlanLaid (now case) (now plan)) ⌝ }
+    ensures { λ r. ⌜ r ≡ verdictOf (firstNo (over (planStep (now (case .entry)) (now (plan .entry))) 0 (stepsOf (now (case .entry))))) (totalsOf (now (case .entry)) (now (plan .entry))) ⌝ }
+{
+    let width = layout.nodes * 6 + layout.arcs * 4 + layout.stations * 2;
+    let mut previous = start(case, layout);
+    let mut totals = opened(case, previous, layout.arcs);
+    let mut i: usize = 0;
+    while i < layout.steps {
+        let first = 2 + i * width;
+        let row = &plan[first..first + width];
+        let a = step(case, row, previous, layout, i);
+        match a {
+            Answer::Yes => {}
+            Answer::No {
+                number,
+                step,
+                place,
+            } => {
+                return Verdict::Refused {
+                    number: number,
+                    step: step,
+                    place: place,
+                };
+            }
+        }
+        totals = added(totals, case, row, previous, layout, i);
+        previous = after(previous, case, row, layout);
+        i += 1;
+    }
+    Verdict::Accepted(closed(totals, case, previous, layout.arcs))
+}

@@ -1,0 +1,226 @@
+// The six totals of an accepted plan, and what a step adds to them.
+ghost use mathlib.Core.Path.{_≡_};
+ghost use Prim.Native.Nat.{_<_};
+ghost use Rattle.case.specs.Layout.{numberAt, nodesOf, arcsOf, stationsOf, stationAt, stepsOf};
+ghost use Rattle.case.specs.Laid.{Laid};
+ghost use Rattle.plan.specs.Totals.{changed, directionCost, stateCost, activityCost, choiceCosts, activityCosts, pipePart, pipeResiduals, nodeResiduals, gasPart, gasAt};
+ghost use Rattle.plan.specs.Carried.{activeOf, indexOf};
+ghost use Rattle.plan.specs.Sizes.{NodesSized, PressuresSized};
+ghost use Rattle.plan.specs.Summed.{Slacked, TotalsSized, Added};
+ghost use Rattle.plan.specs.Handed.{AcceptedCase, AtStep, ChoicesKept, StepKept};
+use numbers::compare::at;
+use numbers::compare::at_most;
+use numbers::compare::index;
+use case::read::arc;
+use case::read::artificial;
+use case::read::direction;
+use case::read::pipe;
+use case::read::state;
+use case::records::Layout;
+use super::balance::net_flows;
+use super::balance::node_residual;
+use super::machines::Sum;
+use super::pipes::pipe_residual;
+use super::previous::Previous;
+use super::rows::arc_row;
+use super::rows::choice_of;
+use super::rows::node_row;
+
+pub struct Totals {
+    pub pressure: i64,    // pressure slack
+    pub demand: i64,      // demand slack
+    pub switching: usize, // switching cost
+    pub residual: usize,
+    pub opening: i64, // gas in all pipes at 0
+    pub closing: i64, // and at k
+}
+
+// The two slacks of a step.
+pub struct Slacks {
+    pub pressure: i64,
+    pub demand: i64,
+}
+
+pub(crate) fn slacks_of(case: &[i64], row: &[i64], nodes: usize) -> Slacks
+    requires { ⌜ (AcceptedCase (now case)) × (nodes ≡ nodesOf (now case)) × (NodesSized (now case) (now row)) ⌝ }
+    ensures { λ r. ⌜ Slacked (now (case .entry)) (now (row .entry)) r ⌝ }
+{
+    let mut sum = Slacks {
+        pressure: 0,
+        demand: 0,
+    };
+    let mut v: usize = 0;
+    while v < nodes {
+        let r = node_row(row, v);
+        sum.pressure = sum.pressure + (r.uplus + r.uminus);
+        sum.demand = sum.demand + (r.splus + r.sminus);
+        v += 1;
+    }
+    sum
+}
+
+// The weight of the direction, if it is newly chosen. The station's rows begin at `first`.
+fn direction_cost(case: &[i64], row: &[i64], first: usize, s: usize, was: usize) -> usize
+    requires { ⌜ (AcceptedCase (now case)) × (s < stationsOf (now case)) × (first ≡ stationAt (now case) s) ⌝ }
+    ensures { λ r. ⌜ r ≡ directionCost (now (case .entry)) was (now (row .entry)) s ⌝ }
+{
+    let f = index(choice_of(case, row, s).direction);
+    if f == was {
+        0
+    } else {
+        direction(case, first, f).weight
+    }
+}
+
+// The weight of the state, if it is newly chosen.
+fn state_cost(case: &[i64], row: &[i64], first: usize, s: usize, was: usize) -> usize
+    requires { ⌜ (AcceptedCase (now case)) × (s < stationsOf (now case)) × (first ≡ stationAt (now case) s) ⌝ }
+    ensures { λ r. ⌜ r ≡ stateCost (now (case .entry)) was (now (row .entry)) s ⌝ }
+{
+    let z = index(choice_of(case, row, s).state);
+    if z == was {
+        0
+    } else {
+        state(case, first, z).weight
+    }
+}
+
+pub(crate) fn choice_costs(case: &[i64], directions: [usize; 8], states: [usize; 8], row: &[i64], layout: Layout) -> usize
+    requires { ⌜ (AcceptedCase (now case)) × (Laid (now case) layout) × (ChoicesKept (now case) (now row)) ⌝ }
+    ensures { λ r. ⌜ r ≡ choiceCosts (now (case .entry)) (indexOf directions) (indexOf states) (now (row .entry)) ⌝ }
+{
+    let stations = layout.stations;
+    let mut sum: usize = 0;
+    let mut s: usize = 0;
+    while s < stations {
+        let first = layout.rows[s];
+        let f = direction_cost(case, row, first, s, directions[s]);
+        let z = state_cost(case, row, first, s, states[s]);
+        sum += f + z;
+        s += 1;
+    }
+    sum
+}
+
+fn changed(was: bool, is: bool) -> bool
+    ensures { λ r. ⌜ r ≡ changed was is ⌝ }
+{
+    if was { !is } else { is }
+}
+
+// The weight of an artificial arc whose activity changed.
+fn activity_cost(case: &[i64], row: &[i64], e: usize, was: bool) -> usize
+    requires { ⌜ (AcceptedCase (now case)) × (e < arcsOf (now case)) ⌝ }
+    ensures { λ r. ⌜ r ≡ activityCost (now (case .entry)) was (now (row .entry)) e ⌝ }
+{
+    if 3 <= arc(case, e).kind {
+        if changed(was, at_most(1, arc_row(case, row, e).setting)) {
+            return artificial(case, e).weight;
+        }
+    }
+    0
+}
+
+pub(crate) fn activity_costs(case: &[i64], active: [bool; 120], row: &[i64], arcs: usize) -> usize
+    requires { ⌜ (AcceptedCase (now case)) × (arcs ≡ arcsOf (now case)) ⌝ }
+    ensures { λ r. ⌜ r ≡ activityCosts (now (case .entry)) (activeOf active) (now (row .entry)) ⌝ }
+{
+    let mut sum: usize = 0;
+    let mut e: usize = 0;
+    while e < arcs {
+        sum += activity_cost(case, row, e, active[e]);
+        e += 1;
+    }
+    sum
+}
+
+// The left side of 28, of a pipe.
+fn pipe_part(case: &[i64], old: &[i64], row: &[i64], i: usize, e: usize) -> usize
+    requires { ⌜ (AcceptedCase (now case)) × (i < stepsOf (now case)) × (e < arcsOf (now case)) × (StepKept (now case) (now old) (now row) i) ⌝ }
+    ensures { λ r. ⌜ r ≡ pipePart (now (case .entry)) (numberAt (now (old .entry))) (now (row .entry)) i e ⌝ }
+{
+    if arc(case, e).kind == 2 {
+        pipe_residual(case, old, row, i, e)
+    } else {
+        0
+    }
+}
+
+pub(crate) fn pipe_residuals(case: &[i64], old: &[i64], row: &[i64], i: usize, arcs: usize) -> usize
+    requires { ⌜ (AcceptedCase (now case)) × (i < stepsOf (now case)) × (arcs ≡ arcsOf (now case)) × (StepKept (now case) (now old) (now row) i) ⌝ }
+    ensures { λ r. ⌜ r ≡ pipeResiduals (now (case .entry)) (numberAt (now (old .entry))) (now (row .entry)) i ⌝ }
+{
+    let mut sum: usize = 0;
+    let mut e: usize = 0;
+    while e < arcs {
+        sum += pipe_part(case, old, row, i, e);
+        e += 1;
+    }
+    sum
+}
+
+pub(crate) fn node_residuals(case: &[i64], old: &[i64], row: &[i64], i: usize, layout: Layout) -> usize
+    requires { ⌜ (AtStep (now case) layout i) × (StepKept (now case) (now old) (now row) i) ⌝ }
+    ensures { λ r. ⌜ r ≡ nodeResiduals (now (case .entry)) (now (row .entry)) i ⌝ }
+{
+    let nodes = layout.nodes;
+    let net = net_flows(case, row, layout.arcs);
+    let mut sum: usize = 0;
+    let mut v: usize = 0;
+    while v < nodes {
+        sum += node_residual(case, row, i, v, net.flows[v]);
+        v += 1;
+    }
+    sum
+}
+
+// A pipe's gas.
+fn pipe_gas(case: &[i64], pressures: &[i64], e: usize) -> i64
+    requires { ⌜ (AcceptedCase (now case)) × (e < arcsOf (now case)) × (PressuresSized (numberAt (now pressures)) (nodesOf (now case))) ⌝ }
+    ensures { λ r. ⌜ r ≡ gasPart (now (case .entry)) (numberAt (now (pressures .entry))) e ⌝ }
+{
+    let c = arc(case, e);
+    if c.kind == 2 {
+        pipe(case, e).c * (at(pressures, c.from) + at(pressures, c.to))
+    } else {
+        0
+    }
+}
+
+// The gas in all pipes.
+pub(crate) fn gas(case: &[i64], pressures: &[i64], arcs: usize) -> i64
+    requires { ⌜ (AcceptedCase (now case)) × (arcs ≡ arcsOf (now case)) × (PressuresSized (numberAt (now pressures)) (nodesOf (now case))) ⌝ }
+    ensures { λ r. ⌜ r ≡ gasAt (now (case .entry)) (numberAt (now (pressures .entry))) ⌝ }
+{
+    let mut sum = Sum { value: 0 };
+    let mut e: usize = 0;
+    while e < arcs {
+        sum.value = sum.value + pipe_gas(case, pressures, e);
+        e += 1;
+    }
+    sum.value
+}
+
+// The totals with one step more.
+pub(crate) fn added(totals: Totals, case: &[i64], row: &[i64], previous: Previous, layout: Layout, i: usize) -> Totals
+    requires { ⌜ (AtStep (now case) layout i) × (StepKept (now case) (previous .pressures) (now row) i) × (TotalsSized totals) ⌝ }
+    ensures { λ r. ⌜ Added (now (case .entry)) (now (row .entry)) previous i totals r ⌝ }
+{
+    let old = previous.pressures;
+    let slack = slacks_of(case, row, layout.nodes);
+    let directions = previous.directions;
+    let states = previous.states;
+    let active = previous.active;
+    let choices = choice_costs(case, directions, states, row, layout);
+    let activity = activity_costs(case, active, row, layout.arcs);
+    let pipes = pipe_residuals(case, &old, row, i, layout.arcs);
+    let nodes = node_residuals(case, &old, row, i, layout);
+    Totals {
+        pressure: totals.pressure + slack.pressure,
+        demand: totals.demand + slack.demand,
+        switching: totals.switching + (choices + activity),
+        residual: totals.residual + (pipes + nodes),
+        opening: totals.opening,
+        closing: totals.closing,
+    }
+}
