@@ -14,16 +14,19 @@ use mir.Syntax.{w64}
 use mir.Val.{toZ, ofZ}
 use Rattle.numbers.specs.SignedParts.{posPart}
 use Rattle.numbers.specs.SignedBounds.{Bounded}
-use Rattle.numbers.specs.SignedLocals.{Held, held, plain, _+ʳ_, _-ʳ_, _*ʳ_, literal}
+use Rattle.numbers.specs.SignedLocals.{Held, held, plain, loosen, _+ʳ_, _-ʳ_, _*ʳ_, literal}
 use Rattle.numbers.specs.Sets.{memberOf}
 use Rattle.numbers.specs.Sum.{abs-sum-le, abs-only-le}
 use Rattle.numbers.specs.Question.{Question, firstNo, firstNo-append, orElse, orElse-assoc, orElse-first}
 use Rattle.numbers.specs.declared.answer.Answer.{Answer}
 use Rattle.numbers.specs.declared.answer.Answer.the-variants.{Yes, No}
 use Rattle.case.specs.declared.records.Layout.{Layout}
+use Rattle.case.specs.declared.records.Arc.{Arc}
+use Rattle.case.specs.declared.records.Pipe.{Pipe}
 use Rattle.case.specs.declared.records.Artificial.{Artificial}
 use Rattle.case.specs.Layout.{numberAt, nodesOf, arcsOf, stepsOf, machinesAt}
 use Rattle.case.specs.Records.{nodeOf, arcOf, pipeOf, artificialOf, machineRow}
+use Rattle.plan.specs.declared.rows.ArcRow.{ArcRow}
 use Rattle.plan.specs.declared.setting.Way.{Way}
 use Rattle.plan.specs.declared.setting.Way.the-variants.{Forward}
 use Rattle.plan.specs.declared.setting.Mode.the-variants.{Open, Compressing}
@@ -97,9 +100,37 @@ compressing-kind kind z way e = go (leZ (pos 0) z) (eqb (posPart z) 0) (eqb kind
 
 -- ---- 28 and 29: the two sides of a pipe
 
+-- what the sum of 28 is made of, as it is read, and that it is the sum
+pub record SumRead (dt a b c x y z : ℤ) : Type 0 where
+  pub sizes : Bounded (toZ w64 (ofZ w64 dt)) 86400
+      × Bounded (toZ w64 (ofZ w64 a)) 10000000
+      × Bounded (toZ w64 (ofZ w64 b)) 10000000
+      × Bounded (toZ w64 (ofZ w64 c)) 100000000
+      × Bounded (toZ w64 (ofZ w64 x)) 400000
+      × Bounded (toZ w64 (ofZ w64 y)) 400000
+  pub total : Held (toZ w64 (ofZ w64 dt) *ℤ (toZ w64 (ofZ w64 a) -ℤ toZ w64 (ofZ w64 b)) -ℤ toZ w64 (ofZ w64 c) *ℤ (toZ w64 (ofZ w64 x) +ℤ toZ w64 (ofZ w64 y))) z 100000000000000
+
 module _ {case old row : List ℤ} {i e : ℕ} (p : AtPipe case old row i e) where
   pub change-sized : (v : ℕ) → v < nodesOf case → Bounded (change (numberAt old) row v) 400000
   change-sized v q = record { bound = (sized (p .at .pressures .each v q) -ʳ sized (p .at .before .each v q)) .bound }
+
+  pub sum-read : {dt x y : ℤ} {r : ArcRow} {k : Pipe} {n : Arc} → dt ≡ duration case i → r ≡ arcRow case row e → k ≡ pipeOf case e → n ≡ arcOf case e
+      → x ≡ change (numberAt old) row (n .from) → y ≡ change (numberAt old) row (n .to)
+      → SumRead dt (r .a) (r .b) (k .c) x y (pipeImbalance case (numberAt old) row i e)
+  unfolding pipeImbalance
+  sum-read {dt} {x} {y} {r} {k} {n} et er ek en ex ey =
+      let s = p .at in
+      let z = pipe-sized (s .accepted) e (s .arc) (p .pipe) in
+      let d = read et (duration-sized (s .accepted) i (s .step)) tt in
+      let a = read (ap (λ (u : ArcRow). u .a) er) (s .flows .a) tt in
+      let b = read (ap (λ (u : ArcRow). u .b) er) (s .flows .b) tt in
+      let c = read (ap (λ (u : Pipe). u .c) ek) (z .c) tt in
+      let f = read (ex ∙ ap (λ (u : Arc). change (numberAt old) row (u .from)) en) (change-sized (arcOf case e .from) (from-node (s .accepted) e (s .arc))) tt in
+      let t = read (ey ∙ ap (λ (u : Arc). change (numberAt old) row (u .to)) en) (change-sized (arcOf case e .to) (to-node (s .accepted) e (s .arc))) tt in
+      record {
+        sizes = (read-bounded d, read-bounded a, read-bounded b, read-bounded c, read-bounded f, read-bounded t);
+        total = loosen 100000000000000 (omega arith) (d *ʳ (a -ʳ b) -ʳ c *ʳ (f +ʳ t));
+      }
 
   pub imbalance-sized : Bounded (pipeImbalance case (numberAt old) row i e) 100000000000000
   unfolding pipeImbalance
