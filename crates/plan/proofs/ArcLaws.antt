@@ -3,7 +3,7 @@
 use mathlib.Core.Path.{_≡_, refl, sym, ap, ap₂, _∙_, subst}
 use mathlib.Core.Bool.{Bool, true, false, cond}
 use mathlib.Core.List.{List, _++_}
-use Prim.Native.Nat.{ℕ, _+_, _*_, _<_, _≤_, _^_}
+use Prim.Native.Nat.{ℕ, _<_, _≤_, _^_}
 use native.Mathlib.Omega.{arith}
 use borrow.Author.Tests.{leb-false}
 use lib.Dec.{T, eqb, leb, ltb}
@@ -24,18 +24,18 @@ use Rattle.case.specs.declared.records.Layout.{Layout}
 use Rattle.case.specs.declared.records.Arc.{Arc}
 use Rattle.case.specs.declared.records.Pipe.{Pipe}
 use Rattle.case.specs.declared.records.Artificial.{Artificial}
-use Rattle.case.specs.Layout.{numberAt, nodesOf, arcsOf, stepsOf, machinesAt}
-use Rattle.case.specs.Records.{nodeOf, arcOf, pipeOf, artificialOf, machineRow}
+use Rattle.case.specs.Layout.{numberAt, nodesOf, machinesAt}
+use Rattle.case.specs.Records.{arcOf, pipeOf, artificialOf, machineRow}
 use Rattle.plan.specs.declared.rows.ArcRow.{ArcRow}
 use Rattle.plan.specs.declared.setting.Way.{Way}
 use Rattle.plan.specs.declared.setting.Way.the-variants.{Forward}
 use Rattle.plan.specs.declared.setting.Mode.the-variants.{Open, Compressing}
 use Rattle.plan.specs.declared.setting.Setting.{Setting}
 use Rattle.plan.specs.declared.setting.Setting.the-variants.{Unknown, Off, Active}
-use Rattle.plan.specs.PlanRecords.{pressureIn, arcRow}
+use Rattle.plan.specs.PlanRecords.{arcRow}
 use Rattle.plan.specs.Setting.{settingOf, activeOf, valveOf, homeOf}
 use Rattle.plan.specs.Machines.{machineGain, gainPart}
-use Rattle.plan.specs.Pipes.{duration, change, pipeImbalance, pipeResidual, pressureBalance}
+use Rattle.plan.specs.Pipes.{duration, change, pipeImbalance, pressureBalance}
 use Rattle.plan.specs.Sizes.{MachinesSized}
 use Rattle.plan.specs.Handed.{AtArc, AtPipe, Compresses}
 use Rattle.plan.specs.CaseFacts.{counted, duration-sized, node-sized, from-node, to-node, pipe-sized, station-in, machines-sized}

@@ -10,7 +10,6 @@ use mir.Syntax.{w64}
 use mir.Val.{toZ, ofZ}
 use Rattle.numbers.specs.Question.{answer, orElse, orElse-yes}
 use Rattle.numbers.specs.SignedLocals.{Held, held, held-fits, fit, param, literal, _*ʳ_}
-use Rattle.case.specs.Layout.{numberAt}
 use Rattle.case.proofs.Reading.{kept}
 use Rattle.plan.specs.Pipes.{isPipe, pipeResidual, pressureBalance, pipeMassKept, pipePressuresKept}
 use Rattle.plan.specs.ArcRules.{pipeQuestions}

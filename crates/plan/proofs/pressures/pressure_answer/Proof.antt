@@ -1,8 +1,6 @@
-use mathlib.Core.Path.{_≡_, sym, ap, ap₂, _∙_}
-use denote.Ref.{now}
+use mathlib.Core.Path.{sym, ap, ap₂, _∙_}
 use Prim.Native.Nat.{_+_}
 use Rattle.numbers.specs.Question.{answer, orElse, orElse-yes}
-use Rattle.numbers.specs.declared.answer.Answer.{Answer}
 use Rattle.plan.specs.ArcRules.{pressureQuestions}
 use borrow.Author.Needs.{needs}
 use Rattle.plan.proofs.pressures.pressure_answer.Statement.{statement}

@@ -1,5 +1,5 @@
 use mathlib.Core.Path.{_≡_, sym, ap, ap₂, _∙_}
-use Prim.Native.Nat.{ℕ, _<_}
+use Prim.Native.Nat.{_<_}
 use mathlib.Core.Bool.{true, false}
 use native.Mathlib.Omega.{arith}
 use borrow.Author.Tests.{eq-eqb, ne-eqb}
@@ -11,7 +11,7 @@ use Rattle.case.specs.declared.records.Arc.{Arc}
 use Rattle.case.specs.Records.{arcOf}
 use Rattle.case.proofs.Reading.{kept}
 use Rattle.plan.specs.declared.rows.ArcRow.{ArcRow}
-use Rattle.plan.specs.PlanRecords.{pressureIn, arcRow}
+use Rattle.plan.specs.PlanRecords.{pressureIn}
 use Rattle.plan.specs.Setting.{settingOf, settingIn}
 use Rattle.plan.specs.ArcPressures.{settingPressures, pressuresKept}
 use Rattle.plan.specs.CaseFacts.{counted, from-node, to-node}

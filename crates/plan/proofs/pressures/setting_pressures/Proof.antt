@@ -1,7 +1,6 @@
-use mathlib.Core.Path.{_≡_, sym, ap, _∙_}
+use mathlib.Core.Path.{sym, ap, _∙_}
 use denote.Ref.{now}
 use Rattle.case.specs.declared.records.Arc.{Arc}
-use Rattle.case.specs.Records.{arcOf}
 use Rattle.plan.specs.declared.setting.Setting.the-variants.{Active}
 use Rattle.plan.specs.ArcPressures.{modePressures}
 use Rattle.plan.specs.CaseFacts.{from-node, to-node}
