@@ -2,3 +2,4 @@ pub mod Reading
 pub mod Asked
 pub mod Counting
 pub mod Rows
+pub mod Ruled

@@ -7,7 +7,7 @@ use native.Mathlib.Omega.{arith}
 use lib.IntN.{ℤ}
 use Rattle.numbers.specs.Question.{firstNo, firstNo-append, orElse}
 use Rattle.numbers.specs.declared.answer.Answer.{Answer}
-use Rattle.case.specs.Layout.{arcAt, directionsAt, directionAt, stateAt, machineAt}
+use Rattle.case.specs.Layout.{nodesOf, arcsOf, stepsOf, nodeAt, arcAt, directionsAt, directionAt, stateAt, machineAt, stationAt}
 use Rattle.case.specs.Field.{field, fields}
 use Rattle.case.specs.ArcFields.{endFields, kindFields, arcFields}
 use Rattle.case.specs.StationFields.{directionFields, stateRowFields, stateFields, machineFields, firstItems}
@@ -28,3 +28,12 @@ machine-row l row m h = omega (arith, h)
 pub arc-asked : (l : List ℤ) (e row : ℕ) {a b r : Answer} → row ≡ arcAt l e → r ≡ orElse a b → a ≡ firstNo (endFields l row) → b ≡ firstNo (kindFields l row) → r ≡ firstNo (arcFields l e)
 unfolding arcFields
 arc-asked l e row h o p q = rw (← h, firstNo-append) (chain o p q)
+
+-- where the arcs' rows begin, and the stations'
+pub first-arc : (l : List ℤ) {n k : ℕ} → n ≡ nodesOf l → k ≡ stepsOf l → 7 + k + n * (6 + k) ≡ arcAt l 0
+unfolding arcAt nodeAt
+first-arc l p q = rw (p, q) (omega arith)
+
+pub first-station : (l : List ℤ) {n k a : ℕ} → n ≡ nodesOf l → k ≡ stepsOf l → a ≡ arcsOf l → 7 + k + n * (6 + k) + a * 11 ≡ stationAt l 0
+unfolding stationAt arcAt nodeAt
+first-station l p q r = rw (p, q, r)

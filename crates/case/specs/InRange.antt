@@ -58,6 +58,14 @@ pub fields-yes : (case : List ℤ) (i n : ℕ) (low high : ℤ) → firstNo (fie
 unfolding fields
 fields-yes case i n low high e j p = field-yes case (i + j) low high (item-yes (nextField case i low high) n e j p)
 
+-- a field, or fields that share a range, before other questions: what is known of it, and that none of the others is answered no
+pub field-then : (case : List ℤ) (i : ℕ) (low high : ℤ) (Y : List Question) → firstNo (field case i low high ++ Y) ≡ Yes → InRange case i low high × (firstNo Y ≡ Yes)
+field-then case i low high Y e = (field-yes case i low high (first-yes (field case i low high) Y e), second-yes (field case i low high) Y e)
+
+pub fields-then : (case : List ℤ) (i n : ℕ) (low high : ℤ) (Y : List Question) → firstNo (fields case i n low high ++ Y) ≡ Yes
+    → ((j : ℕ) → j < n → InRange case (i + j) low high) × (firstNo Y ≡ Yes)
+fields-then case i n low high Y e = (fields-yes case i n low high (first-yes (fields case i n low high) Y e), second-yes (fields case i n low high) Y e)
+
 -- a count from m to n
 pub count-most : {case : List ℤ} {i : ℕ} {m n : ℕ} → InRange case i (pos m) (pos n) → countAt case i ≤ n
 count-most {case} {i} r = omega (ints, r .most, size (numberAt case i))

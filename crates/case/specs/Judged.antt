@@ -29,14 +29,16 @@ rowQuestions case =
 unfoldable pub listQuestions : List ℤ → List Question
 listQuestions case = headFields case ++ rowQuestions case
 
--- 13 to 17: "over all arcs, nodes or stations, one question after the other"
-unfoldable pub ruleQuestions : List ℤ → List Question
-ruleQuestions case =
+-- 13 to 17: "over all arcs, nodes or stations, one question after the other"; 17 stands apart, since the code asks it only of stations that 15 let pass
+unfoldable pub earlyRules : List ℤ → List Question
+earlyRules case =
     allArcEnds case
     ++ (allOneStation case
     ++ (allStationSizes case
-    ++ (allDirectionSets case
-    ++ allStateSets case)))
+    ++ allDirectionSets case))
+
+unfoldable pub ruleQuestions : List ℤ → List Question
+ruleQuestions case = earlyRules case ++ allStateSets case
 
 unfoldable pub caseQuestions : List ℤ → List Question
 caseQuestions case = listQuestions case ++ ruleQuestions case

@@ -15,6 +15,11 @@ pub mod OneStation
 pub mod StationSize
 pub mod Directions
 pub mod States
+pub mod CountLaws
 pub mod Judged
 pub mod Bounds
+pub mod Passed
 pub mod Laid
+pub mod LaidLaws
+pub mod Ranges
+pub mod Accepted

@@ -1,7 +1,8 @@
 // A station's arcs and nodes. Every function is total, but for the set of the arcs that are active.
 ghost use mathlib.Core.Path.{_≡_};
-ghost use Prim.Native.Nat.{_≤_};
+ghost use Prim.Native.Nat.{_+_, _<_, _≤_, _^_};
 ghost use lib.IntN.{pos};
+ghost use Rattle.numbers.specs.Sum.{onlyN};
 ghost use Rattle.case.specs.StationArcs.{belongs, arcsBefore, arcSet};
 ghost use Rattle.case.specs.StationNodes.{withNode, withEnds, endsOf, plain};
 ghost use Rattle.case.specs.States.{activeAtStart};
@@ -43,6 +44,18 @@ pub fn station_arcs(case: &[i64], s: usize, arcs: usize) -> usize
     n
 }
 
+// A set of the station's arcs, with arc `e`, its `n`-th, in it if the arc is active at step 0.
+fn with_arc(case: &[i64], set: usize, n: usize, e: usize) -> usize
+    requires { ⌜ (n < 62) × (set < 2 ^ n) ⌝ }
+    ensures { λ r. ⌜ r ≡ set + onlyN (activeAtStart (now (case .entry)) e) (2 ^ n) ⌝ }
+{
+    if active(case, e) {
+        set + (1usize << n)
+    } else {
+        set
+    }
+}
+
 // Those of the station's arcs that are active at step 0, as a set.
 pub(crate) fn start_set(case: &[i64], s: usize, arcs: usize) -> i64
     requires { ⌜ arcsBefore (now case) s arcs ≤ 30 ⌝ }
@@ -53,9 +66,7 @@ pub(crate) fn start_set(case: &[i64], s: usize, arcs: usize) -> i64
     let mut e: usize = 0;
     while e < arcs {
         if belongs(case, s, e) {
-            if active(case, e) {
-                set += 1usize << n;
-            }
+            set = with_arc(case, set, n, e);
             n += 1;
         }
         e += 1;

@@ -249,7 +249,7 @@ fn station_kept(case: &[i64], row: usize, s: usize, arcs: usize) -> bool
 
 // 17
 fn state_sets(case: &[i64], layout: Layout) -> Answer
-    requires { ⌜ (Counted (now case)) × (Laid (now case) layout) × (Sized (now case)) ⌝ }
+    requires { ⌜ (Counted (now case)) × (Laid (now case) layout) × (Sized (now case)) × (StationsCounted (now case)) ⌝ }
     ensures { λ r. ⌜ r ≡ firstNo (allStateSets (now (case .entry))) ⌝ }
 {
     let arcs = layout.arcs;

@@ -1,10 +1,15 @@
 -- The groups of a 64-bit number, as a loop takes them off: at most ten.
 -- Assumes nothing.
-use mathlib.Core.Path.{_≡_, refl, ap, _∙_}
+use mathlib.Core.Path.{_≡_, refl, ap, subst, _∙_}
+use mathlib.Core.Bool.{Bool, true, false}
 use mathlib.Core.List.{_∷_}
 use Prim.Native.Nat.{ℕ, zero, suc, _+_, _*_, _-_, _/_, _%_, _^_, _≤_, _<_}
 use native.Mathlib.Nat.{pow-suc}
+use lib.Count.{leadingZeros, leading-length}
+use lib.Pow.{pow-mono}
 use native.Mathlib.Omega.{arith}
+use borrow.Author.Tests.{ltb-true, ltb-false, leb-true, leb-false}
+use lib.Dec.{ltb, leb}
 use lib.ListN.{length}
 use Rattle.numbers.specs.Groups.{groups, groupsUpTo, one-group, more-groups}
 
@@ -32,24 +37,58 @@ turned rest (suc less) h l = record {
   first = more-groups less rest h;
 }
 
--- the count of groups, where `more` of the ten are not taken off yet
-pub record Counting (m rest more : ℕ) : Type 0 where
-  pub left : Left rest more
-  pub total : length (groups m) + more ≡ 9 + length (groupsUpTo more rest)
+-- ---- the count of groups, by the length in bits
 
-pub counting : (m : ℕ) → m < 2 ^ 64 → Counting m m 9
+-- m has k binary digits
+pub record Long (m k : ℕ) : Type 0 where
+  pub below : m < 2 ^ k
+  pub top : 2 ^ k ≤ 2 * m + 1
+
+-- seven digits fewer without the lowest group
+long-next : (m j : ℕ) → Long m (suc (suc (suc (suc (suc (suc (suc j))))))) → Long (m / 128) j
+long-next m j l =
+    let e : 2 ^ suc (suc (suc (suc (suc (suc (suc j)))))) ≡ 128 * 2 ^ j =
+    omega (arith, pow-suc 2 (suc (suc (suc (suc (suc (suc j)))))), pow-suc 2 (suc (suc (suc (suc (suc j))))), pow-suc 2 (suc (suc (suc (suc j)))), pow-suc 2 (suc (suc (suc j))), pow-suc 2 (suc (suc j)), pow-suc 2 (suc j), pow-suc 2 j) in
+    record { below = omega (arith, l .below); top = omega (arith, l .top) }
+
+long-short : (m k : ℕ) → Long m k → m < 128 → k ≤ 7
+long-short m k l h = go (leb k 7) refl
+  where
+    go : (b : Bool) → leb k 7 ≡ b → k ≤ 7
+    go true t = leb-true k 7 t
+    go false t = let f : ⊥ = omega (arith, l .top, pow-mono {i = 8} {j = k} (leb-false k 7 t)) in absurd f
+
+long-some : (m k : ℕ) → Long m k → 1 ≤ m → 1 ≤ k
+long-some m zero l h = let f : ⊥ = omega (arith, l .below) in absurd f
+long-some m (suc k) l h = omega arith
+
+long-more : (m k : ℕ) → Long m k → 128 ≤ m → (j : ℕ) × (k ≡ suc (suc (suc (suc (suc (suc (suc j)))))))
+long-more m k l h = go (leb k 7) refl
+  where
+    go : (b : Bool) → leb k 7 ≡ b → (j : ℕ) × (k ≡ suc (suc (suc (suc (suc (suc (suc j)))))))
+    go true t = let f : ⊥ = omega (arith, l .below, pow-mono {i = k} {j = 7} (leb-true k 7 t)) in absurd f
+    go false t = (k - 7, omega (arith, leb-false k 7 t))
+
+count-long : (more m k : ℕ) → m < 2 * 128 ^ more → 1 ≤ m → Long m k → length (groupsUpTo more m) ≡ (k + 6) / 7
+count-long zero m k h s l = let a = long-short m k l (omega (arith, h)) in let b = long-some m k l s in omega arith
+count-long (suc more) m k h s l = go (ltb m 128) refl (count-long more (m / 128))
+  where
+    go : (t : Bool) → ltb m 128 ≡ t → ((j : ℕ) → m / 128 < 2 * 128 ^ more → 1 ≤ m / 128 → Long (m / 128) j → length (groupsUpTo more (m / 128)) ≡ (j + 6) / 7)
+        → length (groupsUpTo (suc more) m) ≡ (k + 6) / 7
+    go true t again =
+        let n = ltb-true m 128 t in
+        let a = long-short m k l n in
+        let b = long-some m k l s in
+        ap length (one-group (suc more) m n) ∙ omega arith
+    go false t again =
+        let n = ltb-false m 128 t in
+        let j = long-more m k l n in
+        let r = again (j .0) (omega (arith, h, pow-suc 128 more)) (omega arith) (long-next m (j .0) (subst (Long m) (j .1) l)) in
+        omega (arith, ap length (more-groups more m n), r, j .1)
+
+-- the code's own count, from the zeros above the highest digit
+pub width-is : (m zeros : ℕ) → 128 ≤ m → m < 2 ^ 64 → zeros ≡ leadingZeros 64 m → (70 - zeros) / 7 ≡ length (groups m)
 unfolding groups
-counting m h = record { left = left-all m h; total = omega arith }
-
-module _ {m rest more : ℕ} (c : Counting m rest more) where
-  pub count-some : 128 ≤ rest → 1 ≤ more
-  count-some h = omega (arith, turned rest more h (c .left) .is)
-
-  pub count-turn : 128 ≤ rest → Counting m (rest / 128) (more - 1)
-  count-turn h =
-      let t = turned rest more h (c .left) in
-      let e : more - 1 ≡ t .less = omega (arith, t .is) in
-      rw e (record { left = t .left; total = omega (arith, t .is, ap length (t .first), c .total) })
-
-  pub count-end : rest < 128 → 10 - more ≡ length (groups m)
-  count-end h = let e : length (groupsUpTo more rest) ≡ 1 = rw (one-group more rest h) in omega (arith, e, c .total, c .left .few)
+width-is m zeros h l e =
+    let d = leading-length 64 m l in
+    omega (arith, e, d .1, count-long 9 m (d .0) (omega (arith, l)) (omega arith) (record { below = d .2; top = d .3 }))

@@ -47,8 +47,8 @@ module _ (b : ℕ) where
       small-append (f i) (over f (suc i) c)
       (subst (λ (n : ℕ). Small b (firstNo (f n))) z (h 0 (omega arith) (λ m l. let g : ⊥ = omega (arith, l) in absurd g)))
       (λ e. small-over f (suc i) c (λ j l before.
-          let y : i + suc j ≡ suc i + j = omega arith in
-          subst (λ (n : ℕ). Small b (firstNo (f n))) y (h (suc j) (omega arith) (earlier e j before))))
+      let y : i + suc j ≡ suc i + j = omega arith in
+      subst (λ (n : ℕ). Small b (firstNo (f n))) y (h (suc j) (omega arith) (earlier e j before))))
     where
       earlier : firstNo (f i) ≡ Yes → (j : ℕ) → ((m : ℕ) → m < j → firstNo (f (suc i + m)) ≡ Yes) → (m : ℕ) → m < suc j → firstNo (f (i + m)) ≡ Yes
       earlier e j before zero l = let z : i + 0 ≡ i = omega arith in rw z e

@@ -54,17 +54,15 @@ fn size_of(list: &[i64], room: usize) -> Size
     Size::Fits(total)
 }
 
-// How many groups a number has.
+// How many groups a number has, by its length in bits.
 fn width(m: u64) -> usize
     ensures { λ r. ⌜ r ≡ length (groups m) ⌝ }
 {
-    let mut rest = m;
-    let mut more: usize = 9;
-    while 128 <= rest {
-        rest = rest / 128;
-        more -= 1;
+    if m < 128 {
+        return 1;
     }
-    10 - more
+    let above = u64::leading_zeros(m) as usize;
+    (70 - above) / 7
 }
 
 // Every number of the list, one after the other from the front of the bytes.

@@ -22,6 +22,7 @@ use case::read::arc;
 use case::read::artificial;
 use case::records::Arc;
 use case::records::Artificial;
+use super::bools::both;
 use super::rows::ArcRow;
 use super::rows::arc_row;
 use super::setting::Setting;
@@ -31,11 +32,7 @@ use super::setting::setting_of;
 fn both_within(least: i64, a: i64, most: i64, b: i64, back: i64) -> bool
     ensures { λ x. ⌜ x ≡ (within least a most && within least b back) ⌝ }
 {
-    if within(least, a, most) {
-        within(least, b, back)
-    } else {
-        false
-    }
+    both(within(least, a, most), within(least, b, back))
 }
 
 fn flows_kept(c: Arc, r: ArcRow) -> bool
@@ -54,12 +51,9 @@ fn machines_within(kind: usize, own: i64, machines: i64) -> bool
     ensures { λ x. ⌜ x ≡ machinesWithin kind own machines ⌝ }
 {
     if kind <= 4 {
-        return same(machines, 0);
-    }
-    if at_most(0, machines) {
-        subset(machines, own)
+        same(machines, 0)
     } else {
-        false
+        both(at_most(0, machines), subset(machines, own))
     }
 }
 
@@ -82,12 +76,13 @@ fn arc_numbers_kept(c: Arc, x: Artificial, r: ArcRow) -> bool
     requires { ⌜ Bounded (c .qmax) 10000000 ⌝ }
     ensures { λ y. ⌜ y ≡ arcNumbersKept c x r ⌝ }
 {
-    if flows_kept(c, r) {
-        if setting_allowed(x.bothways, setting_of(c.kind, r.setting)) {
-            return machines_within(c.kind, x.machines, r.machines);
-        }
-    }
-    false
+    both(
+        flows_kept(c, r),
+        both(
+            setting_allowed(x.bothways, setting_of(c.kind, r.setting)),
+            machines_within(c.kind, x.machines, r.machines),
+        ),
+    )
 }
 
 fn no_flow_against(artificial: bool, s: Setting, r: ArcRow) -> bool
@@ -95,13 +90,7 @@ fn no_flow_against(artificial: bool, s: Setting, r: ArcRow) -> bool
 {
     match s {
         Setting::Unknown => true,
-        Setting::Off => {
-            if same(r.a, 0) {
-                same(r.b, 0)
-            } else {
-                false
-            }
-        }
+        Setting::Off => both(same(r.a, 0), same(r.b, 0)),
         Setting::Active { way, mode: _ } => {
             if artificial {
                 match way {

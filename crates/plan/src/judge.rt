@@ -18,6 +18,7 @@ use numbers::reader::read;
 use case::judge::judge_case;
 use case::judge::layout;
 use case::records::Layout;
+use super::bools::both;
 use super::steps::steps;
 use super::verdict::Verdict;
 
@@ -26,13 +27,14 @@ fn head_kept(case: &[i64], plan: &[i64], layout: Layout) -> bool
     requires { ⌜ (AcceptedCase (now case)) × (Laid (now case) layout) ⌝ }
     ensures { λ r. ⌜ r ≡ headKept (now (case .entry)) (now (plan .entry)) ⌝ }
 {
-    if same(at(plan, 0), 1) {
-        if same(at(plan, 1), layout.steps as i64) {
-            let width = layout.nodes * 6 + layout.arcs * 4 + layout.stations * 2;
-            return plan.len() == 2 + layout.steps * width;
-        }
-    }
-    false
+    let width = layout.nodes * 6 + layout.arcs * 4 + layout.stations * 2;
+    both(
+        same(at(plan, 0), 1),
+        both(
+            same(at(plan, 1), layout.steps as i64),
+            plan.len() == 2 + layout.steps * width,
+        ),
+    )
 }
 
 // The verdict on a plan for a case that has been accepted.

@@ -1,6 +1,8 @@
 // Sums over the machines of a station that a set names. The station's rows begin at `first`.
 ghost use mathlib.Core.Path.{_≡_};
-ghost use Rattle.plan.specs.Machines.{machineFlow, machineGain};
+ghost use Prim.Native.Nat.{_<_};
+ghost use Rattle.case.specs.Layout.{machinesAt};
+ghost use Rattle.plan.specs.Machines.{flowPart, machineFlow, gainPart, machineGain};
 ghost use Rattle.plan.specs.Sizes.{MachinesSized};
 use numbers::sets::member;
 use case::read::machine;
@@ -9,6 +11,17 @@ use case::read::station;
 // A sum in the making.
 pub struct Sum {
     pub value: i64,
+}
+
+// A machine's flow, if the set names it.
+fn flow_part(case: &[i64], first: usize, set: i64, m: usize) -> i64
+    ensures { λ r. ⌜ r ≡ flowPart (now (case .entry)) first set m ⌝ }
+{
+    if member(set, m) {
+        machine(case, first, m).flow
+    } else {
+        0
+    }
 }
 
 // The sum of their flows.
@@ -20,12 +33,22 @@ pub(crate) fn machine_flow(case: &[i64], first: usize, set: i64) -> i64
     let mut sum = Sum { value: 0 };
     let mut m: usize = 0;
     while m < machines {
-        if member(set, m) {
-            sum.value = sum.value + machine(case, first, m).flow;
-        }
+        sum.value = sum.value + flow_part(case, first, set, m);
         m += 1;
     }
     sum.value
+}
+
+// What a machine's ratio is above 1,000, if the set names it.
+fn gain_part(case: &[i64], first: usize, set: i64, m: usize) -> i64
+    requires { ⌜ (MachinesSized (now case) first) × (m < machinesAt (now case) first) ⌝ }
+    ensures { λ r. ⌜ r ≡ gainPart (now (case .entry)) first set m ⌝ }
+{
+    if member(set, m) {
+        machine(case, first, m).ratio - 1000
+    } else {
+        0
+    }
 }
 
 // The sum of what their ratios are above 1,000.
@@ -37,9 +60,7 @@ pub(crate) fn machine_gain(case: &[i64], first: usize, set: i64) -> i64
     let mut sum = Sum { value: 0 };
     let mut m: usize = 0;
     while m < machines {
-        if member(set, m) {
-            sum.value = sum.value + (machine(case, first, m).ratio - 1000);
-        }
+        sum.value = sum.value + gain_part(case, first, set, m);
         m += 1;
     }
     sum.value

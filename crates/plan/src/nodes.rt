@@ -14,6 +14,7 @@ use numbers::compare::same;
 use numbers::compare::within;
 use case::read::node;
 use case::records::Node;
+use super::bools::both;
 use super::rows::NodeRow;
 use super::rows::node_row;
 
@@ -29,14 +30,15 @@ fn slacks_kept(n: Node, r: NodeRow) -> bool
     ensures { λ x. ⌜ x ≡ slacksKept n r ⌝ }
 {
     let demand = slack_limit(n.kind, 10000000);
-    if within(0, r.splus, demand) {
-        if within(0, r.sminus, demand) {
-            if within(0, r.uplus, slack_limit(n.kind, n.actlow - n.low)) {
-                return within(0, r.uminus, slack_limit(n.kind, n.high - n.acthigh));
-            }
-        }
-    }
-    false
+    let low = slack_limit(n.kind, n.actlow - n.low);
+    let high = slack_limit(n.kind, n.high - n.acthigh);
+    both(
+        within(0, r.splus, demand),
+        both(
+            within(0, r.sminus, demand),
+            both(within(0, r.uplus, low), within(0, r.uminus, high)),
+        ),
+    )
 }
 
 // The range of the actual boundary flow goes by the node's kind.
@@ -55,12 +57,10 @@ fn numbers_kept(n: Node, r: NodeRow) -> bool
     requires { ⌜ NodeSized n ⌝ }
     ensures { λ x. ⌜ x ≡ nodeNumbersKept n r ⌝ }
 {
-    if within(n.low, r.p, n.high) {
-        if flow_kept(n.kind, r.d) {
-            return slacks_kept(n, r);
-        }
-    }
-    false
+    both(
+        within(n.low, r.p, n.high),
+        both(flow_kept(n.kind, r.d), slacks_kept(n, r)),
+    )
 }
 
 // 22
@@ -81,12 +81,12 @@ fn active_bounds_kept(n: Node, r: NodeRow) -> bool
     ensures { λ x. ⌜ x ≡ activeBoundsKept n r ⌝ }
 {
     if same(n.demand, 0) {
-        return true;
-    }
-    if at_most(n.actlow, r.p + r.uplus) {
-        at_most(r.p - r.uminus, n.acthigh)
+        true
     } else {
-        false
+        both(
+            at_most(n.actlow, r.p + r.uplus),
+            at_most(r.p - r.uminus, n.acthigh),
+        )
     }
 }
 

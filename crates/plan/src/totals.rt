@@ -3,7 +3,7 @@ ghost use mathlib.Core.Path.{_≡_};
 ghost use Prim.Native.Nat.{_<_};
 ghost use Rattle.case.specs.Layout.{numberAt, nodesOf, arcsOf, stationsOf, stationAt, stepsOf};
 ghost use Rattle.case.specs.Laid.{Laid};
-ghost use Rattle.plan.specs.Totals.{changed, directionCost, stateCost, activityCost, choiceCosts, activityCosts, pipeResiduals, nodeResiduals, gasPart, gasAt};
+ghost use Rattle.plan.specs.Totals.{changed, directionCost, stateCost, activityCost, choiceCosts, activityCosts, pipePart, pipeResiduals, nodeResiduals, gasPart, gasAt};
 ghost use Rattle.plan.specs.Carried.{activeOf, indexOf};
 ghost use Rattle.plan.specs.Sizes.{NodesSized, PressuresSized};
 ghost use Rattle.plan.specs.Summed.{Slacked, TotalsSized, Added};
@@ -134,6 +134,18 @@ pub(crate) fn activity_costs(case: &[i64], active: [bool; 120], row: &[i64], arc
     sum
 }
 
+// The left side of 28, of a pipe.
+fn pipe_part(case: &[i64], old: &[i64], row: &[i64], i: usize, e: usize) -> usize
+    requires { ⌜ (AcceptedCase (now case)) × (i < stepsOf (now case)) × (e < arcsOf (now case)) × (StepKept (now case) (now old) (now row) i) ⌝ }
+    ensures { λ r. ⌜ r ≡ pipePart (now (case .entry)) (numberAt (now (old .entry))) (now (row .entry)) i e ⌝ }
+{
+    if arc(case, e).kind == 2 {
+        pipe_residual(case, old, row, i, e)
+    } else {
+        0
+    }
+}
+
 pub(crate) fn pipe_residuals(case: &[i64], old: &[i64], row: &[i64], i: usize, arcs: usize) -> usize
     requires { ⌜ (AcceptedCase (now case)) × (i < stepsOf (now case)) × (arcs ≡ arcsOf (now case)) × (StepKept (now case) (now old) (now row) i) ⌝ }
     ensures { λ r. ⌜ r ≡ pipeResiduals (now (case .entry)) (numberAt (now (old .entry))) (now (row .entry)) i ⌝ }
@@ -141,9 +153,7 @@ pub(crate) fn pipe_residuals(case: &[i64], old: &[i64], row: &[i64], i: usize, a
     let mut sum: usize = 0;
     let mut e: usize = 0;
     while e < arcs {
-        if arc(case, e).kind == 2 {
-            sum += pipe_residual(case, old, row, i, e);
-        }
+        sum += pipe_part(case, old, row, i, e);
         e += 1;
     }
     sum

@@ -8,6 +8,7 @@ use crate::beside::{Beside, Difference};
 
 /// One string read and one list written, in each room from 0 to one more than needed.
 pub fn round(beside: &mut Beside, seed: u64) -> Result<(), Difference> {
+    beside.begin(seed);
     let mut rng = Rng::new(seed);
     let bytes = any_bytes(&mut rng);
     // A number takes a byte at least.
@@ -20,11 +21,13 @@ pub fn round(beside: &mut Beside, seed: u64) -> Result<(), Difference> {
         beside.write(&list, room)?;
     }
     there_and_back(beside, &list, &encoded)?;
+    beside.tally.strings_and_lists += 2;
     for (name, aim) in BYTES_AIMS {
         if let Some(aimed) = aim(&mut rng, &list) {
             let reply = beside.read(&aimed.bytes, aimed.room)?;
             reply.expect(aimed.expect, name)?;
             beside.tally.aim(name);
+            beside.tally.strings_and_lists += 1;
         }
     }
     Ok(())

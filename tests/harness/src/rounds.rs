@@ -3,11 +3,11 @@
 use inputs::aimed::{AIMS, LEDGER_AIMS};
 use inputs::bytes::{BYTES_AIMS, encode};
 use inputs::damage::{any_list, damage_bytes, damage_list};
-use inputs::generate;
+use inputs::generate::{self, Size};
 use inputs::{Pair, Refused, Rng};
 
 use crate::beside::{Beside, Difference, Reply};
-use crate::demand_3;
+use crate::{demand_3, files};
 
 /// Above this many numbers only some of the changes are made.
 const LARGE: usize = 6_000;
@@ -24,15 +24,25 @@ struct Input {
     spared: usize,
 }
 
+/// One round in so many goes through files, which is slow where a program is run.
+const FILES_IN: usize = 16;
+
+/// One seed in so many has a pair of the largest size.
+const LARGEST_IN: u64 = 256;
+
 /// Everything that is made from one seed.
 pub fn round(beside: &mut Beside, seed: u64) -> Result<(), Difference> {
+    beside.begin(seed);
     let mut rng = Rng::new(seed);
-    let pair = generate::accepted(&mut rng);
+    let pair = match seed % LARGEST_IN {
+        0 => generate::of_size(&mut rng, Size::LARGEST),
+        _ => generate::accepted(&mut rng),
+    };
     pair_round(beside, &mut rng, pair)
 }
 
 /// Everything that is made from one accepted pair.
-pub fn pair_round(beside: &mut Beside, rng: &mut Rng, pair: Pair) -> Result<(), Difference> {
+fn pair_round(beside: &mut Beside, rng: &mut Rng, pair: Pair) -> Result<(), Difference> {
     let (case, plan) = (pair.case.list(), pair.plan.list());
     let spared = if plan.len() > LARGE { 9 } else { 0 };
     let input = Input {
@@ -96,7 +106,9 @@ fn ledgers(beside: &mut Beside, rng: &mut Rng, input: &Input) -> Result<(), Diff
     Ok(())
 }
 
+/// Every aimed change alone, and pairs of them at once, which show the order of questions.
 fn aims(beside: &mut Beside, rng: &mut Rng, input: &Input) -> Result<(), Difference> {
+    let mut made = Vec::new();
     for (name, aim) in AIMS {
         if !input.is_due(rng) {
             continue;
@@ -113,8 +125,24 @@ fn aims(beside: &mut Beside, rng: &mut Rng, input: &Input) -> Result<(), Differe
             let reply = beside.ledger([&aimed.case, &aimed.plan], rng.bits() as i64, 0, 1)?;
             reply.expect(aimed.expect, name)?;
         }
+        made.push(aimed);
+    }
+    for _ in 0..made.len() {
+        let [one, other] = [0; 2].map(|_| &made[rng.below(made.len())]);
+        let case = overlay(&input.case, &one.case, &other.case);
+        let plan = overlay(&input.plan, &one.plan, &other.plan);
+        beside.plan(&case, &plan)?;
     }
     Ok(())
+}
+
+/// Both changes of a list at once; where its length changed, one of them.
+fn overlay(before: &[i64], one: &[i64], other: &[i64]) -> Vec<i64> {
+    if before.len() != one.len() || before.len() != other.len() {
+        return one.to_vec();
+    }
+    let merge = |((&before, &one), &other)| if one == before { other } else { one };
+    before.iter().zip(one).zip(other).map(merge).collect()
 }
 
 fn damaged_lists(beside: &mut Beside, rng: &mut Rng, input: &Input) -> Result<(), Difference> {
@@ -158,7 +186,6 @@ fn strings(beside: &mut Beside, rng: &mut Rng, input: &Input) -> Result<(), Diff
         if let Some(aimed) = aim(rng, &input.case) {
             let reply = beside.bytes([&aimed.bytes, &plan], [aimed.room, rooms[1]])?;
             reply.expect(aimed.expect, name)?;
-            beside.line([Some(&aimed.bytes), Some(&plan)])?;
         }
         if let Some(aimed) = aim(rng, &input.plan) {
             let expect = Refused {
@@ -167,17 +194,11 @@ fn strings(beside: &mut Beside, rng: &mut Rng, input: &Input) -> Result<(), Diff
             };
             let reply = beside.bytes([&case, &aimed.bytes], [rooms[0], aimed.room])?;
             reply.expect(expect, name)?;
-            beside.line([Some(&case), Some(&aimed.bytes)])?;
         }
     }
-    files(beside, [&case, &plan])
-}
-
-/// The program's line, also where a file is missing.
-fn files(beside: &mut Beside, [case, plan]: [&[u8]; 2]) -> Result<(), Difference> {
-    beside.line([Some(case), Some(plan)])?;
-    beside.line([Some(case), None])?;
-    beside.line([None, Some(plan)])?;
+    if rng.once_in(FILES_IN) {
+        files::round(beside, rng, [&case, &plan])?;
+    }
     Ok(())
 }
 

@@ -3,6 +3,9 @@
 use std::collections::BTreeMap;
 use std::fmt;
 
+use inputs::aimed::{AIMS, LEDGER_AIMS};
+use inputs::bytes::BYTES_AIMS;
+
 /// Every question an input can end in.
 const QUESTIONS: [u8; 31] = [
     1, 2, 3, 4, 5, 6, 7, 10, 11, 12, 13, 14, 15, 16, 17, 20, 21, 22, 23, 24, 25, 26, 27, 28, 29,
@@ -22,6 +25,8 @@ pub struct Tally {
     pub ledgers: u64,
     /// Strings read and lists written without a "no".
     pub coded: u64,
+    /// Strings and lists made for reading and writing, whatever the room.
+    pub strings_and_lists: u64,
     /// Inputs of each aimed change.
     pub aimed: BTreeMap<&'static str, u64>,
 }
@@ -62,6 +67,7 @@ impl Tally {
         self.all_above_0 += other.all_above_0;
         self.ledgers += other.ledgers;
         self.coded += other.coded;
+        self.strings_and_lists += other.strings_and_lists;
     }
 
     /// What was reached too seldom.
@@ -77,10 +83,22 @@ impl Tally {
         if self.all_above_0 < LEAST {
             gaps.push("accepted with all four totals above 0".to_string());
         }
-        let seldom = self.aimed.iter().filter(|&(_, &count)| count < LEAST);
-        gaps.extend(seldom.map(|(name, _)| format!("aim {name}")));
+        let seldom = aims().filter(|name| self.aim_count(name) < LEAST);
+        gaps.extend(seldom.map(|name| format!("aim {name}")));
         gaps
     }
+
+    fn aim_count(&self, name: &str) -> u64 {
+        self.aimed.get(name).copied().unwrap_or(0)
+    }
+}
+
+/// The names of all aimed changes.
+fn aims() -> impl Iterator<Item = &'static str> {
+    let bytes = BYTES_AIMS.iter().map(|(name, _)| *name);
+    let lists = AIMS.iter().map(|(name, _)| *name);
+    let ledgers = LEDGER_AIMS.iter().map(|(name, _)| *name);
+    bytes.chain(lists).chain(ledgers)
 }
 
 impl fmt::Display for Tally {
@@ -96,6 +114,11 @@ impl fmt::Display for Tally {
             self.all_above_0
         )?;
         writeln!(f, "ledgers {:>10}", self.ledgers)?;
-        writeln!(f, "read or written {}", self.coded)
+        writeln!(f, "read or written {}", self.coded)?;
+        writeln!(f, "aimed at a part of a question:")?;
+        for name in aims() {
+            writeln!(f, "{:>18} {name}", self.aim_count(name))?;
+        }
+        Ok(())
     }
 }

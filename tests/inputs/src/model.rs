@@ -133,9 +133,10 @@ pub struct Refused {
     pub place: usize,
 }
 
-/// A field of the case list with the range it has there.
+/// A field of the case list with its name and the range it has there.
 #[derive(Clone, Debug)]
 pub struct Field {
+    pub name: &'static str,
     pub value: i64,
     pub range: RangeInclusive<i64>,
 }
@@ -172,48 +173,58 @@ impl Case {
 
     /// Every field of the case list, in order.
     pub fn fields(&self) -> Vec<Field> {
-        let mut fields = Vec::new();
-        let steps = self.times.len() as i64;
-        let mut put = |value: i64, range| fields.push(Field { value, range });
-        put(1, 1..=1);
-        put(self.nodes.len() as i64, 1..=60);
-        put(self.arcs.len() as i64, 0..=120);
-        put(self.stations.len() as i64, 0..=8);
-        put(steps, 1..=48);
-        put(self.mass_tolerance, 0..=1_000_000);
-        put(self.pressure_tolerance, 0..=1_000);
+        let mut fields = Fields::default();
+        fields.put("edition", 1, 1..=1);
+        fields.put("N", self.nodes.len() as i64, 1..=60);
+        fields.put("A", self.arcs.len() as i64, 0..=120);
+        fields.put("S", self.stations.len() as i64, 0..=8);
+        fields.put("k", self.times.len() as i64, 1..=48);
+        fields.put("E", self.mass_tolerance, 0..=1_000_000);
+        fields.put("H", self.pressure_tolerance, 0..=1_000);
         let mut before = 0;
         for &time in &self.times {
-            put(time, before + 1..=before + 86_400);
+            fields.put("time", time, before + 1..=before + 86_400);
             before = time;
         }
-        self.nodes.iter().for_each(|node| node.fields(&mut fields));
+        for node in &self.nodes {
+            node.fields(&mut fields);
+        }
         for arc in &self.arcs {
             arc.fields(self, &mut fields);
         }
         for station in &self.stations {
             station.fields(&mut fields);
         }
-        fields
+        fields.all
+    }
+}
+
+#[derive(Default)]
+struct Fields {
+    all: Vec<Field>,
+}
+
+impl Fields {
+    fn put(&mut self, name: &'static str, value: i64, range: RangeInclusive<i64>) {
+        self.all.push(Field { name, value, range });
     }
 }
 
 impl Node {
-    fn fields(&self, fields: &mut Vec<Field>) {
-        let mut put = |value: i64, range| fields.push(Field { value, range });
-        put(self.kind, 0..=2);
-        put(self.p0, 0..=MOST_PRESSURE);
-        put(self.low, 0..=MOST_PRESSURE);
-        put(self.high, 0..=MOST_PRESSURE);
-        put(self.actlow, self.low..=MOST_PRESSURE);
-        put(self.acthigh, self.actlow..=self.high);
+    fn fields(&self, fields: &mut Fields) {
+        fields.put("node kind", self.kind, 0..=2);
+        fields.put("p0", self.p0, 0..=MOST_PRESSURE);
+        fields.put("low", self.low, 0..=MOST_PRESSURE);
+        fields.put("high", self.high, 0..=MOST_PRESSURE);
+        fields.put("actlow", self.actlow, self.low..=MOST_PRESSURE);
+        fields.put("acthigh", self.acthigh, self.actlow..=self.high);
+        let (name, range) = match self.kind {
+            INNER => ("demand of an inner node", 0..=0),
+            SOURCE => ("demand of a source", 0..=MOST_FLOW),
+            _ => ("demand of a sink", -MOST_FLOW..=0),
+        };
         for &demand in &self.demands {
-            let range = match self.kind {
-                INNER => 0..=0,
-                SOURCE => 0..=MOST_FLOW,
-                _ => -MOST_FLOW..=0,
-            };
-            put(demand, range);
+            fields.put(name, demand, range.clone());
         }
     }
 }
@@ -249,37 +260,46 @@ impl Arc {
         }
     }
 
-    fn fields(&self, case: &Case, fields: &mut Vec<Field>) {
-        let mut put = |value: i64, range| fields.push(Field { value, range });
+    fn fields(&self, case: &Case, fields: &mut Fields) {
         let last_node = case.nodes.len() as i64 - 1;
-        put(self.kind, 0..=6);
-        put(self.from as i64, 0..=last_node);
-        put(self.to as i64, 0..=last_node);
-        put(self.qmax, 0..=MOST_FLOW);
+        fields.put("arc kind", self.kind, 0..=6);
+        fields.put("from", self.from as i64, 0..=last_node);
+        fields.put("to", self.to as i64, 0..=last_node);
+        fields.put("qmax", self.qmax, 0..=MOST_FLOW);
         let ranges = self.ranges_of_more(case.stations.len() as i64 - 1);
-        for (value, range) in self.more.into_iter().zip(ranges) {
-            put(value, range);
+        for (value, (name, range)) in self.more.into_iter().zip(ranges) {
+            fields.put(name, value, range);
         }
     }
 
     /// What isn't used is 0.
-    fn ranges_of_more(&self, last_station: i64) -> Vec<RangeInclusive<i64>> {
-        let friction = 0..=10_000_000;
-        let slope = -200_000..=200_000;
-        let station = 0..=last_station;
-        let weight = 0..=MOST_WEIGHT;
-        let machines = 0..=4_095;
-        let mut ranges = match self.kind {
-            VALVE | REGULATOR => vec![],
-            PIPE => vec![1..=100_000_000, friction.clone(), friction, slope],
-            SHORTCUT => vec![station, 1..=1, weight, 0..=1],
-            REGULATING => vec![station, 0..=1, weight, 0..=1],
-            _ => {
-                let bound = 0..=MOST_PRESSURE;
-                vec![station, 0..=1, weight, 0..=1, machines, 0..=12, bound]
-            }
-        };
-        ranges.resize(7, 0..=0);
+    fn ranges_of_more(&self, last_station: i64) -> Vec<(&'static str, RangeInclusive<i64>)> {
+        let both_ways = if self.kind == SHORTCUT { 1..=1 } else { 0..=1 };
+        let pipe = [
+            ("c", 1..=100_000_000),
+            ("f", 0..=10_000_000),
+            ("g", 0..=10_000_000),
+            ("h", -200_000..=200_000),
+        ];
+        let artificial = [
+            ("station", 0..=last_station),
+            ("both-ways", both_ways),
+            ("weight of an arc", 0..=MOST_WEIGHT),
+            ("active at step 0", 0..=1),
+        ];
+        let machinery = [
+            ("machine set", 0..=4_095),
+            ("most machines", 0..=12),
+            ("out bound", 0..=MOST_PRESSURE),
+        ];
+        let mut ranges = Vec::new();
+        match self.kind {
+            VALVE | REGULATOR => {}
+            PIPE => ranges.extend(pipe),
+            SHORTCUT | REGULATING => ranges.extend(artificial),
+            _ => ranges.extend(artificial.into_iter().chain(machinery)),
+        }
+        ranges.resize(7, ("zero", 0..=0));
         ranges
     }
 }
@@ -290,29 +310,32 @@ pub fn is_backward(setting: i64) -> bool {
 }
 
 impl Station {
-    fn fields(&self, fields: &mut Vec<Field>) {
-        let mut put = |value: i64, range| fields.push(Field { value, range });
+    fn fields(&self, fields: &mut Fields) {
         let directions = self.directions.len() as i64;
         let states = self.states.len() as i64;
-        put(directions, 1..=8);
-        put(states, 1..=16);
-        put(self.machines.len() as i64, 0..=12);
-        put(self.direction_at_0 as i64, 0..=directions - 1);
-        put(self.state_at_0 as i64, 0..=states - 1);
+        fields.put("F", directions, 1..=8);
+        fields.put("Z", states, 1..=16);
+        fields.put("M", self.machines.len() as i64, 0..=12);
+        fields.put(
+            "direction at step 0",
+            self.direction_at_0 as i64,
+            0..=directions - 1,
+        );
+        fields.put("state at step 0", self.state_at_0 as i64, 0..=states - 1);
         for &[entry, exit, weight] in &self.directions {
-            put(entry, 0..=(1 << 60) - 1);
-            put(exit, 0..=(1 << 60) - 1);
-            put(weight, 0..=MOST_WEIGHT);
+            fields.put("entry set", entry, 0..=(1 << 60) - 1);
+            fields.put("exit set", exit, 0..=(1 << 60) - 1);
+            fields.put("weight of a direction", weight, 0..=MOST_WEIGHT);
         }
         for &[supported, on, off, weight] in &self.states {
-            put(supported, 0..=(1 << directions) - 1);
-            put(on, 0..=(1 << 30) - 1);
-            put(off, 0..=(1 << 30) - 1);
-            put(weight, 0..=MOST_WEIGHT);
+            fields.put("direction set", supported, 0..=(1 << directions) - 1);
+            fields.put("on set", on, 0..=(1 << 30) - 1);
+            fields.put("off set", off, 0..=(1 << 30) - 1);
+            fields.put("weight of a state", weight, 0..=MOST_WEIGHT);
         }
         for &[flow, ratio] in &self.machines {
-            put(flow, 0..=MOST_FLOW);
-            put(ratio, 1_001..=10_000);
+            fields.put("Q", flow, 0..=MOST_FLOW);
+            fields.put("R", ratio, 1_001..=10_000);
         }
     }
 }

@@ -4,7 +4,8 @@ use std::ops::RangeInclusive;
 
 use crate::verdict::{Answer, ask};
 
-const MOST_FLOW: i64 = 10_000_000;
+/// The most of a flow, a demand or a demand slack, in g/s.
+pub const MOST_FLOW: i64 = 10_000_000;
 const MOST_PRESSURE: i64 = 200_000;
 const MOST_SLOPE: i64 = 200_000;
 const MOST_WEIGHT: i64 = 1_000_000;

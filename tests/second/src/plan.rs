@@ -1,10 +1,8 @@
 //! The plan: the questions 20 to 33 and the six totals.
 
-use crate::case::{self, Case, Kind, Machine, NodeKind, holds};
+use crate::case::{self, Case, Kind, MOST_FLOW, Machine, NodeKind, holds};
 use crate::verdict::{Answer, Totals, ask};
 use crate::wide;
-
-const MOST_FLOW: i64 = 10_000_000;
 
 /// A plan that answered question 20 with "yes", beside its case.
 pub struct Plan<'a> {
@@ -58,8 +56,8 @@ struct Doing {
 /// Judges a case list and a plan list.
 pub fn judge(case_list: &[i64], plan_list: &[i64]) -> Answer<Totals> {
     let case = case::judge(case_list)?;
-    let plan = judge_plan(&case, plan_list)?;
-    Ok(plan.1)
+    let (_, totals) = judge_plan(&case, plan_list)?;
+    Ok(totals)
 }
 
 /// Judges a plan list beside a judged case.
@@ -92,9 +90,10 @@ fn rule_20_head_and_length<'a>(case: &'a Case, list: &'a [i64]) -> Answer<Plan<'
 
 fn judge_nodes(plan: &Plan, step: usize) -> Answer<()> {
     for node in 0..plan.case.nodes.len() {
-        ask(21, rule_21_node_numbers(plan, step, node), step, node)?;
-        ask(22, rule_22_demand_is_met(plan, step, node), step, node)?;
-        ask(23, rule_23_active_pressures(plan, step, node), step, node)?;
+        let ask = |number, yes| ask(number, yes, step, node);
+        ask(21, rule_21_node_numbers(plan, step, node))?;
+        ask(22, rule_22_demand_is_met(plan, step, node))?;
+        ask(23, rule_23_active_pressures(plan, step, node))?;
     }
     Ok(())
 }
@@ -102,31 +101,26 @@ fn judge_nodes(plan: &Plan, step: usize) -> Answer<()> {
 /// Gives the left sides of 28, summed.
 fn judge_arcs(plan: &Plan, step: usize) -> Answer<i128> {
     let mut residual = 0;
-    for (index, arc) in plan.case.arcs.iter().enumerate() {
-        ask(24, rule_24_arc_numbers(plan, step, index), step, index)?;
-        ask(25, rule_25_no_flow_against(plan, step, index), step, index)?;
-        ask(26, rule_26_pressures(plan, step, index), step, index)?;
-        ask(27, rule_27_machines(plan, step, index), step, index)?;
-        if arc.pipe().is_some() {
-            let left = rule_28_left_side(plan, step, index);
-            ask(28, left <= wide(plan.case.mass_tolerance), step, index)?;
-            ask(29, rule_29_end_pressures(plan, step, index), step, index)?;
-            residual += left;
-        }
+    for arc in 0..plan.case.arcs.len() {
+        let ask = |number, yes| ask(number, yes, step, arc);
+        ask(24, rule_24_arc_numbers(plan, step, arc))?;
+        ask(25, rule_25_no_flow_against(plan, step, arc))?;
+        ask(26, rule_26_pressures(plan, step, arc))?;
+        ask(27, rule_27_machines(plan, step, arc))?;
+        let left = rule_28_left_side(plan, step, arc);
+        ask(28, left <= wide(plan.case.mass_tolerance))?;
+        ask(29, rule_29_end_pressures(plan, step, arc))?;
+        residual += left;
     }
     Ok(residual)
 }
 
 fn judge_stations(plan: &Plan, step: usize) -> Answer<()> {
     for station in 0..plan.case.stations.len() {
-        ask(30, rule_30_choices(plan, step, station), step, station)?;
-        ask(
-            31,
-            rule_31_machines_once(plan, step, station),
-            step,
-            station,
-        )?;
-        ask(32, rule_32_fence_flows(plan, step, station), step, station)?;
+        let ask = |number, yes| ask(number, yes, step, station);
+        ask(30, rule_30_choices(plan, step, station))?;
+        ask(31, rule_31_machines_once(plan, step, station))?;
+        ask(32, rule_32_fence_flows(plan, step, station))?;
     }
     Ok(())
 }
@@ -448,20 +442,19 @@ fn flow_into_station(plan: &Plan, step: usize, node: usize) -> i128 {
     let artificial = |arc: &&usize| plan.case.arcs[**arc].artificial().is_some();
     let leaving = node.leaving.iter().filter(artificial);
     let entering = node.entering.iter().filter(artificial);
-    leaving
-        .map(|&arc| plan.flow_at_from(step, arc))
-        .sum::<i128>()
-        - entering
-            .map(|&arc| plan.flow_at_to(step, arc))
-            .sum::<i128>()
+    let out: i128 = leaving.map(|&arc| plan.flow_at_from(step, arc)).sum();
+    let into: i128 = entering.map(|&arc| plan.flow_at_to(step, arc)).sum();
+    out - into
 }
 
 /// dt × |flow out - flow in - d|.
 pub fn rule_33_left_side(plan: &Plan, step: usize, index: usize) -> i128 {
     let node = &plan.case.nodes[index];
-    let out = node.leaving.iter().map(|&arc| plan.flow_at_from(step, arc));
-    let into = node.entering.iter().map(|&arc| plan.flow_at_to(step, arc));
-    let balance = out.sum::<i128>() - into.sum::<i128>() - plan.boundary_flow(step, index);
+    let leaving = node.leaving.iter();
+    let entering = node.entering.iter();
+    let out: i128 = leaving.map(|&arc| plan.flow_at_from(step, arc)).sum();
+    let into: i128 = entering.map(|&arc| plan.flow_at_to(step, arc)).sum();
+    let balance = out - into - plan.boundary_flow(step, index);
     wide(plan.case.spans[step - 1]) * balance.abs()
 }
 

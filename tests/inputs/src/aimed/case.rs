@@ -1,5 +1,7 @@
 //! Aimed changes of the case, and of the plan's head and length.
 
+use std::collections::BTreeSet;
+
 use super::{Aimed, aimed, bit, holds, refused};
 use crate::model::{
     ACTIVE, Case, ENTRY, EXIT, MACHINES, OFF, ON, Pair, Refused, SHORTCUT, STATION,
@@ -13,23 +15,41 @@ pub fn aim_10_missing(rng: &mut Rng, pair: &Pair) -> Option<Aimed> {
     with_case(pair, case, refused(10, 0, place))
 }
 
-pub fn aim_11_range(rng: &mut Rng, pair: &Pair) -> Option<Aimed> {
+pub fn aim_11_too_small(rng: &mut Rng, pair: &Pair) -> Option<Aimed> {
+    out_of_range(rng, pair, |low, _| [low - 1, i64::MIN])
+}
+
+pub fn aim_11_too_large(rng: &mut Rng, pair: &Pair) -> Option<Aimed> {
+    out_of_range(rng, pair, |_, high| [high + 1, i64::MAX])
+}
+
+/// Any name of a field is as likely as any other, however many fields have it.
+fn out_of_range(rng: &mut Rng, pair: &Pair, outside: fn(i64, i64) -> [i64; 2]) -> Option<Aimed> {
     let fields = pair.case.fields();
-    let place = rng.below(fields.len());
-    let (low, high) = (*fields[place].range.start(), *fields[place].range.end());
-    let outside = [low - 1, low - 1, high + 1, high + 1, i64::MIN, i64::MAX];
+    let names: BTreeSet<&str> = fields.iter().map(|field| field.name).collect();
+    let name = rng.pick(&names.into_iter().collect::<Vec<_>>())?;
+    let places: Vec<usize> = (0..fields.len())
+        .filter(|&place| fields[place].name == name)
+        .collect();
+    let place = rng.pick(&places)?;
+    let [near, far] = outside(*fields[place].range.start(), *fields[place].range.end());
     let mut case = pair.case.list();
-    case[place] = rng.pick(&outside)?;
+    case[place] = rng.pick(&[near, near, near, far])?;
     with_case(pair, case, refused(11, 0, place))
 }
 
+/// Sometimes with an arc from a node to itself, which is asked about later.
 pub fn aim_12_left_over(rng: &mut Rng, pair: &Pair) -> Option<Aimed> {
+    let mut pair = pair.clone();
+    if let Some(arc) = pair.case.arcs.first_mut().filter(|_| rng.flip()) {
+        arc.to = arc.from;
+    }
     let mut case = pair.case.list();
     let place = case.len();
     for _ in 0..=rng.below(3) {
         case.push(rng.within(-1..=1));
     }
-    with_case(pair, case, refused(12, 0, place))
+    with_case(&pair, case, refused(12, 0, place))
 }
 
 fn with_case(pair: &Pair, case: Vec<i64>, expect: Refused) -> Option<Aimed> {
@@ -98,6 +118,7 @@ pub fn aim_14_station(rng: &mut Rng, pair: &Pair) -> Option<Aimed> {
     aimed(&pair, 14, 0, place)
 }
 
+/// Sometimes with a stranger in every entry set, which is asked about later.
 pub fn aim_15_crowd(rng: &mut Rng, pair: &Pair) -> Option<Aimed> {
     let mut pair = pair.clone();
     let arc = rng.pick(&artificial_arcs(&pair.case))?;
@@ -107,6 +128,11 @@ pub fn aim_15_crowd(rng: &mut Rng, pair: &Pair) -> Option<Aimed> {
     for _ in 0..missing + rng.below(2) {
         let place = rng.below(pair.case.arcs.len() + 1);
         pair.case.arcs.insert(place, copy.clone());
+    }
+    if rng.flip() {
+        for its in &mut pair.case.stations {
+            its.directions[0][ENTRY] |= bit(59);
+        }
     }
     (pair.case.arcs.len() <= 120).then(|| aimed(&pair, 15, 0, station))?
 }

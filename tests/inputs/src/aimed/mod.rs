@@ -26,7 +26,8 @@ pub type Aim = fn(&mut Rng, &Pair) -> Option<Aimed>;
 /// Every aimed change, named by the question and the part of it that is hit.
 pub const AIMS: &[(&str, Aim)] = &[
     ("10 field missing", case::aim_10_missing),
-    ("11 field out of range", case::aim_11_range),
+    ("11 field too small", case::aim_11_too_small),
+    ("11 field too large", case::aim_11_too_large),
     ("12 number left over", case::aim_12_left_over),
     ("13 arc from a node to itself", case::aim_13_loop),
     ("14 arc's end in another station", case::aim_14_end),

@@ -71,7 +71,8 @@ fn disobey(rng: &mut Rng, pair: &Pair, active: bool) -> Option<Aimed> {
     aimed(&pair, 30, first, station)
 }
 
-/// Gives a compressing arc a machine that another arc of the station has too.
+/// Gives a compressing arc a machine that another arc of the station has too. Both pass
+/// alone.
 pub fn aim_31(rng: &mut Rng, pair: &Pair) -> Option<Aimed> {
     let mut pair = pair.clone();
     let compresses = |pair: &Pair, step: usize, arc: usize| {
@@ -99,7 +100,25 @@ pub fn aim_31(rng: &mut Rng, pair: &Pair) -> Option<Aimed> {
     pair.case.arcs[arc].more[MOST] = 12;
     pair.arc_mut(step, arc).machines |= machine;
     let station = pair.case.arcs[arc].station()?;
+    lose_32_from(&mut pair, step, station);
     aimed(&pair, 31, step, station)
+}
+
+/// Takes a fence node with flow out of the direction's sets, if 32 fails in this step
+/// first: 31 is asked before it.
+fn lose_32_from(pair: &mut Pair, step: usize, station: usize) {
+    let chosen = pair.station(step, station).direction;
+    let fails = |node: usize| {
+        let fails =
+            |step| pair.station(step, station).direction == chosen && net_32(pair, step, node) != 0;
+        first_step(pair, fails) == Some(step)
+    };
+    let found = pair.case.fence(station).into_iter().find(|&it| fails(it));
+    if let Some(node) = found {
+        let direction = &mut pair.case.stations[station].directions[chosen as usize];
+        direction[ENTRY] &= !bit(node);
+        direction[EXIT] &= !bit(node);
+    }
 }
 
 pub fn aim_32_neither(rng: &mut Rng, pair: &Pair) -> Option<Aimed> {

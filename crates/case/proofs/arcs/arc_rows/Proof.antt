@@ -1,19 +1,14 @@
-use Rattle.case.proofs.Rows.{arc-asked, arc-row}
-use Rattle.case.specs.ArcFields.{arcFields}
-use Rattle.numbers.specs.Items.{over, rest, rest-on, rest-no, rest-end}
-use Rattle.numbers.specs.Question.{firstNo}
+use mathlib.Core.Path.{_≡_, sym}
+use Prim.Native.Nat.{_≤_, _-_, _+_, _*_}
+use native.Mathlib.Omega.{arith}
 use borrow.Author.Needs.{needs}
 use denote.Ref.{now}
-use native.Mathlib.Omega.{arith}
-use Prim.Native.Nat.{_≤_, _-_, _+_, _*_}
-use mathlib.Core.Path.{_≡_, refl, sym, ap, _∙_}
+use Rattle.numbers.specs.Items.{over, rest, rest-on, rest-no, rest-end}
+use Rattle.numbers.specs.Question.{firstNo}
+use Rattle.case.specs.ArcFields.{arcFields}
+use Rattle.case.proofs.Rows.{arc-asked, arc-row}
 use Rattle.case.proofs.arcs.arc_rows.Statement.{statement}
 use Rattle.case.proofs.arcs.arc_rows.Tie as tie
-use Rattle.case.proofs.arcs.arc_rows.Reads as reads
-use Rattle.case.proofs.arcs.arc_rows.Lts as lts
-use Rattle.case.proofs.arcs.end_fields.Reads as end-fields-reads
-use Rattle.case.proofs.arcs.kind_fields.Reads as kind-fields-reads
-use Rattle.numbers.proofs.answer.or_else.Reads as or-else-reads
 
 abbrev Inv-loop : tie.InvT-loop
 Inv-loop case first arcs e₀ e = (e ≤ arcs) × (firstNo (over (arcFields case) 0 arcs) ≡ rest (arcFields case) e arcs)
@@ -21,38 +16,30 @@ Inv-loop case first arcs e₀ e = (e ≤ arcs) × (firstNo (over (arcFields case
 abbrev μ-loop : tie.MeasureT-loop
 μ-loop case first arcs e₀ e = arcs - e
 
--- src/arcs.rt:89:5
 loop-holds : tie.Need-loop-holds Inv-loop μ-loop
 loop-holds c = (omega arith, let e : c .args .arcs - 0 ≡ c .args .arcs = omega arith in rw e)
 
--- src/arcs.rt:90:27
 mul-row : tie.Need-mul-row Inv-loop μ-loop
 mul-row c = omega arith
 
--- src/arcs.rt:90:19
 add-row : tie.Need-add-row Inv-loop μ-loop
 add-row c = omega arith
 
--- src/arcs.rt:91:25
 end-fields-requires : tie.Need-end-fields-requires Inv-loop μ-loop
 end-fields-requires c κs = omega arith
 
--- src/arcs.rt:91:48
 kind-fields-requires : tie.Need-kind-fields-requires Inv-loop μ-loop
 kind-fields-requires c κs = omega arith
 
--- src/arcs.rt:91:13
 or-else-requires : tie.Need-or-else-requires Inv-loop μ-loop
 or-else-requires c κs = search needs
 
 enum-told : tie.Need-enum-told Inv-loop μ-loop
 enum-told c = search needs
 
--- src/arcs.rt:99:17
 enum-told-2 : tie.Need-enum-told-2 Inv-loop μ-loop
 enum-told-2 c = search needs
 
--- src/arcs.rt:99:17
 returns : tie.Need-returns Inv-loop μ-loop
 returns c =     let b = c .before .before in
     let t = b .before .before .before in
@@ -63,15 +50,12 @@ returns c =     let b = c .before .before in
     let q : b .or-else .result ≡ firstNo (arcFields l (h .loop .e)) = arc-asked l (h .loop .e) (a .first + h .loop .e * 11) (arc-row l (h .loop .e) (s .pre .2)) (b .or-else .ensures) (b .before .before .end-fields .ensures) (b .before .kind-fields .ensures) in
     sym (rest-no (arcFields l) (h .loop .e) (a .arcs) (h .loop .inv .1) (t .loop-test .taken) q (c .enum-told2 .given .1))
 
--- src/arcs.rt:102:9
 add-e : tie.Need-add-e Inv-loop μ-loop
 add-e c = omega arith
 
--- src/arcs.rt:89:5
 loop-less : tie.Need-loop-less Inv-loop μ-loop
 loop-less c = omega arith
 
--- src/arcs.rt:89:5
 loop-again : tie.Need-loop-again Inv-loop μ-loop
 loop-again c =     let b = c .before .before in
     let t = b .before .before .before in
@@ -82,7 +66,6 @@ loop-again c =     let b = c .before .before in
     let q : b .or-else .result ≡ firstNo (arcFields l (h .loop .e)) = arc-asked l (h .loop .e) (a .first + h .loop .e * 11) (arc-row l (h .loop .e) (s .pre .2)) (b .or-else .ensures) (b .before .before .end-fields .ensures) (b .before .kind-fields .ensures) in
     (omega arith, rest-on (arcFields l) (h .loop .e) (a .arcs) (h .loop .inv .1) (t .loop-test .taken) q (c .enum-told .given .1))
 
--- src/arcs.rt:84:1
 returns-2 : tie.Need-returns-2 Inv-loop μ-loop
 returns-2 c =     let h = c .before in
     let a = h .before .args in

@@ -1,14 +1,10 @@
 use borrow.Author.Tests.{eq-eqb, ne-eqb}
 use Rattle.case.proofs.arcs.least_both_ways.Statement.{statement}
 use Rattle.case.proofs.arcs.least_both_ways.Tie as tie
-use Rattle.case.proofs.arcs.least_both_ways.Reads as reads
-use Rattle.case.proofs.arcs.least_both_ways.Lts as lts
 
--- src/arcs.rt:46:1
 returns : tie.Need-returns
 returns c = rw (eq-eqb _ _ (c .if1 .taken))
 
--- src/arcs.rt:46:1
 returns-2 : tie.Need-returns-2
 returns-2 c = rw (ne-eqb _ _ (c .if1 .left))
 

@@ -1,82 +1,59 @@
-use Rattle.case.specs.ArcFields.{leastBothWays, memberFields}
-use Rattle.case.specs.Layout.{countAt, stationsOf}
-use Rattle.case.specs.Field.{lastOf}
-use denote.Ref.{now}
-use Rattle.case.proofs.Reading.{kept}
-use mir.Val.{toZ, ofZ}
-use mir.Syntax.{w64}
-use mir.Facts.{toZ-ofZ}
-use Rattle.case.proofs.Asked.{chain}
-use Rattle.numbers.specs.Question.{firstNo-append}
-use mathlib.Core.Path.{_≡_, refl, sym, ap, _∙_}
+use mathlib.Core.Path.{_≡_, ap, _∙_}
 use borrow.Author.Needs.{needs}
+use denote.Ref.{now}
+use mir.Syntax.{w64}
+use mir.Val.{toZ, ofZ}
+use Rattle.numbers.specs.Question.{firstNo-append}
+use Rattle.case.specs.ArcFields.{leastBothWays, memberFields}
+use Rattle.case.specs.Field.{lastOf}
+use Rattle.case.specs.Layout.{countAt, stationsOf}
+use Rattle.case.proofs.Asked.{chain}
+use Rattle.case.proofs.Reading.{kept}
 use Rattle.case.proofs.arcs.member_fields.Statement.{statement}
 use Rattle.case.proofs.arcs.member_fields.Tie as tie
-use Rattle.case.proofs.arcs.member_fields.Reads as reads
-use Rattle.case.proofs.arcs.member_fields.Lts as lts
-use Rattle.case.proofs.arcs.least_both_ways.Reads as least-both-ways-reads
-use Rattle.case.proofs.fields.field.Reads as field-reads
-use Rattle.case.proofs.offsets.count.Reads as count-reads
-use Rattle.case.proofs.offsets.last.Reads as last-reads
-use Rattle.numbers.proofs.answer.or_else.Reads as or-else-reads
 
--- src/arcs.rt:56:29
 count-requires : tie.Need-count-requires
 count-requires c κs = search needs
 
--- src/arcs.rt:56:9
 last-requires : tie.Need-last-requires
 last-requires c κs = c .count .ensures .small
 
--- src/arcs.rt:57:9
 least-both-ways-requires : tie.Need-least-both-ways-requires
 least-both-ways-requires c κs = search needs
 
--- src/arcs.rt:59:21
 add-field : tie.Need-add-field
 add-field c = search needs
 
--- src/arcs.rt:59:9
 field-requires : tie.Need-field-requires
 field-requires c κs = search needs
 
--- src/arcs.rt:61:25
 add-field-2 : tie.Need-add-field-2
 add-field-2 c = search needs
 
--- src/arcs.rt:61:13
 field-requires-2 : tie.Need-field-requires-2
 field-requires-2 c κs = search needs
 
--- src/arcs.rt:62:33
 add-field-3 : tie.Need-add-field-3
 add-field-3 c = search needs
 
--- src/arcs.rt:62:21
 field-requires-3 : tie.Need-field-requires-3
 field-requires-3 c κs = search needs
 
--- src/arcs.rt:62:67
 add-field-4 : tie.Need-add-field-4
 add-field-4 c = search needs
 
--- src/arcs.rt:62:55
 field-requires-4 : tie.Need-field-requires-4
 field-requires-4 c κs = search needs
 
--- src/arcs.rt:62:13
 or-else-requires : tie.Need-or-else-requires
 or-else-requires c κs = search needs
 
--- src/arcs.rt:60:9
 or-else-requires-2 : tie.Need-or-else-requires-2
 or-else-requires-2 c κs = search needs
 
--- src/arcs.rt:58:5
 or-else-requires-3 : tie.Need-or-else-requires-3
 or-else-requires-3 c κs = search needs
 
--- src/arcs.rt:52:1
 returns : tie.Need-returns
 unfolding memberFields
 returns c =     let u = c .before .before .before .before .before .before .before in

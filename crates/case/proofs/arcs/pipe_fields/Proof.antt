@@ -1,61 +1,43 @@
+use borrow.Author.Needs.{needs}
+use Rattle.numbers.specs.Question.{firstNo-append}
 use Rattle.case.specs.ArcFields.{pipeFields}
 use Rattle.case.proofs.Asked.{chain}
-use Rattle.numbers.specs.Question.{firstNo-append}
-use mathlib.Core.Path.{_≡_, refl, sym, ap, _∙_}
-use borrow.Author.Needs.{needs}
 use Rattle.case.proofs.arcs.pipe_fields.Statement.{statement}
 use Rattle.case.proofs.arcs.pipe_fields.Tie as tie
-use Rattle.case.proofs.arcs.pipe_fields.Reads as reads
-use Rattle.case.proofs.arcs.pipe_fields.Lts as lts
-use Rattle.case.proofs.fields.field.Reads as field-reads
-use Rattle.case.proofs.fields.fields.Reads as fields-reads
-use Rattle.numbers.proofs.answer.or_else.Reads as or-else-reads
 
--- src/arcs.rt:34:21
 add-field : tie.Need-add-field
 add-field c = search needs
 
--- src/arcs.rt:34:9
 field-requires : tie.Need-field-requires
 field-requires c κs = search needs
 
--- src/arcs.rt:36:26
 add-fields : tie.Need-add-fields
 add-fields c = search needs
 
--- src/arcs.rt:36:13
 fields-requires : tie.Need-fields-requires
 fields-requires c κs = search needs
 
--- src/arcs.rt:38:29
 add-field-2 : tie.Need-add-field-2
 add-field-2 c = search needs
 
--- src/arcs.rt:38:17
 field-requires-2 : tie.Need-field-requires-2
 field-requires-2 c κs = search needs
 
--- src/arcs.rt:39:30
 add-fields-2 : tie.Need-add-fields-2
 add-fields-2 c = search needs
 
--- src/arcs.rt:39:17
 fields-requires-2 : tie.Need-fields-requires-2
 fields-requires-2 c κs = search needs
 
--- src/arcs.rt:37:13
 or-else-requires : tie.Need-or-else-requires
 or-else-requires c κs = search needs
 
--- src/arcs.rt:35:9
 or-else-requires-2 : tie.Need-or-else-requires-2
 or-else-requires-2 c κs = search needs
 
--- src/arcs.rt:33:5
 or-else-requires-3 : tie.Need-or-else-requires-3
 or-else-requires-3 c κs = search needs
 
--- src/arcs.rt:29:1
 returns : tie.Need-returns
 unfolding pipeFields
 returns c =     simp firstNo-append

@@ -1,19 +1,16 @@
-use Rattle.case.specs.Field.{fields, nextField}
-use mir.Val.{toZ, ofZ}
-use mir.Syntax.{w64}
-use mir.Facts.{toZ-ofZ}
-use Rattle.numbers.specs.Items.{rest, rest-on, rest-no, rest-end}
-use Rattle.numbers.specs.Question.{firstNo}
+use mathlib.Core.Path.{_≡_, sym}
+use Prim.Native.Nat.{_≤_, _-_}
+use native.Mathlib.Omega.{arith}
 use borrow.Author.Needs.{needs}
 use denote.Ref.{now}
-use native.Mathlib.Omega.{arith}
-use Prim.Native.Nat.{_≤_, _-_, _+_}
-use mathlib.Core.Path.{_≡_, refl, sym, ap, _∙_}
+use mir.Facts.{toZ-ofZ}
+use mir.Syntax.{w64}
+use mir.Val.{toZ, ofZ}
+use Rattle.numbers.specs.Items.{rest, rest-on, rest-no, rest-end}
+use Rattle.numbers.specs.Question.{firstNo}
+use Rattle.case.specs.Field.{fields, nextField}
 use Rattle.case.proofs.fields.fields.Statement.{statement}
 use Rattle.case.proofs.fields.fields.Tie as tie
-use Rattle.case.proofs.fields.fields.Reads as reads
-use Rattle.case.proofs.fields.fields.Lts as lts
-use Rattle.case.proofs.fields.field.Reads as field-reads
 
 abbrev Inv-loop : tie.InvT-loop
 Inv-loop case i n low high j₀ j = (j ≤ n) × (firstNo (fields case i n (toZ w64 low) (toZ w64 high)) ≡ rest (nextField case i (toZ w64 low) (toZ w64 high)) j n)
@@ -21,27 +18,22 @@ Inv-loop case i n low high j₀ j = (j ≤ n) × (firstNo (fields case i n (toZ 
 abbrev μ-loop : tie.MeasureT-loop
 μ-loop case i n low high j₀ j = n - j
 
--- src/fields.rt:31:5
 loop-holds : tie.Need-loop-holds Inv-loop μ-loop
 unfolding fields
 loop-holds c = (omega arith, let e : c .args .n - 0 ≡ c .args .n = omega arith in rw e)
 
--- src/fields.rt:32:29
 add-field : tie.Need-add-field Inv-loop μ-loop
 add-field c = omega arith
 
--- src/fields.rt:32:13
 field-requires : tie.Need-field-requires Inv-loop μ-loop
 field-requires c κs = search needs
 
 enum-told : tie.Need-enum-told Inv-loop μ-loop
 enum-told c = search needs
 
--- src/fields.rt:40:17
 enum-told-2 : tie.Need-enum-told-2 Inv-loop μ-loop
 enum-told-2 c = search needs
 
--- src/fields.rt:40:17
 returns : tie.Need-returns Inv-loop μ-loop
 returns c =     let b = c .before .before in
     let h = b .before .before in
@@ -50,22 +42,18 @@ returns c =     let b = c .before .before in
     simp (toZ-ofZ (f .low), toZ-ofZ (f .high)) at
     (sym (rest-no (nextField (now (a .case)) (a .i) (toZ w64 (ofZ w64 (a .low))) (toZ w64 (ofZ w64 (a .high)))) (h .loop .j) (a .n) (h .loop .inv .1) (b .before .loop-test .taken) (b .field .ensures) (c .enum-told2 .given .1)))
 
--- src/fields.rt:43:9
 add-j : tie.Need-add-j Inv-loop μ-loop
 add-j c = omega arith
 
--- src/fields.rt:31:5
 loop-less : tie.Need-loop-less Inv-loop μ-loop
 loop-less c = omega arith
 
--- src/fields.rt:31:5
 loop-again : tie.Need-loop-again Inv-loop μ-loop
 loop-again c =     let b = c .before .before in
     let h = b .before .before in
     let a = h .before .args in
     (omega arith, rest-on (nextField (now (a .case)) (a .i) (toZ w64 (ofZ w64 (a .low))) (toZ w64 (ofZ w64 (a .high)))) (h .loop .j) (a .n) (h .loop .inv .1) (b .before .loop-test .taken) (b .field .ensures) (c .enum-told .given .1))
 
--- src/fields.rt:26:1
 returns-2 : tie.Need-returns-2 Inv-loop μ-loop
 returns-2 c =     let h = c .before in
     let a = h .before .args in

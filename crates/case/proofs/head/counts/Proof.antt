@@ -1,53 +1,37 @@
+use borrow.Author.Needs.{needs}
+use Rattle.numbers.specs.Question.{firstNo-append}
 use Rattle.case.specs.HeadFields.{countFields}
 use Rattle.case.proofs.Asked.{chain}
-use Rattle.numbers.specs.Question.{firstNo-append}
-use mathlib.Core.Path.{_≡_, refl, sym, ap, _∙_}
-use denote.Ref.{now}
-use borrow.Author.Needs.{needs}
 use Rattle.case.proofs.head.counts.Statement.{statement}
 use Rattle.case.proofs.head.counts.Tie as tie
-use Rattle.case.proofs.head.counts.Reads as reads
-use Rattle.case.proofs.head.counts.Lts as lts
-use Rattle.case.proofs.fields.field.Reads as field-reads
-use Rattle.numbers.proofs.answer.or_else.Reads as or-else-reads
 
--- src/head.rt:20:9
 field-requires : tie.Need-field-requires
 field-requires c κs = search needs
 
--- src/head.rt:22:13
 field-requires-2 : tie.Need-field-requires-2
 field-requires-2 c κs = search needs
 
--- src/head.rt:24:17
 field-requires-3 : tie.Need-field-requires-3
 field-requires-3 c κs = search needs
 
--- src/head.rt:25:25
 field-requires-4 : tie.Need-field-requires-4
 field-requires-4 c κs = search needs
 
--- src/head.rt:25:47
 field-requires-5 : tie.Need-field-requires-5
 field-requires-5 c κs = search needs
 
--- src/head.rt:25:17
 or-else-requires : tie.Need-or-else-requires
 or-else-requires c κs = search needs
 
--- src/head.rt:23:13
 or-else-requires-2 : tie.Need-or-else-requires-2
 or-else-requires-2 c κs = search needs
 
--- src/head.rt:21:9
 or-else-requires-3 : tie.Need-or-else-requires-3
 or-else-requires-3 c κs = search needs
 
--- src/head.rt:19:5
 or-else-requires-4 : tie.Need-or-else-requires-4
 or-else-requires-4 c κs = search needs
 
--- src/head.rt:16:1
 returns : tie.Need-returns
 unfolding countFields
 returns c =     simp firstNo-append

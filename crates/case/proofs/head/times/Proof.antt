@@ -1,19 +1,16 @@
-use Rattle.case.proofs.Counting.{time-grows}
-use Rattle.case.specs.TimeFields.{timeField}
-use Rattle.case.specs.Records.{timeBefore}
-use Rattle.numbers.specs.SignedBounds.{Bounded}
-use Rattle.numbers.specs.Items.{over, rest, rest-on, rest-no, rest-end}
-use Rattle.numbers.specs.Question.{firstNo}
+use mathlib.Core.Path.{_≡_, sym, _∙_}
+use Prim.Native.Nat.{_≤_, _-_, _*_}
+use native.Mathlib.Omega.{arith}
 use borrow.Author.Needs.{needs}
 use denote.Ref.{now}
-use native.Mathlib.Omega.{arith}
-use Prim.Native.Nat.{_≤_, _-_, _+_, _*_}
-use mathlib.Core.Path.{_≡_, refl, sym, ap, _∙_}
+use Rattle.numbers.specs.Items.{over, rest, rest-on, rest-no, rest-end}
+use Rattle.numbers.specs.Question.{firstNo}
+use Rattle.numbers.specs.SignedBounds.{Bounded}
+use Rattle.case.specs.Records.{timeBefore}
+use Rattle.case.specs.TimeFields.{timeField}
+use Rattle.case.proofs.Counting.{time-grows}
 use Rattle.case.proofs.head.times.Statement.{statement}
 use Rattle.case.proofs.head.times.Tie as tie
-use Rattle.case.proofs.head.times.Reads as reads
-use Rattle.case.proofs.head.times.Lts as lts
-use Rattle.case.proofs.head.time_field.Reads as time-field-reads
 
 abbrev Inv-loop : tie.InvT-loop
 Inv-loop case steps i₀ i = (i ≤ steps) × (firstNo (over (timeField case) 0 steps) ≡ rest (timeField case) i steps) × Bounded (timeBefore case i) (i * 86400)
@@ -21,22 +18,18 @@ Inv-loop case steps i₀ i = (i ≤ steps) × (firstNo (over (timeField case) 0 
 abbrev μ-loop : tie.MeasureT-loop
 μ-loop case steps i₀ i = steps - i
 
--- src/head.rt:54:5
 loop-holds : tie.Need-loop-holds Inv-loop μ-loop
 loop-holds c = (omega arith, let e : c .args .steps - 0 ≡ c .args .steps = omega arith in rw e, record { bound = omega arith })
 
--- src/head.rt:55:13
 time-field-requires : tie.Need-time-field-requires Inv-loop μ-loop
 time-field-requires c κs = (omega arith, record { bound = omega (arith, c .before .loop .inv .2 .bound) })
 
 enum-told : tie.Need-enum-told Inv-loop μ-loop
 enum-told c = search needs
 
--- src/head.rt:63:17
 enum-told-2 : tie.Need-enum-told-2 Inv-loop μ-loop
 enum-told-2 c = search needs
 
--- src/head.rt:63:17
 returns : tie.Need-returns Inv-loop μ-loop
 returns c =     let b = c .before .before in
     let t = b .before in
@@ -45,15 +38,12 @@ returns c =     let b = c .before .before in
     let l = now (a .case) in
     sym (rest-no (timeField l) (h .loop .i) (a .steps) (h .loop .inv .1) (t .loop-test .taken) (b .time-field .ensures) (c .enum-told2 .given .1))
 
--- src/head.rt:66:9
 add-i : tie.Need-add-i Inv-loop μ-loop
 add-i c = omega arith
 
--- src/head.rt:54:5
 loop-less : tie.Need-loop-less Inv-loop μ-loop
 loop-less c = omega arith
 
--- src/head.rt:54:5
 loop-again : tie.Need-loop-again Inv-loop μ-loop
 loop-again c =     let b = c .before .before in
     let t = b .before in
@@ -62,7 +52,6 @@ loop-again c =     let b = c .before .before in
     let l = now (a .case) in
     (omega arith, rest-on (timeField l) (h .loop .i) (a .steps) (h .loop .inv .1) (t .loop-test .taken) (b .time-field .ensures) (c .enum-told .given .1), record { bound = omega (arith, time-grows l (h .loop .i) (h .loop .inv .2) (sym (b .time-field .ensures) ∙ c .enum-told .given .1) .bound) })
 
--- src/head.rt:49:1
 returns-2 : tie.Need-returns-2 Inv-loop μ-loop
 returns-2 c =     let h = c .before in
     let a = h .before .args in

@@ -1,46 +1,55 @@
+use mathlib.Core.Path.{_≡_, refl, ap, _∙_}
+use Prim.Native.Nat.{ℕ, _≤_, _-_}
+use native.Mathlib.Omega.{arith}
+use borrow.Author.Needs.{needs}
+use denote.Ref.{now}
+use lib.IntN.{pos}
+use lib.ListN.{length, length-set}
+use mir.Syntax.{w64}
+use mir.Val.{toZ, ofZ}
+use Rattle.case.specs.Laid.{Holds}
+use Rattle.case.specs.LaidLaws.{holds-none, holds-more, holds-to}
+use Rattle.case.specs.StationArcs.{belongs}
+use Rattle.case.specs.StationNodes.{endsOf, stationNodes}
+use Rattle.case.proofs.Reading.{kept}
 use Rattle.case.proofs.judge.insides.Statement.{statement}
 use Rattle.case.proofs.judge.insides.Tie as tie
-use Rattle.case.proofs.judge.insides.Reads as reads
-use Rattle.case.proofs.judge.insides.Lts as lts
-use Rattle.case.proofs.members.station_nodes.Reads as station-nodes-reads
 
 abbrev Inv-loop : tie.InvT-loop
-Inv-loop case arcs stations inside₀ s₀ inside s = ?
+Inv-loop case arcs stations inside₀ s₀ inside s = (s ≤ stations) × (length inside ≡ 8) × Holds (pos 0) inside (stationNodes case) s
 
 abbrev μ-loop : tie.MeasureT-loop
-μ-loop case arcs stations inside₀ s₀ inside s = ?
+μ-loop case arcs stations inside₀ s₀ inside s = stations - s
 
--- src/judge.rt:86:5
 loop-holds : tie.Need-loop-holds Inv-loop μ-loop
-loop-holds c = ?
+loop-holds c = (omega arith, refl, holds-none)
 
--- src/judge.rt:87:21
 station-nodes-requires : tie.Need-station-nodes-requires Inv-loop μ-loop
-station-nodes-requires c κs = ?
+station-nodes-requires c κs = search needs
 
--- src/judge.rt:87:9
 mul-inside : tie.Need-mul-inside Inv-loop μ-loop
-mul-inside c = ?
+mul-inside c = omega arith
 
--- src/judge.rt:87:9
 array-set-from-inside : tie.Need-array-set-from-inside Inv-loop μ-loop
-array-set-from-inside c = ?
+array-set-from-inside c = omega arith
 
--- src/judge.rt:88:9
 add-s : tie.Need-add-s Inv-loop μ-loop
-add-s c = ?
+add-s c = omega arith
 
--- src/judge.rt:86:5
 loop-less : tie.Need-loop-less Inv-loop μ-loop
-loop-less c = ?
+loop-less c = omega arith
 
--- src/judge.rt:86:5
 loop-again : tie.Need-loop-again Inv-loop μ-loop
-loop-again c = ?
+unfolding stationNodes
+loop-again c =     let h = c .before .before in
+    let s = h .before in
+    let l = now (s .args .case) in
+    let i = h .loop .s in
+    let e : toZ w64 (ofZ w64 (c .station-nodes .result)) ≡ stationNodes l i = kept _ (c .station-nodes .ok) ∙ c .station-nodes .ensures ∙ ap (λ (a : ℕ). pos (endsOf l (belongs l i) a)) (s .pre .1) in
+    (omega arith, simp length-set (h .loop .inv .1), holds-more (h .loop .inv .2) (omega arith) e)
 
--- src/judge.rt:80:1
 returns : tie.Need-returns Inv-loop μ-loop
-returns c = ?
+returns c = holds-to (c .before .loop .inv .2) (c .loop-test .left)
 
 pub insides-spec : {M : Type 1} → statement M
 insides-spec =

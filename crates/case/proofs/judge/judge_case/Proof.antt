@@ -1,39 +1,39 @@
+use mathlib.Core.Path.{sym, ap, _∙_}
 use borrow.Author.Needs.{needs}
+use denote.Ref.{now}
+use Rattle.numbers.specs.Question.{told}
+use Rattle.case.specs.Judged.{listQuestions, ruleQuestions, caseQuestions, judgedCase}
+use Rattle.case.specs.Passed.{list-counted, list-stations}
+use Rattle.case.proofs.Asked.{stopped, went}
 use Rattle.case.proofs.judge.judge_case.Statement.{statement}
 use Rattle.case.proofs.judge.judge_case.Tie as tie
-use Rattle.case.proofs.judge.judge_case.Reads as reads
-use Rattle.case.proofs.judge.judge_case.Lts as lts
-use Rattle.case.proofs.judge.lay.Reads as lay-reads
-use Rattle.case.proofs.judge.list_answer.Reads as list-answer-reads
-use Rattle.case.proofs.rules.rules.Reads as rules-reads
 
--- src/judge.rt:120:9
 list-answer-requires : tie.Need-list-answer-requires
 list-answer-requires c κs = search needs
 
--- src/judge.rt:122:36
 enum-told : tie.Need-enum-told
 enum-told c = search needs
 
--- src/judge.rt:122:36
 lay-requires : tie.Need-lay-requires
-lay-requires c κs = ?
+lay-requires c κs = let s = c .before .before .before in let l = now (s .args .case) in let e = sym (c .before .before .list-answer .ensures) ∙ c .enum-told .given .1 in (list-counted l e, list-stations l e)
 
--- src/judge.rt:122:24
 rules-requires : tie.Need-rules-requires
-rules-requires c κs = ?
+rules-requires c κs = let s = c .before .before .before .before in let l = now (s .args .case) in let e = sym (c .before .before .before .list-answer .ensures) ∙ c .before .enum-told .given .1 in (list-counted l e, c .lay .ensures, list-stations l e)
 
--- src/judge.rt:127:14
 enum-told-2 : tie.Need-enum-told-2
 enum-told-2 c = search needs
 
--- src/judge.rt:117:1
 returns : tie.Need-returns
-returns c = ?
+unfolding judgedCase caseQuestions
+returns c =     let h = c .before .before .before .before in
+    let l = now (h .before .args .case) in
+    ap told (went (listQuestions l) (ruleQuestions l) (h .list-answer .ensures) (c .before .before .enum-told .given .1) (c .rules .ensures))
 
--- src/judge.rt:117:1
 returns-2 : tie.Need-returns-2
-returns-2 c = ?
+unfolding judgedCase caseQuestions
+returns-2 c =     let h = c .before .before in
+    let l = now (h .before .args .case) in
+    ap told (stopped (listQuestions l) (ruleQuestions l) (h .list-answer .ensures) (c .enum-told2 .given .1))
 
 pub judge-case-spec : {M : Type 1} → statement M
 judge-case-spec =

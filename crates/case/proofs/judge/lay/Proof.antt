@@ -1,68 +1,97 @@
+use mathlib.Core.Path.{_≡_, ap, _∙_}
+use Prim.Native.Nat.{ℕ}
+use native.Mathlib.Omega.{arith}
 use borrow.Author.Needs.{needs}
+use denote.Ref.{now}
+use lib.IntN.{pos}
+use Rattle.case.specs.Layout.{nodesOf, arcsOf, stationsOf, stepsOf}
+use Rattle.case.specs.Passed.{arcs-begin, stations-begin}
+use Rattle.case.specs.StationNodes.{endsOf, plain, plainNodes}
+use Rattle.case.proofs.Reading.{kept}
+use Rattle.case.proofs.Rows.{first-arc, first-station}
 use Rattle.case.proofs.judge.lay.Statement.{statement}
 use Rattle.case.proofs.judge.lay.Tie as tie
-use Rattle.case.proofs.judge.lay.Reads as reads
-use Rattle.case.proofs.judge.lay.Lts as lts
-use Rattle.case.proofs.judge.insides.Reads as insides-reads
-use Rattle.case.proofs.judge.station_firsts.Reads as station-firsts-reads
-use Rattle.case.proofs.members.plain_nodes.Reads as plain-nodes-reads
-use Rattle.case.proofs.offsets.count.Reads as count-reads
 
--- src/judge.rt:98:9
 count-requires : tie.Need-count-requires
 count-requires c κs = search needs
 
--- src/judge.rt:99:9
 count-requires-2 : tie.Need-count-requires-2
 count-requires-2 c κs = search needs
 
--- src/judge.rt:100:9
 count-requires-3 : tie.Need-count-requires-3
 count-requires-3 c κs = search needs
 
--- src/judge.rt:101:9
 count-requires-4 : tie.Need-count-requires-4
 count-requires-4 c κs = search needs
 
--- src/judge.rt:102:17
 add-first : tie.Need-add-first
 add-first c = search needs
 
--- src/judge.rt:102:38
 add-first-2 : tie.Need-add-first-2
 add-first-2 c = search needs
 
--- src/judge.rt:102:29
 mul-first : tie.Need-mul-first
-mul-first c = ?
+mul-first c =     let s = c .before .before .before .before in
+    let l = now (s .args .case) in
+    let n : c .before .before .before .count .result ≡ nodesOf l = c .before .before .before .count .ensures .value in
+    let a : c .before .before .count2 .result ≡ arcsOf l = c .before .before .count2 .ensures .value in
+    let t : c .before .count3 .result ≡ stationsOf l = c .before .count3 .ensures .value in
+    let k : c .count4 .result ≡ stepsOf l = c .count4 .ensures .value in
+    omega (arith, first-arc l n k, arcs-begin l (s .pre .0), first-station l n k a, stations-begin l (s .pre .0))
 
--- src/judge.rt:102:17
 add-first-3 : tie.Need-add-first-3
-add-first-3 c = ?
+add-first-3 c =     let s = c .before .before .before .before in
+    let l = now (s .args .case) in
+    let n : c .before .before .before .count .result ≡ nodesOf l = c .before .before .before .count .ensures .value in
+    let a : c .before .before .count2 .result ≡ arcsOf l = c .before .before .count2 .ensures .value in
+    let t : c .before .count3 .result ≡ stationsOf l = c .before .count3 .ensures .value in
+    let k : c .count4 .result ≡ stepsOf l = c .count4 .ensures .value in
+    omega (arith, first-arc l n k, arcs-begin l (s .pre .0), first-station l n k a, stations-begin l (s .pre .0))
 
--- src/judge.rt:102:51
 mul-first-2 : tie.Need-mul-first-2
 mul-first-2 c = search needs
 
--- src/judge.rt:102:17
 add-first-4 : tie.Need-add-first-4
-add-first-4 c = ?
+add-first-4 c =     let s = c .before .before .before .before in
+    let l = now (s .args .case) in
+    let n : c .before .before .before .count .result ≡ nodesOf l = c .before .before .before .count .ensures .value in
+    let a : c .before .before .count2 .result ≡ arcsOf l = c .before .before .count2 .ensures .value in
+    let t : c .before .count3 .result ≡ stationsOf l = c .before .count3 .ensures .value in
+    let k : c .count4 .result ≡ stepsOf l = c .count4 .ensures .value in
+    omega (arith, first-arc l n k, arcs-begin l (s .pre .0), first-station l n k a, stations-begin l (s .pre .0))
 
--- src/judge.rt:103:9
 station-firsts-requires : tie.Need-station-firsts-requires
-station-firsts-requires c κs = ?
+station-firsts-requires c κs =     let s = c .before .before .before .before in
+    let l = now (s .args .case) in
+    let n : c .before .before .before .count .result ≡ nodesOf l = c .before .before .before .count .ensures .value in
+    let a : c .before .before .count2 .result ≡ arcsOf l = c .before .before .count2 .ensures .value in
+    let t : c .before .count3 .result ≡ stationsOf l = c .before .count3 .ensures .value in
+    let k : c .count4 .result ≡ stepsOf l = c .count4 .ensures .value in
+    (omega (arith, first-arc l n k, arcs-begin l (s .pre .0), first-station l n k a, stations-begin l (s .pre .0)), first-station l n k a, omega (arith, t, s .pre .0 .stations), t, s .pre .1)
 
--- src/judge.rt:104:9
 insides-requires : tie.Need-insides-requires
 insides-requires c κs = search needs
 
--- src/judge.rt:112:16
 plain-nodes-requires : tie.Need-plain-nodes-requires
 plain-nodes-requires c κs = search needs
 
--- src/judge.rt:94:1
 returns : tie.Need-returns
-returns c = ?
+unfolding plainNodes
+returns c =     let s = c .before .before .before .before .before .before .before in
+    let l = now (s .args .case) in
+    let n : c .before .before .before .before .before .before .count .result ≡ nodesOf l = c .before .before .before .before .before .before .count .ensures .value in
+    let a : c .before .before .before .before .before .count2 .result ≡ arcsOf l = c .before .before .before .before .before .count2 .ensures .value in
+    let t : c .before .before .before .before .count3 .result ≡ stationsOf l = c .before .before .before .before .count3 .ensures .value in
+    let k : c .before .before .before .count4 .result ≡ stepsOf l = c .before .before .before .count4 .ensures .value in
+    record {
+      steps = k;
+      nodes = n;
+      arcs = a;
+      stations = t;
+      rows = rw t at (c .before .before .station-firsts .ensures);
+      inside = rw t at (c .before .insides .ensures);
+      plain = kept _ (c .plain-nodes .ok) ∙ c .plain-nodes .ensures ∙ ap (λ (x : ℕ). pos (endsOf l (plain l) x)) a;
+    }
 
 pub lay-spec : {M : Type 1} → statement M
 lay-spec =

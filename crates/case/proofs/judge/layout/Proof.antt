@@ -1,34 +1,29 @@
+use mathlib.Core.Path.{_≡_, sym, _∙_}
+use Prim.Native.Nat.{ℕ}
+use native.Mathlib.Omega.{arith}
 use borrow.Author.Needs.{needs}
+use denote.Ref.{now}
+use Rattle.case.specs.Passed.{list-counted, list-stations}
 use Rattle.case.proofs.judge.layout.Statement.{statement}
 use Rattle.case.proofs.judge.layout.Tie as tie
-use Rattle.case.proofs.judge.layout.Reads as reads
-use Rattle.case.proofs.judge.layout.Lts as lts
-use Rattle.case.proofs.judge.lay.Reads as lay-reads
-use Rattle.case.proofs.judge.list_answer.Reads as list-answer-reads
 
--- src/judge.rt:135:9
 list-answer-requires : tie.Need-list-answer-requires
 list-answer-requires c κs = search needs
 
--- src/judge.rt:137:24
 enum-told : tie.Need-enum-told
 enum-told c = search needs
 
--- src/judge.rt:137:24
 lay-requires : tie.Need-lay-requires
-lay-requires c κs = ?
+lay-requires c κs = let s = c .before .before .before in let l = now (s .args .case) in let e = sym (c .before .before .list-answer .ensures) ∙ c .enum-told .given .1 in (list-counted l e, list-stations l e)
 
--- src/judge.rt:147:19
 enum-told-2 : tie.Need-enum-told-2
 enum-told-2 c = search needs
 
--- src/judge.rt:132:1
 returns : tie.Need-returns
 returns c = search needs
 
--- src/judge.rt:132:1
 returns-2 : tie.Need-returns-2
-returns-2 c = ?
+returns-2 c = λ y. let z : _≡_ {A = ℕ} 0 1 = cc (c .before .before .list-answer .ensures, c .enum-told2 .given .1) in let f : ⊥ = omega arith in absurd f
 
 pub layout-spec : {M : Type 1} → statement M
 layout-spec =

@@ -1,34 +1,36 @@
+use mathlib.Core.Path.{sym, _∙_}
 use borrow.Author.Needs.{needs}
+use denote.Ref.{now}
+use Rattle.case.specs.HeadFields.{headFields}
+use Rattle.case.specs.Judged.{rowQuestions, listQuestions}
+use Rattle.case.specs.Passed.{head-counted}
+use Rattle.case.proofs.Asked.{stopped, went}
 use Rattle.case.proofs.judge.list_answer.Statement.{statement}
 use Rattle.case.proofs.judge.list_answer.Tie as tie
-use Rattle.case.proofs.judge.list_answer.Reads as reads
-use Rattle.case.proofs.judge.list_answer.Lts as lts
-use Rattle.case.proofs.head.head.Reads as head-reads
-use Rattle.case.proofs.judge.rows.Reads as rows-reads
 
--- src/judge.rt:52:9
 head-requires : tie.Need-head-requires
 head-requires c κs = search needs
 
--- src/judge.rt:54:24
 enum-told : tie.Need-enum-told
 enum-told c = search needs
 
--- src/judge.rt:54:24
 rows-requires : tie.Need-rows-requires
-rows-requires c κs = ?
+rows-requires c κs = head-counted (now (c .before .before .before .args .case)) (sym (c .before .before .head .ensures) ∙ c .enum-told .given .1)
 
--- src/judge.rt:59:14
 enum-told-2 : tie.Need-enum-told-2
 enum-told-2 c = search needs
 
--- src/judge.rt:49:1
 returns : tie.Need-returns
-returns c = ?
+unfolding listQuestions
+returns c =     let h = c .before .before .before in
+    let l = now (h .before .args .case) in
+    (went (headFields l) (rowQuestions l) (h .head .ensures) (c .before .enum-told .given .1) (c .rows .ensures))
 
--- src/judge.rt:49:1
 returns-2 : tie.Need-returns-2
-returns-2 c = ?
+unfolding listQuestions
+returns-2 c =     let h = c .before .before in
+    let l = now (h .before .args .case) in
+    (stopped (headFields l) (rowQuestions l) (h .head .ensures) (c .enum-told2 .given .1))
 
 pub list-answer-spec : {M : Type 1} → statement M
 list-answer-spec =

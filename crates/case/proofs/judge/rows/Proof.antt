@@ -1,86 +1,113 @@
+use mathlib.Core.Path.{_≡_}
+use native.Mathlib.Omega.{arith}
 use borrow.Author.Needs.{needs}
+use denote.Ref.{now}
+use Rattle.numbers.specs.Question.{firstNo-append}
+use Rattle.case.specs.ArcFields.{allArcFields}
+use Rattle.case.specs.Judged.{rowQuestions}
+use Rattle.case.specs.Layout.{nodesOf, arcsOf, stationsOf, stepsOf}
+use Rattle.case.specs.NodeFields.{allNodeFields}
+use Rattle.case.specs.Passed.{arcs-begin, stations-begin}
+use Rattle.case.specs.TimeFields.{timeFields}
+use Rattle.case.proofs.Asked.{chain}
+use Rattle.case.proofs.Rows.{first-arc, first-station}
 use Rattle.case.proofs.judge.rows.Statement.{statement}
 use Rattle.case.proofs.judge.rows.Tie as tie
-use Rattle.case.proofs.judge.rows.Reads as reads
-use Rattle.case.proofs.judge.rows.Lts as lts
-use Rattle.case.proofs.arcs.arc_rows.Reads as arc-rows-reads
-use Rattle.case.proofs.head.times.Reads as times-reads
-use Rattle.case.proofs.nodes.node_rows.Reads as node-rows-reads
-use Rattle.case.proofs.offsets.count.Reads as count-reads
-use Rattle.case.proofs.stations.station_rows.Reads as station-rows-reads
-use Rattle.numbers.proofs.answer.or_else.Reads as or-else-reads
 
--- src/judge.rt:31:9
 count-requires : tie.Need-count-requires
 count-requires c κs = search needs
 
--- src/judge.rt:32:9
 count-requires-2 : tie.Need-count-requires-2
 count-requires-2 c κs = search needs
 
--- src/judge.rt:33:9
 count-requires-3 : tie.Need-count-requires-3
 count-requires-3 c κs = search needs
 
--- src/judge.rt:34:9
 count-requires-4 : tie.Need-count-requires-4
 count-requires-4 c κs = search needs
 
--- src/judge.rt:35:21
 add-first-arc : tie.Need-add-first-arc
 add-first-arc c = search needs
 
--- src/judge.rt:35:42
 add-first-arc-2 : tie.Need-add-first-arc-2
 add-first-arc-2 c = search needs
 
--- src/judge.rt:35:33
 mul-first-arc : tie.Need-mul-first-arc
-mul-first-arc c = ?
+mul-first-arc c =     let s = c .before .before .before .before in
+    let l = now (s .args .case) in
+    let n : c .before .before .before .count .result ≡ nodesOf l = c .before .before .before .count .ensures .value in
+    let a : c .before .before .count2 .result ≡ arcsOf l = c .before .before .count2 .ensures .value in
+    let t : c .before .count3 .result ≡ stationsOf l = c .before .count3 .ensures .value in
+    let k : c .count4 .result ≡ stepsOf l = c .count4 .ensures .value in
+    omega (arith, first-arc l n k, arcs-begin l (s .pre), first-station l n k a, stations-begin l (s .pre))
 
--- src/judge.rt:35:21
 add-first-arc-3 : tie.Need-add-first-arc-3
-add-first-arc-3 c = ?
+add-first-arc-3 c =     let s = c .before .before .before .before in
+    let l = now (s .args .case) in
+    let n : c .before .before .before .count .result ≡ nodesOf l = c .before .before .before .count .ensures .value in
+    let a : c .before .before .count2 .result ≡ arcsOf l = c .before .before .count2 .ensures .value in
+    let t : c .before .count3 .result ≡ stationsOf l = c .before .count3 .ensures .value in
+    let k : c .count4 .result ≡ stepsOf l = c .count4 .ensures .value in
+    omega (arith, first-arc l n k, arcs-begin l (s .pre), first-station l n k a, stations-begin l (s .pre))
 
--- src/judge.rt:37:9
 times-requires : tie.Need-times-requires
 times-requires c κs = search needs
 
--- src/judge.rt:39:13
 node-rows-requires : tie.Need-node-rows-requires
 node-rows-requires c κs = search needs
 
--- src/judge.rt:41:17
 arc-rows-requires : tie.Need-arc-rows-requires
-arc-rows-requires c κs = ?
+arc-rows-requires c κs =     let s = c .before .before .before .before .before .before in
+    let l = now (s .args .case) in
+    let n : c .before .before .before .before .before .count .result ≡ nodesOf l = c .before .before .before .before .before .count .ensures .value in
+    let a : c .before .before .before .before .count2 .result ≡ arcsOf l = c .before .before .before .before .count2 .ensures .value in
+    let t : c .before .before .before .count3 .result ≡ stationsOf l = c .before .before .before .count3 .ensures .value in
+    let k : c .before .before .count4 .result ≡ stepsOf l = c .before .before .count4 .ensures .value in
+    (omega (arith, first-arc l n k, arcs-begin l (s .pre), first-station l n k a, stations-begin l (s .pre)), omega (arith, a, s .pre .arcs), first-arc l n k)
 
--- src/judge.rt:42:48
 mul-station-rows : tie.Need-mul-station-rows
 mul-station-rows c = search needs
 
--- src/judge.rt:42:36
 add-station-rows : tie.Need-add-station-rows
-add-station-rows c = ?
+add-station-rows c =     let s = c .before .before .before .before .before .before .before in
+    let l = now (s .args .case) in
+    let n : c .before .before .before .before .before .before .count .result ≡ nodesOf l = c .before .before .before .before .before .before .count .ensures .value in
+    let a : c .before .before .before .before .before .count2 .result ≡ arcsOf l = c .before .before .before .before .before .count2 .ensures .value in
+    let t : c .before .before .before .before .count3 .result ≡ stationsOf l = c .before .before .before .before .count3 .ensures .value in
+    let k : c .before .before .before .count4 .result ≡ stepsOf l = c .before .before .before .count4 .ensures .value in
+    omega (arith, first-arc l n k, arcs-begin l (s .pre), first-station l n k a, stations-begin l (s .pre))
 
--- src/judge.rt:42:17
 station-rows-requires : tie.Need-station-rows-requires
-station-rows-requires c κs = ?
+station-rows-requires c κs =     let s = c .before .before .before .before .before .before .before in
+    let l = now (s .args .case) in
+    let n : c .before .before .before .before .before .before .count .result ≡ nodesOf l = c .before .before .before .before .before .before .count .ensures .value in
+    let a : c .before .before .before .before .before .count2 .result ≡ arcsOf l = c .before .before .before .before .before .count2 .ensures .value in
+    let t : c .before .before .before .before .count3 .result ≡ stationsOf l = c .before .before .before .before .count3 .ensures .value in
+    let k : c .before .before .before .count4 .result ≡ stepsOf l = c .before .before .before .count4 .ensures .value in
+    (omega (arith, first-arc l n k, arcs-begin l (s .pre), first-station l n k a, stations-begin l (s .pre)), first-station l n k a, omega (arith, t, s .pre .stations), t)
 
--- src/judge.rt:40:13
 or-else-requires : tie.Need-or-else-requires
 or-else-requires c κs = search needs
 
--- src/judge.rt:38:9
 or-else-requires-2 : tie.Need-or-else-requires-2
 or-else-requires-2 c κs = search needs
 
--- src/judge.rt:36:5
 or-else-requires-3 : tie.Need-or-else-requires-3
 or-else-requires-3 c κs = search needs
 
--- src/judge.rt:27:1
 returns : tie.Need-returns
-returns c = ?
+unfolding rowQuestions timeFields allNodeFields allArcFields
+returns c =     let s = c .before .before .before .before .before .before .before .before .before .before .before in
+    let l = now (s .args .case) in
+    let n : c .before .before .before .before .before .before .before .before .before .before .count .result ≡ nodesOf l = c .before .before .before .before .before .before .before .before .before .before .count .ensures .value in
+    let a : c .before .before .before .before .before .before .before .before .before .count2 .result ≡ arcsOf l = c .before .before .before .before .before .before .before .before .before .count2 .ensures .value in
+    let t : c .before .before .before .before .before .before .before .before .count3 .result ≡ stationsOf l = c .before .before .before .before .before .before .before .before .count3 .ensures .value in
+    let k : c .before .before .before .before .before .before .before .count4 .result ≡ stepsOf l = c .before .before .before .before .before .before .before .count4 .ensures .value in
+    simp firstNo-append
+    (chain (c .or-else3 .ensures) (simp k at (c .before .before .before .before .before .before .times .ensures))
+    (chain (c .before .or-else2 .ensures) (simp n at (c .before .before .before .before .before .node-rows .ensures))
+    (chain (c .before .before .or-else .ensures) (simp a at (c .before .before .before .before .arc-rows .ensures))
+    (simp firstNo-append at (c .before .before .before .station-rows .ensures)))))
 
 pub rows-spec : {M : Type 1} → statement M
 rows-spec =

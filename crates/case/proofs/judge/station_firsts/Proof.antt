@@ -1,46 +1,59 @@
+use mathlib.Core.Path.{_≡_, refl, sym, ap, _∙_}
+use Prim.Native.Nat.{_≤_, _<_, _-_, _+_, _*_}
+use native.Mathlib.Omega.{arith}
+use denote.Ref.{now}
+use lib.ListN.{length, length-set}
+use Rattle.case.specs.Laid.{Holds}
+use Rattle.case.specs.LaidLaws.{holds-none, holds-more, holds-to}
+use Rattle.case.specs.Layout.{stationsOf, stationAt, stationEnd}
+use Rattle.case.specs.Passed.{station-next, end-most}
 use Rattle.case.proofs.judge.station_firsts.Statement.{statement}
 use Rattle.case.proofs.judge.station_firsts.Tie as tie
-use Rattle.case.proofs.judge.station_firsts.Reads as reads
-use Rattle.case.proofs.judge.station_firsts.Lts as lts
-use Rattle.case.proofs.stations.station_end.Reads as station-end-reads
 
 abbrev Inv-loop : tie.InvT-loop
-Inv-loop case first stations rows₀ row₀ s₀ rows row s = ?
+Inv-loop case first stations rows₀ row₀ s₀ rows row s = (s ≤ stations) × (row ≡ stationAt case s) × (row ≤ 5000 + 117 * s) × (length rows ≡ 8) × Holds 0 rows (stationAt case) s
 
 abbrev μ-loop : tie.MeasureT-loop
-μ-loop case first stations rows₀ row₀ s₀ rows row s = ?
+μ-loop case first stations rows₀ row₀ s₀ rows row s = stations - s
 
--- src/judge.rt:71:5
 loop-holds : tie.Need-loop-holds Inv-loop μ-loop
-loop-holds c = ?
+loop-holds c = (omega arith, c .pre .1, omega (arith, c .pre .0), refl, holds-none)
 
--- src/judge.rt:72:9
 mul-rows : tie.Need-mul-rows Inv-loop μ-loop
-mul-rows c = ?
+mul-rows c = omega arith
 
--- src/judge.rt:72:9
 array-write-rows : tie.Need-array-write-rows Inv-loop μ-loop
-array-write-rows c = ?
+array-write-rows c = omega arith
 
--- src/judge.rt:73:9
 station-end-requires : tie.Need-station-end-requires Inv-loop μ-loop
-station-end-requires c κs = ?
+station-end-requires c κs =     let h = c .before in
+    let s = h .before in
+    let l = now (s .args .case) in
+    let p : h .loop .s < stationsOf l = omega (arith, s .pre .3, c .loop-test .taken) in
+    (omega (arith, h .loop .inv .2, s .pre .2, c .loop-test .taken), rw (h .loop .inv .1) (s .pre .4 .each (h .loop .s) p))
 
--- src/judge.rt:74:9
 add-s : tie.Need-add-s Inv-loop μ-loop
-add-s c = ?
+add-s c = omega arith
 
--- src/judge.rt:71:5
 loop-less : tie.Need-loop-less Inv-loop μ-loop
-loop-less c = ?
+loop-less c = omega arith
 
--- src/judge.rt:71:5
 loop-again : tie.Need-loop-again Inv-loop μ-loop
-loop-again c = ?
+loop-again c =     let h = c .before .before in
+    let s = h .before in
+    let l = now (s .args .case) in
+    let i = h .loop .s in
+    let p : i < stationsOf l = omega (arith, s .pre .3, c .before .loop-test .taken) in
+    let k = s .pre .4 .each i p in
+    let e = c .station-end .ensures ∙ ap (stationEnd l) (h .loop .inv .1) in
+    (omega arith,
+    e ∙ sym (station-next l i),
+    omega (arith, e, end-most l (stationAt l i) k, h .loop .inv .1, h .loop .inv .2),
+    simp length-set (h .loop .inv .3),
+    holds-more (h .loop .inv .4) (omega arith) (h .loop .inv .1))
 
--- src/judge.rt:64:1
 returns : tie.Need-returns Inv-loop μ-loop
-returns c = ?
+returns c = holds-to (c .before .loop .inv .4) (c .loop-test .left)
 
 pub station-firsts-spec : {M : Type 1} → statement M
 station-firsts-spec =

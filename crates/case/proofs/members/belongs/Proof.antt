@@ -1,30 +1,22 @@
-use Rattle.case.proofs.Reading.{count-in, first-count}
-use Rattle.case.specs.Records.{arcOf}
-use Rattle.case.specs.Layout.{arcAt}
+use mathlib.Core.Path.{_≡_}
+use borrow.Author.Needs.{needs}
 use borrow.Author.Tests.{le-leb, lt-leb}
 use denote.Ref.{now}
-use mathlib.Core.Path.{_≡_, refl, sym, ap, _∙_}
-use borrow.Author.Needs.{needs}
+use Rattle.case.specs.Layout.{arcAt}
+use Rattle.case.specs.Records.{arcOf}
+use Rattle.case.proofs.Reading.{count-in, first-count}
 use Rattle.case.proofs.members.belongs.Statement.{statement}
 use Rattle.case.proofs.members.belongs.Tie as tie
-use Rattle.case.proofs.members.belongs.Reads as reads
-use Rattle.case.proofs.members.belongs.Lts as lts
-use Rattle.case.proofs.offsets.arc_at.Reads as arc-at-reads
-use Rattle.case.proofs.offsets.count.Reads as count-reads
 
--- src/members.rt:15:9
 arc-at-requires : tie.Need-arc-at-requires
 arc-at-requires c κs = search needs
 
--- src/members.rt:16:13
 count-requires : tie.Need-count-requires
 count-requires c κs = search needs
 
--- src/members.rt:17:9
 count-requires-2 : tie.Need-count-requires-2
 count-requires-2 c κs = search needs
 
--- src/members.rt:12:1
 returns : tie.Need-returns
 returns c =     let u = c .before .before .before in
     let a = u .before .args in
@@ -32,7 +24,6 @@ returns c =     let u = c .before .before .before in
     let k : c .before .before .count .result ≡ arcOf l (a .e) .kind = first-count l (arcAt l (a .e)) (u .arc-at .ensures) (c .before .before .count .ensures .value) in
     rw (← k, le-leb _ _ (c .before .if1 .taken), count-in l (arcAt l (a .e)) 4 (u .arc-at .ensures) (c .count2 .ensures .value))
 
--- src/members.rt:12:1
 returns-2 : tie.Need-returns-2
 returns-2 c =     let u = c .before .before in
     let a = u .before .args in

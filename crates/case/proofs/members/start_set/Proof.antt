@@ -1,59 +1,85 @@
+use mathlib.Core.Bool.{true}
+use mathlib.Core.List.{List}
+use mathlib.Core.Logic.{⊎-elim}
+use mathlib.Core.Path.{_≡_, sym, ap, _∙_}
+use Prim.Native.Nat.{ℕ, _≤_, _<_, _-_, _+_, _^_}
+use native.Mathlib.Omega.{arith}
+use borrow.Author.Needs.{needs}
+use denote.Ref.{now}
+use lib.IntN.{ℤ, pos}
+use lib.Pow.{pow-mono}
+use mir.Facts.{toZ-pos}
+use mir.Syntax.{w64}
+use Rattle.case.specs.CountLaws.{before-none, before-le, before-yes, before-no, before-mono, arcs-none, arcs-yes, arcs-no, arcs-lt}
+use Rattle.case.specs.States.{activeAtStart}
+use Rattle.case.specs.StationArcs.{belongs, arcsBefore, arcSet}
 use Rattle.case.proofs.members.start_set.Statement.{statement}
 use Rattle.case.proofs.members.start_set.Tie as tie
-use Rattle.case.proofs.members.start_set.Reads as reads
-use Rattle.case.proofs.members.start_set.Lts as lts
-use Rattle.case.proofs.members.active.Reads as active-reads
-use Rattle.case.proofs.members.belongs.Reads as belongs-reads
+
+-- a set of at most 30 arcs fits
+set-fits : (l : List ℤ) (s e n : ℕ) {set : ℕ} → e ≤ n → arcsBefore l s n ≤ 30 → set ≡ arcSet l s (activeAtStart l) e → set < 2 ^ 63
+set-fits l s e n h k p = let m : arcsBefore l s e ≤ 30 = omega (arith, before-mono l s e n h) in let q : 2 ^ arcsBefore l s e ≤ 2 ^ 30 = pow-mono m in omega (arith, p, arcs-lt l s (activeAtStart l) e)
 
 abbrev Inv-loop : tie.InvT-loop
-Inv-loop case s arcs set₀ n₀ e₀ set n e = ?
+Inv-loop case s arcs set₀ n₀ e₀ set n e = (e ≤ arcs) × (n ≡ arcsBefore case s e) × (set ≡ arcSet case s (activeAtStart case) e)
 
 abbrev μ-loop : tie.MeasureT-loop
-μ-loop case s arcs set₀ n₀ e₀ set n e = ?
+μ-loop case s arcs set₀ n₀ e₀ set n e = arcs - e
 
--- src/members.rt:54:5
 loop-holds : tie.Need-loop-holds Inv-loop μ-loop
-loop-holds c = ?
+loop-holds c = let l = now (c .args .case) in (omega arith, sym (before-none l (c .args .s)), sym (arcs-none l (c .args .s) (activeAtStart l)))
 
--- src/members.rt:55:12
 belongs-requires : tie.Need-belongs-requires Inv-loop μ-loop
-belongs-requires c κs = ?
+belongs-requires c κs = search needs
 
--- src/members.rt:56:16
-active-requires : tie.Need-active-requires Inv-loop μ-loop
-active-requires c κs = ?
+with-arc-requires : tie.Need-with-arc-requires Inv-loop μ-loop
+with-arc-requires c κs =     let b = c .before in
+    let h = b .before .before in
+    let a = h .before .args in
+    let l = now (a .case) in
+    let i = h .loop .e in
+    let y : belongs l (a .s) i ≡ true = sym (b .belongs .ensures) ∙ c .if1 .taken in
+    let n = h .loop .inv .1 in
+    (omega (arith, n, before-yes l (a .s) i y, before-mono l (a .s) (i + 1) (a .arcs) (omega arith), h .before .pre), rw (n, h .loop .inv .2) (arcs-lt l (a .s) (activeAtStart l) i))
 
--- src/members.rt:57:24
-shl-set : tie.Need-shl-set Inv-loop μ-loop
-shl-set c = ?
-
--- src/members.rt:57:17
-add-set : tie.Need-add-set Inv-loop μ-loop
-add-set c = ?
-
--- src/members.rt:59:13
 add-n : tie.Need-add-n Inv-loop μ-loop
-add-n c = ?
+add-n c = let h = c .before .before .before .before in omega (arith, h .loop .inv .1, before-le (now (h .before .args .case)) (h .before .args .s) (h .loop .e))
 
--- src/members.rt:61:9
 add-e : tie.Need-add-e Inv-loop μ-loop
-add-e c = ?
+add-e c = omega arith
 
--- src/members.rt:54:5
 loop-less : tie.Need-loop-less Inv-loop μ-loop
-loop-less c = ?
+loop-less c = omega arith
 
--- src/members.rt:54:5
 loop-again : tie.Need-loop-again Inv-loop μ-loop
-loop-again c = ?
+loop-again c =     let b = c .before in
+    let h = b .before .before in
+    let a = h .before .args in
+    let l = now (a .case) in
+    let i = h .loop .e in
+    let f = sym (b .belongs .ensures) in
+    (omega arith,
+    ⊎-elim
+    (λ w. w .3 ∙ ap (λ (x : ℕ). x + 1) (h .loop .inv .1) ∙ sym (before-yes l (a .s) i (f ∙ w .0 .taken)))
+    (λ w. w .2 ∙ h .loop .inv .1 ∙ sym (before-no l (a .s) i (f ∙ w .0 .left)))
+    (c .if1 .came),
+    ⊎-elim
+    (λ w. w .2 ∙ w .1 .ensures ∙ rw (h .loop .inv .1, h .loop .inv .2) (sym (arcs-yes l (a .s) (activeAtStart l) i (f ∙ w .0 .taken))))
+    (λ w. w .1 ∙ h .loop .inv .2 ∙ sym (arcs-no l (a .s) (activeAtStart l) i (f ∙ w .0 .left)))
+    (c .if1 .came))
 
--- src/members.rt:63:5
 cast-result : tie.Need-cast-result Inv-loop μ-loop
-cast-result c = ?
+cast-result c =     let h = c .before in
+    let a = h .before .args in
+    let l = now (a .case) in
+    record { sfits = set-fits l (a .s) (h .loop .e) (a .arcs) (h .loop .inv .0) (h .before .pre) (h .loop .inv .2) }
 
--- src/members.rt:47:1
 returns : tie.Need-returns Inv-loop μ-loop
-returns c = ?
+returns c =     let h = c .before in
+    let a = h .before .args in
+    let l = now (a .case) in
+    let e : h .loop .e ≡ a .arcs = omega arith in
+    toZ-pos w64 (set-fits l (a .s) (h .loop .e) (a .arcs) (h .loop .inv .0) (h .before .pre) (h .loop .inv .2)) ∙ ap pos (rw e at (h .loop .inv .2))
 
 pub start-set-spec : {M : Type 1} → statement M
 start-set-spec =
@@ -63,9 +89,7 @@ start-set-spec =
     μ-loop
     loop-holds
     belongs-requires
-    active-requires
-    shl-set
-    add-set
+    with-arc-requires
     add-n
     add-e
     loop-less

@@ -1,42 +1,49 @@
+use mathlib.Core.Logic.{⊎-elim}
+use mathlib.Core.Path.{_≡_, sym, ap, _∙_}
+use Prim.Native.Nat.{ℕ, _≤_, _-_, _+_}
+use native.Mathlib.Omega.{arith}
+use borrow.Author.Needs.{needs}
+use denote.Ref.{now}
+use Rattle.case.specs.CountLaws.{before-none, before-le, before-yes, before-no}
+use Rattle.case.specs.StationArcs.{arcsBefore}
 use Rattle.case.proofs.members.station_arcs.Statement.{statement}
 use Rattle.case.proofs.members.station_arcs.Tie as tie
-use Rattle.case.proofs.members.station_arcs.Reads as reads
-use Rattle.case.proofs.members.station_arcs.Lts as lts
-use Rattle.case.proofs.members.belongs.Reads as belongs-reads
 
 abbrev Inv-loop : tie.InvT-loop
-Inv-loop case s arcs n₀ e₀ n e = ?
+Inv-loop case s arcs n₀ e₀ n e = (e ≤ arcs) × (n ≡ arcsBefore case s e)
 
 abbrev μ-loop : tie.MeasureT-loop
-μ-loop case s arcs n₀ e₀ n e = ?
+μ-loop case s arcs n₀ e₀ n e = arcs - e
 
--- src/members.rt:37:5
 loop-holds : tie.Need-loop-holds Inv-loop μ-loop
-loop-holds c = ?
+loop-holds c = (omega arith, sym (before-none (now (c .args .case)) (c .args .s)))
 
--- src/members.rt:38:12
 belongs-requires : tie.Need-belongs-requires Inv-loop μ-loop
-belongs-requires c κs = ?
+belongs-requires c κs = search needs
 
--- src/members.rt:39:13
 add-n : tie.Need-add-n Inv-loop μ-loop
-add-n c = ?
+add-n c = let h = c .before .before .before in omega (arith, before-le (now (h .before .args .case)) (h .before .args .s) (h .loop .e))
 
--- src/members.rt:41:9
 add-e : tie.Need-add-e Inv-loop μ-loop
-add-e c = ?
+add-e c = omega arith
 
--- src/members.rt:37:5
 loop-less : tie.Need-loop-less Inv-loop μ-loop
-loop-less c = ?
+loop-less c = omega arith
 
--- src/members.rt:37:5
 loop-again : tie.Need-loop-again Inv-loop μ-loop
-loop-again c = ?
+loop-again c =     let b = c .before in
+    let h = b .before .before in
+    let a = h .before .args in
+    let l = now (a .case) in
+    let i = h .loop .e in
+    (omega arith,
+    ⊎-elim
+    (λ w. w .1 ∙ ap (λ (x : ℕ). x + 1) (h .loop .inv .1) ∙ sym (before-yes l (a .s) i (sym (b .belongs .ensures) ∙ w .0 .taken)))
+    (λ w. w .1 ∙ h .loop .inv .1 ∙ sym (before-no l (a .s) i (sym (b .belongs .ensures) ∙ w .0 .left)))
+    (c .if1 .came))
 
--- src/members.rt:32:1
 returns : tie.Need-returns Inv-loop μ-loop
-returns c = ?
+returns c = let e : c .before .loop .e ≡ c .before .before .args .arcs = omega arith in rw e at (c .before .loop .inv .1)
 
 pub station-arcs-spec : {M : Type 1} → statement M
 station-arcs-spec =

@@ -1,47 +1,64 @@
+use mathlib.Core.Logic.{⊎-elim}
+use mathlib.Core.Path.{_≡_, sym, ap, _∙_}
+use Prim.Native.Nat.{ℕ, _≤_, _<_, _-_, _^_}
+use native.Mathlib.Omega.{arith}
+use borrow.Author.Needs.{needs}
+use denote.Ref.{now}
+use lib.IntN.{pos}
+use mir.Facts.{toZ-pos}
+use mir.Syntax.{w64}
+use Rattle.case.specs.CountLaws.{ends-none, ends-yes, ends-no, ends-lt}
+use Rattle.case.specs.StationArcs.{belongs}
+use Rattle.case.specs.StationNodes.{withEnds, endsOf}
 use Rattle.case.proofs.members.station_nodes.Statement.{statement}
 use Rattle.case.proofs.members.station_nodes.Tie as tie
-use Rattle.case.proofs.members.station_nodes.Reads as reads
-use Rattle.case.proofs.members.station_nodes.Lts as lts
-use Rattle.case.proofs.members.belongs.Reads as belongs-reads
-use Rattle.case.proofs.members.with_ends.Reads as with-ends-reads
 
 abbrev Inv-loop : tie.InvT-loop
-Inv-loop case s arcs set₀ e₀ set e = ?
+Inv-loop case s arcs set₀ e₀ set e = (e ≤ arcs) × (set ≡ endsOf case (belongs case s) e)
 
 abbrev μ-loop : tie.MeasureT-loop
-μ-loop case s arcs set₀ e₀ set e = ?
+μ-loop case s arcs set₀ e₀ set e = arcs - e
 
--- src/members.rt:95:5
 loop-holds : tie.Need-loop-holds Inv-loop μ-loop
-loop-holds c = ?
+loop-holds c = let l = now (c .args .case) in let a = c .args in (omega arith, sym (ends-none l (belongs l (a .s))))
 
--- src/members.rt:96:12
 belongs-requires : tie.Need-belongs-requires Inv-loop μ-loop
-belongs-requires c κs = ?
+belongs-requires c κs = search needs
 
--- src/members.rt:97:13
 with-ends-requires : tie.Need-with-ends-requires Inv-loop μ-loop
-with-ends-requires c κs = ?
+with-ends-requires c κs = search needs
 
--- src/members.rt:99:9
 add-e : tie.Need-add-e Inv-loop μ-loop
-add-e c = ?
+add-e c = omega arith
 
--- src/members.rt:95:5
 loop-less : tie.Need-loop-less Inv-loop μ-loop
-loop-less c = ?
+loop-less c = omega arith
 
--- src/members.rt:95:5
 loop-again : tie.Need-loop-again Inv-loop μ-loop
-loop-again c = ?
+loop-again c =     let b = c .before in
+    let h = b .before .before in
+    let a = h .before .args in
+    let l = now (a .case) in
+    let i = h .loop .e in
+    (omega arith,
+    ⊎-elim
+    (λ w. w .2 ∙ w .1 .ensures ∙ ap (λ (x : ℕ). withEnds l x i) (h .loop .inv .1) ∙ sym (ends-yes l (belongs l (a .s)) i (sym (b .belongs .ensures) ∙ w .0 .taken)))
+    (λ w. w .1 ∙ h .loop .inv .1 ∙ sym (ends-no l (belongs l (a .s)) i (sym (b .belongs .ensures) ∙ w .0 .left)))
+    (c .if1 .came))
 
--- src/members.rt:101:5
 cast-result : tie.Need-cast-result Inv-loop μ-loop
-cast-result c = ?
+cast-result c =     let h = c .before in
+    let a = h .before .args in
+    let l = now (a .case) in
+    record { sfits = omega (arith, h .loop .inv .1, ends-lt l (belongs l (a .s)) (h .loop .e)) }
 
--- src/members.rt:90:1
 returns : tie.Need-returns Inv-loop μ-loop
-returns c = ?
+returns c =     let h = c .before in
+    let a = h .before .args in
+    let l = now (a .case) in
+    let e : h .loop .e ≡ a .arcs = omega arith in
+    let f : h .loop .set < 2 ^ 63 = omega (arith, h .loop .inv .1, ends-lt l (belongs l (a .s)) (h .loop .e)) in
+    toZ-pos w64 f ∙ ap pos (rw e at (h .loop .inv .1))
 
 pub station-nodes-spec : {M : Type 1} → statement M
 station-nodes-spec =

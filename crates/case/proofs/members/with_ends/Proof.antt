@@ -1,37 +1,33 @@
-use denote.Ref.{now}
-use mathlib.Core.Path.{_≡_, refl, sym, ap, _∙_}
+use mathlib.Core.Path.{_∙_}
 use borrow.Author.Needs.{needs}
+use denote.Ref.{now}
+use Rattle.case.specs.Layout.{arcAt}
+use Rattle.case.proofs.Reading.{count-in}
 use Rattle.case.proofs.members.with_ends.Statement.{statement}
 use Rattle.case.proofs.members.with_ends.Tie as tie
-use Rattle.case.proofs.members.with_ends.Reads as reads
-use Rattle.case.proofs.members.with_ends.Lts as lts
-use Rattle.case.proofs.members.with_node.Reads as with-node-reads
-use Rattle.case.proofs.offsets.arc_at.Reads as arc-at-reads
-use Rattle.case.proofs.offsets.count.Reads as count-reads
 
--- src/members.rt:85:9
 arc-at-requires : tie.Need-arc-at-requires
 arc-at-requires c κs = search needs
 
--- src/members.rt:86:30
 count-requires : tie.Need-count-requires
 count-requires c κs = search needs
 
--- src/members.rt:86:15
 with-node-requires : tie.Need-with-node-requires
 with-node-requires c κs = search needs
 
--- src/members.rt:86:52
 count-requires-2 : tie.Need-count-requires-2
 count-requires-2 c κs = search needs
 
--- src/members.rt:86:5
 with-node-requires-2 : tie.Need-with-node-requires-2
 with-node-requires-2 c κs = search needs
 
--- src/members.rt:82:1
 returns : tie.Need-returns
-returns c = ?
+returns c =     let u = c .before .before .before .before in
+    let a = u .before .args in
+    let l = now (a .case) in
+    let row = arcAt l (a .e) in
+    c .with-node2 .ensures
+    ∙ rw (count-in l row 2 (u .arc-at .ensures) (c .before .count2 .ensures .value), c .before .before .with-node .ensures, count-in l row 1 (u .arc-at .ensures) (c .before .before .before .count .ensures .value))
 
 pub with-ends-spec : {M : Type 1} → statement M
 with-ends-spec =

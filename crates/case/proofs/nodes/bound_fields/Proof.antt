@@ -1,77 +1,56 @@
-use Rattle.case.specs.Layout.{numberAt}
+use mathlib.Core.Path.{_≡_, _∙_}
 use Prim.Native.Nat.{_+_}
+use borrow.Author.Needs.{needs}
 use denote.Ref.{now}
-use Rattle.case.proofs.Reading.{kept}
-use mir.Val.{toZ, ofZ}
 use mir.Syntax.{w64}
-use mir.Facts.{toZ-ofZ}
+use mir.Val.{toZ, ofZ}
+use Rattle.numbers.specs.Question.{firstNo-append}
+use Rattle.case.specs.Layout.{numberAt}
 use Rattle.case.specs.NodeFields.{boundFields}
 use Rattle.case.proofs.Asked.{chain}
-use Rattle.numbers.specs.Question.{firstNo-append}
-use mathlib.Core.Path.{_≡_, refl, sym, ap, _∙_}
-use borrow.Author.Needs.{needs}
+use Rattle.case.proofs.Reading.{kept}
 use Rattle.case.proofs.nodes.bound_fields.Statement.{statement}
 use Rattle.case.proofs.nodes.bound_fields.Tie as tie
-use Rattle.case.proofs.nodes.bound_fields.Reads as reads
-use Rattle.case.proofs.nodes.bound_fields.Lts as lts
-use Rattle.case.proofs.fields.field.Reads as field-reads
-use Rattle.case.proofs.fields.fields.Reads as fields-reads
-use Rattle.case.proofs.offsets.number.Reads as number-reads
-use Rattle.numbers.proofs.answer.or_else.Reads as or-else-reads
 
--- src/nodes.rt:19:9
 number-requires : tie.Need-number-requires
 number-requires c κs = search needs
 
--- src/nodes.rt:20:9
 number-requires-2 : tie.Need-number-requires-2
 number-requires-2 c κs = search needs
 
--- src/nodes.rt:21:9
 number-requires-3 : tie.Need-number-requires-3
 number-requires-3 c κs = search needs
 
--- src/nodes.rt:23:9
 field-requires : tie.Need-field-requires
 field-requires c κs = search needs
 
--- src/nodes.rt:25:26
 add-fields : tie.Need-add-fields
 add-fields c = search needs
 
--- src/nodes.rt:25:13
 fields-requires : tie.Need-fields-requires
 fields-requires c κs = search needs
 
--- src/nodes.rt:27:29
 add-field : tie.Need-add-field
 add-field c = search needs
 
--- src/nodes.rt:27:17
 field-requires-2 : tie.Need-field-requires-2
 field-requires-2 c κs = search needs
 
--- src/nodes.rt:28:29
 add-field-2 : tie.Need-add-field-2
 add-field-2 c = search needs
 
--- src/nodes.rt:28:17
 field-requires-3 : tie.Need-field-requires-3
 field-requires-3 c κs = search needs
 
--- src/nodes.rt:26:13
 or-else-requires : tie.Need-or-else-requires
 or-else-requires c κs = search needs
 
--- src/nodes.rt:24:9
 or-else-requires-2 : tie.Need-or-else-requires-2
 or-else-requires-2 c κs = search needs
 
--- src/nodes.rt:22:5
 or-else-requires-3 : tie.Need-or-else-requires-3
 or-else-requires-3 c κs = search needs
 
--- src/nodes.rt:15:1
 returns : tie.Need-returns
 unfolding boundFields
 returns c =     let u = c .before .before .before .before .before .before .before in

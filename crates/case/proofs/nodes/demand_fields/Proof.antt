@@ -1,46 +1,34 @@
-use Rattle.case.proofs.Counting.{first-is}
-use Rattle.case.specs.NodeFields.{demandFields}
-use Rattle.case.specs.Layout.{countAt}
-use borrow.Author.Tests.{eq-eqb, ne-eqb}
-use denote.Ref.{now}
-use mathlib.Core.Path.{_≡_, refl, sym, ap, _∙_}
+use mathlib.Core.Path.{_≡_, sym, _∙_}
 use borrow.Author.Needs.{needs}
+use borrow.Author.Tests.{ne-eqb}
+use denote.Ref.{now}
+use Rattle.case.specs.Layout.{countAt}
+use Rattle.case.specs.NodeFields.{demandFields}
+use Rattle.case.proofs.Counting.{first-is}
 use Rattle.case.proofs.nodes.demand_fields.Statement.{statement}
 use Rattle.case.proofs.nodes.demand_fields.Tie as tie
-use Rattle.case.proofs.nodes.demand_fields.Reads as reads
-use Rattle.case.proofs.nodes.demand_fields.Lts as lts
-use Rattle.case.proofs.fields.fields.Reads as fields-reads
-use Rattle.case.proofs.offsets.count.Reads as count-reads
 
--- src/nodes.rt:39:9
 count-requires : tie.Need-count-requires
 count-requires c κs = search needs
 
--- src/nodes.rt:41:27
 add-fields : tie.Need-add-fields
 add-fields c = search needs
 
--- src/nodes.rt:41:14
 fields-requires : tie.Need-fields-requires
 fields-requires c κs = search needs
 
--- src/nodes.rt:42:27
 add-fields-2 : tie.Need-add-fields-2
 add-fields-2 c = search needs
 
--- src/nodes.rt:42:14
 fields-requires-2 : tie.Need-fields-requires-2
 fields-requires-2 c κs = search needs
 
--- src/nodes.rt:43:27
 add-fields-3 : tie.Need-add-fields-3
 add-fields-3 c = search needs
 
--- src/nodes.rt:43:14
 fields-requires-3 : tie.Need-fields-requires-3
 fields-requires-3 c κs = search needs
 
--- src/nodes.rt:35:1
 returns : tie.Need-returns
 unfolding demandFields
 returns c =     let s = c .before .before .before in
@@ -48,7 +36,6 @@ returns c =     let s = c .before .before .before in
     let k : c .before .before .count .result ≡ countAt l (s .args .row) = first-is (s .args .row) (c .before .before .count .ensures) in
     rw (sym k ∙ c .before .match .keys1, ← s .pre .2) (c .fields .ensures)
 
--- src/nodes.rt:35:1
 returns-2 : tie.Need-returns-2
 unfolding demandFields
 returns-2 c =     let s = c .before .before .before in
@@ -56,7 +43,6 @@ returns-2 c =     let s = c .before .before .before in
     let k : c .before .before .count .result ≡ countAt l (s .args .row) = first-is (s .args .row) (c .before .before .count .ensures) in
     rw (sym k ∙ c .before .match .keys2, ← s .pre .2) (c .fields2 .ensures)
 
--- src/nodes.rt:35:1
 returns-3 : tie.Need-returns-3
 unfolding demandFields
 returns-3 c =     let s = c .before .before .before in

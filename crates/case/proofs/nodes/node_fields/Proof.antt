@@ -1,50 +1,37 @@
-use Rattle.case.proofs.Counting.{node-row}
-use Rattle.case.specs.NodeFields.{nodeFields}
-use Rattle.case.specs.Layout.{nodeAt}
-use native.Mathlib.Omega.{arith}
+use mathlib.Core.Path.{_≡_}
 use Prim.Native.Nat.{_+_, _*_}
-use Rattle.case.proofs.Asked.{chain}
-use Rattle.numbers.specs.Question.{firstNo-append}
-use denote.Ref.{now}
-use mathlib.Core.Path.{_≡_, refl, sym, ap, _∙_}
+use native.Mathlib.Omega.{arith}
 use borrow.Author.Needs.{needs}
+use denote.Ref.{now}
+use Rattle.numbers.specs.Question.{firstNo-append}
+use Rattle.case.specs.Layout.{nodeAt}
+use Rattle.case.specs.NodeFields.{nodeFields}
+use Rattle.case.proofs.Asked.{chain}
+use Rattle.case.proofs.Counting.{node-row}
 use Rattle.case.proofs.nodes.node_fields.Statement.{statement}
 use Rattle.case.proofs.nodes.node_fields.Tie as tie
-use Rattle.case.proofs.nodes.node_fields.Reads as reads
-use Rattle.case.proofs.nodes.node_fields.Lts as lts
-use Rattle.case.proofs.nodes.bound_fields.Reads as bound-fields-reads
-use Rattle.case.proofs.nodes.demand_fields.Reads as demand-fields-reads
-use Rattle.numbers.proofs.answer.or_else.Reads as or-else-reads
 
--- src/nodes.rt:51:15
 add-row : tie.Need-add-row
 add-row c = search needs
 
--- src/nodes.rt:51:32
 add-row-2 : tie.Need-add-row-2
 add-row-2 c = search needs
 
--- src/nodes.rt:51:27
 mul-row : tie.Need-mul-row
 mul-row c = omega (arith, node-row (c .args .v) (c .args .steps) (c .pre .0) (c .pre .1))
 
--- src/nodes.rt:51:15
 add-row-3 : tie.Need-add-row-3
 add-row-3 c = omega (arith, node-row (c .args .v) (c .args .steps) (c .pre .0) (c .pre .1))
 
--- src/nodes.rt:52:13
 bound-fields-requires : tie.Need-bound-fields-requires
 bound-fields-requires c κs = omega (arith, node-row (c .args .v) (c .args .steps) (c .pre .0) (c .pre .1))
 
--- src/nodes.rt:52:38
 demand-fields-requires : tie.Need-demand-fields-requires
 demand-fields-requires c κs = let s = c .before in (omega (arith, node-row (s .args .v) (s .args .steps) (s .pre .0) (s .pre .1)), s .pre .1, s .pre .2)
 
--- src/nodes.rt:52:5
 or-else-requires : tie.Need-or-else-requires
 or-else-requires c κs = search needs
 
--- src/nodes.rt:47:1
 returns : tie.Need-returns
 unfolding nodeFields nodeAt
 returns c =     let s = c .before .before .before in

@@ -1,16 +1,13 @@
-use Rattle.case.specs.NodeFields.{nodeFields}
-use Rattle.numbers.specs.Items.{over, rest, rest-on, rest-no, rest-end}
-use Rattle.numbers.specs.Question.{firstNo}
+use mathlib.Core.Path.{_≡_, sym}
+use Prim.Native.Nat.{_≤_, _-_}
+use native.Mathlib.Omega.{arith}
 use borrow.Author.Needs.{needs}
 use denote.Ref.{now}
-use native.Mathlib.Omega.{arith}
-use Prim.Native.Nat.{_≤_, _-_, _+_, _*_}
-use mathlib.Core.Path.{_≡_, refl, sym, ap, _∙_}
+use Rattle.numbers.specs.Items.{over, rest, rest-on, rest-no, rest-end}
+use Rattle.numbers.specs.Question.{firstNo}
+use Rattle.case.specs.NodeFields.{nodeFields}
 use Rattle.case.proofs.nodes.node_rows.Statement.{statement}
 use Rattle.case.proofs.nodes.node_rows.Tie as tie
-use Rattle.case.proofs.nodes.node_rows.Reads as reads
-use Rattle.case.proofs.nodes.node_rows.Lts as lts
-use Rattle.case.proofs.nodes.node_fields.Reads as node-fields-reads
 
 abbrev Inv-loop : tie.InvT-loop
 Inv-loop case steps nodes v₀ v = (v ≤ nodes) × (firstNo (over (nodeFields case) 0 nodes) ≡ rest (nodeFields case) v nodes)
@@ -18,22 +15,18 @@ Inv-loop case steps nodes v₀ v = (v ≤ nodes) × (firstNo (over (nodeFields c
 abbrev μ-loop : tie.MeasureT-loop
 μ-loop case steps nodes v₀ v = nodes - v
 
--- src/nodes.rt:60:5
 loop-holds : tie.Need-loop-holds Inv-loop μ-loop
 loop-holds c = (omega arith, let e : c .args .nodes - 0 ≡ c .args .nodes = omega arith in rw e)
 
--- src/nodes.rt:61:13
 node-fields-requires : tie.Need-node-fields-requires Inv-loop μ-loop
 node-fields-requires c κs = (omega arith, omega arith, c .before .before .pre .2)
 
 enum-told : tie.Need-enum-told Inv-loop μ-loop
 enum-told c = search needs
 
--- src/nodes.rt:69:17
 enum-told-2 : tie.Need-enum-told-2 Inv-loop μ-loop
 enum-told-2 c = search needs
 
--- src/nodes.rt:69:17
 returns : tie.Need-returns Inv-loop μ-loop
 returns c =     let b = c .before .before in
     let t = b .before in
@@ -42,15 +35,12 @@ returns c =     let b = c .before .before in
     let l = now (a .case) in
     sym (rest-no (nodeFields l) (h .loop .v) (a .nodes) (h .loop .inv .1) (t .loop-test .taken) (b .node-fields .ensures) (c .enum-told2 .given .1))
 
--- src/nodes.rt:72:9
 add-v : tie.Need-add-v Inv-loop μ-loop
 add-v c = omega arith
 
--- src/nodes.rt:60:5
 loop-less : tie.Need-loop-less Inv-loop μ-loop
 loop-less c = omega arith
 
--- src/nodes.rt:60:5
 loop-again : tie.Need-loop-again Inv-loop μ-loop
 loop-again c =     let b = c .before .before in
     let t = b .before in
@@ -59,7 +49,6 @@ loop-again c =     let b = c .before .before in
     let l = now (a .case) in
     (omega arith, rest-on (nodeFields l) (h .loop .v) (a .nodes) (h .loop .inv .1) (t .loop-test .taken) (b .node-fields .ensures) (c .enum-told .given .1))
 
--- src/nodes.rt:55:1
 returns-2 : tie.Need-returns-2 Inv-loop μ-loop
 returns-2 c =     let h = c .before in
     let a = h .before .args in

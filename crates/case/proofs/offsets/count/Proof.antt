@@ -1,26 +1,18 @@
-use Rattle.case.proofs.Reading.{kept, count-small}
-use Rattle.numbers.specs.SignedParts.{posPart}
+use mathlib.Core.Path.{_≡_, ap, _∙_}
+use borrow.Author.Needs.{needs}
 use mir.Syntax.{w64}
 use mir.Val.{toZ, ofZ}
-use mathlib.Core.Path.{_≡_, refl, sym, ap, _∙_}
-use mir.Facts.{toZ-ofZ}
-use borrow.Author.Needs.{needs}
+use Rattle.numbers.specs.SignedParts.{posPart}
+use Rattle.case.proofs.Reading.{kept, count-small}
 use Rattle.case.proofs.offsets.count.Statement.{statement}
 use Rattle.case.proofs.offsets.count.Tie as tie
-use Rattle.case.proofs.offsets.count.Reads as reads
-use Rattle.case.proofs.offsets.count.Lts as lts
-use Rattle.case.proofs.offsets.number.Reads as number-reads
-use Rattle.numbers.proofs.compare.index.Reads as index-reads
 
--- src/offsets.rt:24:11
 number-requires : tie.Need-number-requires
 number-requires c κs = search needs
 
--- src/offsets.rt:24:5
 index-requires : tie.Need-index-requires
 index-requires c κs = search needs
 
--- src/offsets.rt:21:1
 returns : tie.Need-returns
 returns c =     let n = c .before .number in
     let e : toZ w64 (ofZ w64 (n .result)) ≡ n .result = kept (n .result) (n .ok) in

@@ -1,25 +1,20 @@
+use mathlib.Core.Path.{_≡_, _∙_}
+use borrow.Author.Needs.{needs}
+use lib.IntN.{pos, _-ℤ_}
+use mir.Facts.{toZ-ofZ, toZ-pos}
+use mir.Syntax.{w64}
+use mir.Val.{toZ}
 use Rattle.numbers.specs.SignedLocals.{ranged}
 use Rattle.numbers.specs.SignedParts.{ints, taken}
-use lib.IntN.{pos, _-ℤ_}
-use mir.Val.{toZ}
-use mir.Syntax.{w64}
-use mir.Facts.{toZ-ofZ, toZ-pos}
-use mathlib.Core.Path.{_≡_, refl, sym, ap, _∙_}
-use borrow.Author.Needs.{needs}
 use Rattle.case.proofs.offsets.last.Statement.{statement}
 use Rattle.case.proofs.offsets.last.Tie as tie
-use Rattle.case.proofs.offsets.last.Reads as reads
-use Rattle.case.proofs.offsets.last.Lts as lts
 
--- src/offsets.rt:81:6
 cast-result : tie.Need-cast-result
 cast-result c = search needs
 
--- src/offsets.rt:81:5
 sub-result : tie.Need-sub-result
 sub-result c = ranged _ (rw (toZ-pos w64 (c .pre)) (omega (ints, taken (pos (c .args .n)) (pos 1))))
 
--- src/offsets.rt:77:1
 returns : tie.Need-returns
 returns c =     let e : toZ w64 (c .args .n) ≡ pos (c .args .n) = toZ-pos w64 (c .pre) in
     toZ-ofZ (ranged (toZ w64 (c .args .n) -ℤ pos 1) (rw e (omega (ints, taken (pos (c .args .n)) (pos 1))))) ∙ rw e

@@ -1,37 +1,26 @@
+use mathlib.Core.Path.{_∙_}
+use borrow.Author.Needs.{needs}
+use denote.Ref.{now}
 use Rattle.case.specs.Layout.{arcAt}
 use Rattle.case.proofs.Reading.{number-in, count-in, first-count, kept}
-use denote.Ref.{now}
-use mathlib.Core.Path.{_≡_, refl, sym, ap, _∙_}
-use borrow.Author.Needs.{needs}
 use Rattle.case.proofs.read.arc.Statement.{statement}
 use Rattle.case.proofs.read.arc.Tie as tie
-use Rattle.case.proofs.read.arc.Reads as reads
-use Rattle.case.proofs.read.arc.Lts as lts
-use Rattle.case.proofs.offsets.arc_at.Reads as arc-at-reads
-use Rattle.case.proofs.offsets.count.Reads as count-reads
-use Rattle.case.proofs.offsets.number.Reads as number-reads
 
--- src/read.rt:65:9
 arc-at-requires : tie.Need-arc-at-requires
 arc-at-requires c κs = search needs
 
--- src/read.rt:67:15
 count-requires : tie.Need-count-requires
 count-requires c κs = search needs
 
--- src/read.rt:68:15
 count-requires-2 : tie.Need-count-requires-2
 count-requires-2 c κs = search needs
 
--- src/read.rt:69:13
 count-requires-3 : tie.Need-count-requires-3
 count-requires-3 c κs = search needs
 
--- src/read.rt:70:15
 number-requires : tie.Need-number-requires
 number-requires c κs = search needs
 
--- src/read.rt:62:1
 returns : tie.Need-returns
 returns c =     let a = c .before .before .before .before .before .args in
     let l = now (a .case) in

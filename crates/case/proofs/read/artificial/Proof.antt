@@ -1,49 +1,35 @@
+use mathlib.Core.Path.{_∙_}
+use borrow.Author.Needs.{needs}
+use denote.Ref.{now}
 use Rattle.case.specs.Layout.{arcAt}
 use Rattle.case.proofs.Reading.{number-in, count-in, kept}
-use denote.Ref.{now}
-use mathlib.Core.Path.{_≡_, refl, sym, ap, _∙_}
-use borrow.Author.Needs.{needs}
 use Rattle.case.proofs.read.artificial.Statement.{statement}
 use Rattle.case.proofs.read.artificial.Tie as tie
-use Rattle.case.proofs.read.artificial.Reads as reads
-use Rattle.case.proofs.read.artificial.Lts as lts
-use Rattle.case.proofs.offsets.arc_at.Reads as arc-at-reads
-use Rattle.case.proofs.offsets.count.Reads as count-reads
-use Rattle.case.proofs.offsets.number.Reads as number-reads
 
--- src/read.rt:89:9
 arc-at-requires : tie.Need-arc-at-requires
 arc-at-requires c κs = search needs
 
--- src/read.rt:91:18
 count-requires : tie.Need-count-requires
 count-requires c κs = search needs
 
--- src/read.rt:92:19
 count-requires-2 : tie.Need-count-requires-2
 count-requires-2 c κs = search needs
 
--- src/read.rt:93:17
 count-requires-3 : tie.Need-count-requires-3
 count-requires-3 c κs = search needs
 
--- src/read.rt:94:17
 count-requires-4 : tie.Need-count-requires-4
 count-requires-4 c κs = search needs
 
--- src/read.rt:95:19
 number-requires : tie.Need-number-requires
 number-requires c κs = search needs
 
--- src/read.rt:96:15
 count-requires-5 : tie.Need-count-requires-5
 count-requires-5 c κs = search needs
 
--- src/read.rt:97:19
 number-requires-2 : tie.Need-number-requires-2
 number-requires-2 c κs = search needs
 
--- src/read.rt:86:1
 returns : tie.Need-returns
 returns c =     let a = c .before .before .before .before .before .before .before .before .args in
     let l = now (a .case) in

@@ -1,28 +1,20 @@
+use mathlib.Core.Path.{_∙_}
+use borrow.Author.Needs.{needs}
+use denote.Ref.{now}
 use Rattle.case.specs.Layout.{machineAt}
 use Rattle.case.proofs.Reading.{number-in, first-number, kept}
-use denote.Ref.{now}
-use mathlib.Core.Path.{_≡_, refl, sym, ap, _∙_}
-use borrow.Author.Needs.{needs}
 use Rattle.case.proofs.read.machine.Statement.{statement}
 use Rattle.case.proofs.read.machine.Tie as tie
-use Rattle.case.proofs.read.machine.Reads as reads
-use Rattle.case.proofs.read.machine.Lts as lts
-use Rattle.case.proofs.offsets.machine_at.Reads as machine-at-reads
-use Rattle.case.proofs.offsets.number.Reads as number-reads
 
--- src/read.rt:140:9
 machine-at-requires : tie.Need-machine-at-requires
 machine-at-requires c κs = search needs
 
--- src/read.rt:142:15
 number-requires : tie.Need-number-requires
 number-requires c κs = search needs
 
--- src/read.rt:143:16
 number-requires-2 : tie.Need-number-requires-2
 number-requires-2 c κs = search needs
 
--- src/read.rt:137:1
 returns : tie.Need-returns
 returns c =     let a = c .before .before .before .args in
     let l = now (a .case) in

@@ -1,42 +1,66 @@
+use mathlib.Core.Path.{_≡_, refl, sym, ap, _∙_}
+use Prim.Native.Nat.{_≤_, _-_}
+use native.Mathlib.Omega.{arith}
+use borrow.Author.Needs.{needs}
+use borrow.Author.Tests.{eq-eqb, ne-eqb}
+use denote.Ref.{now}
+use Rattle.numbers.specs.Items.{rest, rest-on, rest-no, rest-end}
+use Rattle.numbers.specs.Question.{firstNo}
+use Rattle.numbers.specs.declared.answer.Answer.the-variants.{Yes, No}
+use Rattle.case.specs.ArcEnds.{arcEnds, allArcEnds}
+use Rattle.case.specs.Layout.{arcsOf}
+use Rattle.case.specs.Records.{arcOf}
+use Rattle.case.specs.declared.records.Arc.{Arc}
 use Rattle.case.proofs.rules.arc_ends.Statement.{statement}
 use Rattle.case.proofs.rules.arc_ends.Tie as tie
-use Rattle.case.proofs.rules.arc_ends.Reads as reads
-use Rattle.case.proofs.rules.arc_ends.Lts as lts
-use Rattle.case.proofs.read.arc.Reads as arc-reads
 
 abbrev Inv-loop : tie.InvT-loop
-Inv-loop case arcs e₀ e = ?
+Inv-loop case arcs e₀ e = (e ≤ arcs) × (firstNo (allArcEnds case) ≡ rest (arcEnds case) e arcs)
 
 abbrev μ-loop : tie.MeasureT-loop
-μ-loop case arcs e₀ e = ?
+μ-loop case arcs e₀ e = arcs - e
 
--- src/rules.rt:40:5
 loop-holds : tie.Need-loop-holds Inv-loop μ-loop
-loop-holds c = ?
+unfolding allArcEnds
+loop-holds c = (omega arith, let e : c .args .arcs - 0 ≡ arcsOf (now (c .args .case)) = omega (arith, c .pre) in rw e)
 
--- src/rules.rt:41:13
 arc-requires : tie.Need-arc-requires Inv-loop μ-loop
-arc-requires c κs = ?
+arc-requires c κs = search needs
 
--- src/rules.rt:43:13
 returns : tie.Need-returns Inv-loop μ-loop
-returns c = ?
+unfolding arcEnds
+returns c =     let b = c .before .before in
+    let h = b .before .before in
+    let a = h .before .args in
+    let l = now (a .case) in
+    let e = h .loop .e in
+    let from = ap (λ (x : Arc). x .from) (b .arc .ensures) in
+    let to = ap (λ (x : Arc). x .to) (b .arc .ensures) in
+    let q : No 13 0 e ≡ firstNo (arcEnds l e) = rw (eq-eqb (arcOf l e .from) (arcOf l e .to) (sym from ∙ c .if1 .taken ∙ to)) in
+    sym (rest-no (arcEnds l) e (a .arcs) (h .loop .inv .1) (b .before .loop-test .taken) q refl)
 
--- src/rules.rt:49:9
 add-e : tie.Need-add-e Inv-loop μ-loop
-add-e c = ?
+add-e c = omega arith
 
--- src/rules.rt:40:5
 loop-less : tie.Need-loop-less Inv-loop μ-loop
-loop-less c = ?
+loop-less c = omega arith
 
--- src/rules.rt:40:5
 loop-again : tie.Need-loop-again Inv-loop μ-loop
-loop-again c = ?
+unfolding arcEnds
+loop-again c =     let b = c .before .before in
+    let h = b .before .before in
+    let a = h .before .args in
+    let l = now (a .case) in
+    let e = h .loop .e in
+    let from = ap (λ (x : Arc). x .from) (b .arc .ensures) in
+    let to = ap (λ (x : Arc). x .to) (b .arc .ensures) in
+    let q : Yes ≡ firstNo (arcEnds l e) = rw (ne-eqb (arcOf l e .from) (arcOf l e .to) (λ y. c .if1 .left (from ∙ y ∙ sym to))) in
+    (omega arith, rest-on (arcEnds l) e (a .arcs) (h .loop .inv .1) (b .before .loop-test .taken) q refl)
 
--- src/rules.rt:35:1
 returns-2 : tie.Need-returns-2 Inv-loop μ-loop
-returns-2 c = ?
+returns-2 c =     let h = c .before in
+    let a = h .before .args in
+    sym (rest-end (arcEnds (now (a .case))) (h .loop .e) (a .arcs) (h .loop .inv .1) (c .loop-test .left))
 
 pub arc-ends-spec : {M : Type 1} → statement M
 arc-ends-spec =

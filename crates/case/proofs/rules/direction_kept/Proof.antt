@@ -1,39 +1,74 @@
+use mathlib.Core.Bool.{true, false}
+use mathlib.Core.Path.{_≡_, sym, ap, _∙_}
 use borrow.Author.Needs.{needs}
+use denote.Ref.{now}
+use mir.Facts.{toZ-ofZ}
+use mir.Syntax.{w64}
+use mir.Val.{toZ, ofZ}
+use Rattle.numbers.specs.Sets.{disjointOf}
+use Rattle.case.specs.Directions.{directionKept}
+use Rattle.case.specs.Records.{directionRow}
+use Rattle.case.specs.StationNodes.{onlyFence}
+use Rattle.case.specs.declared.records.Direction.{Direction}
+use Rattle.case.proofs.Reading.{kept}
 use Rattle.case.proofs.rules.direction_kept.Statement.{statement}
 use Rattle.case.proofs.rules.direction_kept.Tie as tie
-use Rattle.case.proofs.rules.direction_kept.Reads as reads
-use Rattle.case.proofs.rules.direction_kept.Lts as lts
-use Rattle.case.proofs.read.direction.Reads as direction-reads
-use Rattle.case.proofs.rules.only_fence.Reads as only-fence-reads
-use Rattle.numbers.proofs.sets.disjoint.Reads as disjoint-reads
 
--- src/rules.rt:127:9
 direction-requires : tie.Need-direction-requires
 direction-requires c κs = search needs
 
--- src/rules.rt:130:8
 disjoint-requires : tie.Need-disjoint-requires
 disjoint-requires c κs = search needs
 
--- src/rules.rt:131:12
 only-fence-requires : tie.Need-only-fence-requires
 only-fence-requires c κs = search needs
 
--- src/rules.rt:132:13
 only-fence-requires-2 : tie.Need-only-fence-requires-2
 only-fence-requires-2 c κs = search needs
 
--- src/rules.rt:132:13
 returns : tie.Need-returns
-returns c = ?
+unfolding directionKept
+returns c =     let d = c .before .before .before .before .before .before .before in
+    let s = d .before in
+    let l = now (s .args .case) in
+    let r = directionRow l (s .args .row) (s .args .f) in
+    let i = toZ-ofZ (s .fits .inside) in
+    let p = toZ-ofZ (s .fits .plain) in
+    let t = c .before .before .before .before .before .before .struct-told .given in
+    let n : toZ w64 (ofZ w64 (d .direction .result .entry)) ≡ r .entry = kept _ (t .0 .1) ∙ ap (λ (x : Direction). x .entry) (d .direction .ensures) in
+    let x : toZ w64 (ofZ w64 (d .direction .result .exit)) ≡ r .exit = kept _ (t .1 .0 .1) ∙ ap (λ (x : Direction). x .exit) (d .direction .ensures) in
+    let e : disjointOf (r .entry) (r .exit) ≡ true = simp (n, x) at (sym (c .before .before .before .before .disjoint .ensures) ∙ c .before .before .before .if1 .taken) in
+    let f : onlyFence (s .args .inside) (s .args .plain) (r .entry) ≡ true = simp (n, i, p) at (sym (c .before .before .only-fence .ensures) ∙ c .before .if2 .taken) in
+    rw (e, f) (simp (x, i, p) at (c .only-fence2 .ensures))
 
--- src/rules.rt:124:1
 returns-2 : tie.Need-returns-2
-returns-2 c = ?
+unfolding directionKept
+returns-2 c =     let d = c .before .before .before .before .before .before in
+    let s = d .before in
+    let l = now (s .args .case) in
+    let r = directionRow l (s .args .row) (s .args .f) in
+    let i = toZ-ofZ (s .fits .inside) in
+    let p = toZ-ofZ (s .fits .plain) in
+    let t = c .before .before .before .before .before .struct-told .given in
+    let n : toZ w64 (ofZ w64 (d .direction .result .entry)) ≡ r .entry = kept _ (t .0 .1) ∙ ap (λ (x : Direction). x .entry) (d .direction .ensures) in
+    let x : toZ w64 (ofZ w64 (d .direction .result .exit)) ≡ r .exit = kept _ (t .1 .0 .1) ∙ ap (λ (x : Direction). x .exit) (d .direction .ensures) in
+    let e : disjointOf (r .entry) (r .exit) ≡ true = simp (n, x) at (sym (c .before .before .before .disjoint .ensures) ∙ c .before .before .if1 .taken) in
+    let f : onlyFence (s .args .inside) (s .args .plain) (r .entry) ≡ false = simp (n, i, p) at (sym (c .before .only-fence .ensures) ∙ c .if2 .left) in
+    rw (e, f)
 
--- src/rules.rt:124:1
 returns-3 : tie.Need-returns-3
-returns-3 c = ?
+unfolding directionKept
+returns-3 c =     let d = c .before .before .before .before in
+    let s = d .before in
+    let l = now (s .args .case) in
+    let r = directionRow l (s .args .row) (s .args .f) in
+    let i = toZ-ofZ (s .fits .inside) in
+    let p = toZ-ofZ (s .fits .plain) in
+    let t = c .before .before .before .struct-told .given in
+    let n : toZ w64 (ofZ w64 (d .direction .result .entry)) ≡ r .entry = kept _ (t .0 .1) ∙ ap (λ (x : Direction). x .entry) (d .direction .ensures) in
+    let x : toZ w64 (ofZ w64 (d .direction .result .exit)) ≡ r .exit = kept _ (t .1 .0 .1) ∙ ap (λ (x : Direction). x .exit) (d .direction .ensures) in
+    let e : disjointOf (r .entry) (r .exit) ≡ false = simp (n, x) at (sym (c .before .disjoint .ensures) ∙ c .if1 .left) in
+    rw e
 
 pub direction-kept-spec : {M : Type 1} → statement M
 direction-kept-spec =

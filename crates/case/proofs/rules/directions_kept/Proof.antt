@@ -1,47 +1,68 @@
+use mathlib.Core.Bool.{true}
+use mathlib.Core.Path.{_≡_, refl, sym, ap, _∙_}
+use Prim.Native.Nat.{_≤_, _-_}
+use native.Mathlib.Omega.{arith}
+use borrow.Author.Needs.{needs}
+use borrow.Author.Tests.{not-true, not-false}
+use denote.Ref.{now}
+use mir.Facts.{toZ-ofZ}
+use mir.Syntax.{w64}
+use mir.Val.{toZ, ofZ}
+use Rattle.case.specs.CountLaws.{every-more, every-not}
+use Rattle.case.specs.Directions.{directionKept}
+use Rattle.case.specs.StationArcs.{every}
+use Rattle.case.specs.declared.records.Station.{Station}
 use Rattle.case.proofs.rules.directions_kept.Statement.{statement}
 use Rattle.case.proofs.rules.directions_kept.Tie as tie
-use Rattle.case.proofs.rules.directions_kept.Reads as reads
-use Rattle.case.proofs.rules.directions_kept.Lts as lts
-use Rattle.case.proofs.read.station.Reads as station-reads
-use Rattle.case.proofs.rules.direction_kept.Reads as direction-kept-reads
 
 abbrev Inv-loop : tie.InvT-loop
-Inv-loop case row inside plain directions f₀ f = ?
+Inv-loop case row inside plain directions f₀ f = (f ≤ directions) × (every f (directionKept case row (toZ w64 inside) (toZ w64 plain)) ≡ true)
 
 abbrev μ-loop : tie.MeasureT-loop
-μ-loop case row inside plain directions f₀ f = ?
+μ-loop case row inside plain directions f₀ f = directions - f
 
--- src/rules.rt:141:22
 station-requires : tie.Need-station-requires Inv-loop μ-loop
-station-requires c κs = ?
+station-requires c κs = search needs
 
--- src/rules.rt:143:5
 loop-holds : tie.Need-loop-holds Inv-loop μ-loop
-loop-holds c = ?
+loop-holds c = (omega arith, refl)
 
--- src/rules.rt:144:13
 direction-kept-requires : tie.Need-direction-kept-requires Inv-loop μ-loop
-direction-kept-requires c κs = ?
+direction-kept-requires c κs = search needs
 
--- src/rules.rt:145:13
 returns : tie.Need-returns Inv-loop μ-loop
-returns c = ?
+returns c =     let b = c .before in
+    let t = b .before in
+    let h = t .before in
+    let a = h .before .before .args in
+    let f = h .before .before .fits in
+    let l = now (a .case) in
+    let d = ap (λ (x : Station). x .directions) (h .before .station .ensures) in
+    let r = every-not (h .before .station .result .directions) (directionKept l (a .row) (toZ w64 (ofZ w64 (a .inside))) (toZ w64 (ofZ w64 (a .plain)))) (h .loop .f) (t .loop-test .taken) (sym (b .direction-kept .ensures) ∙ not-true _ (c .if1 .taken)) in
+    rw (← d) (sym (simp (toZ-ofZ (f .inside), toZ-ofZ (f .plain)) at r))
 
--- src/rules.rt:147:9
 add-f : tie.Need-add-f Inv-loop μ-loop
-add-f c = ?
+add-f c = omega arith
 
--- src/rules.rt:143:5
 loop-less : tie.Need-loop-less Inv-loop μ-loop
-loop-less c = ?
+loop-less c = omega arith
 
--- src/rules.rt:143:5
 loop-again : tie.Need-loop-again Inv-loop μ-loop
-loop-again c = ?
+loop-again c =     let b = c .before in
+    let t = b .before in
+    let h = t .before in
+    let a = h .before .before .args in
+    let l = now (a .case) in
+    (omega arith, every-more (h .loop .f) (directionKept l (a .row) (toZ w64 (ofZ w64 (a .inside))) (toZ w64 (ofZ w64 (a .plain)))) (h .loop .inv .1) (sym (b .direction-kept .ensures) ∙ not-false _ (c .if1 .left)))
 
--- src/rules.rt:138:1
 returns-2 : tie.Need-returns-2 Inv-loop μ-loop
-returns-2 c = ?
+returns-2 c =     let h = c .before in
+    let a = h .before .before .args in
+    let f = h .before .before .fits in
+    let l = now (a .case) in
+    let d = ap (λ (x : Station). x .directions) (h .before .station .ensures) in
+    let e : h .loop .f ≡ h .before .station .result .directions = omega arith in
+    rw (← d) (sym (simp (toZ-ofZ (f .inside), toZ-ofZ (f .plain)) at (rw e at (h .loop .inv .1))))
 
 pub directions-kept-spec : {M : Type 1} → statement M
 directions-kept-spec =

@@ -1,52 +1,90 @@
+use mathlib.Core.Bool.{true, false}
+use mathlib.Core.Logic.{⊎-elim}
+use mathlib.Core.Path.{_≡_, refl, sym, ap, _∙_}
+use Prim.Native.Nat.{_≤_, _-_}
+use native.Mathlib.Omega.{arith}
+use borrow.Author.Needs.{needs}
+use borrow.Author.Tests.{not-true, not-false}
+use denote.Ref.{now}
+use mir.Facts.{toZ-ofZ}
+use mir.Syntax.{w64}
+use mir.Val.{toZ, ofZ}
+use Rattle.numbers.specs.Sets.{subsetOf}
+use Rattle.case.specs.CountLaws.{every-more, every-not}
+use Rattle.case.specs.Records.{artificialOf}
+use Rattle.case.specs.States.{machinesKept}
+use Rattle.case.specs.StationArcs.{belongs, every}
+use Rattle.case.specs.declared.records.Artificial.{Artificial}
+use Rattle.case.proofs.Reading.{kept}
 use Rattle.case.proofs.rules.machines_kept.Statement.{statement}
 use Rattle.case.proofs.rules.machines_kept.Tie as tie
-use Rattle.case.proofs.rules.machines_kept.Reads as reads
-use Rattle.case.proofs.rules.machines_kept.Lts as lts
-use Rattle.case.proofs.members.belongs.Reads as belongs-reads
-use Rattle.case.proofs.read.artificial.Reads as artificial-reads
-use Rattle.numbers.proofs.sets.subset.Reads as subset-reads
 
 abbrev Inv-loop : tie.InvT-loop
-Inv-loop case s own arcs e₀ e = ?
+Inv-loop case s own arcs e₀ e = (e ≤ arcs) × (every e (machinesKept case s (toZ w64 own)) ≡ true)
 
 abbrev μ-loop : tie.MeasureT-loop
-μ-loop case s own arcs e₀ e = ?
+μ-loop case s own arcs e₀ e = arcs - e
 
--- src/rules.rt:208:5
 loop-holds : tie.Need-loop-holds Inv-loop μ-loop
-loop-holds c = ?
+loop-holds c = (omega arith, refl)
 
--- src/rules.rt:209:12
 belongs-requires : tie.Need-belongs-requires Inv-loop μ-loop
-belongs-requires c κs = ?
+belongs-requires c κs = search needs
 
--- src/rules.rt:210:28
 artificial-requires : tie.Need-artificial-requires Inv-loop μ-loop
-artificial-requires c κs = ?
+artificial-requires c κs = search needs
 
--- src/rules.rt:211:17
 subset-requires : tie.Need-subset-requires Inv-loop μ-loop
-subset-requires c κs = ?
+subset-requires c κs = search needs
 
--- src/rules.rt:212:17
 returns : tie.Need-returns Inv-loop μ-loop
-returns c = ?
+unfolding machinesKept
+returns c =     let b = c .before .before .before .before .before in
+    let t = b .before in
+    let h = t .before in
+    let s = h .before in
+    let a = s .args in
+    let l = now (a .case) in
+    let e = h .loop .e in
+    let w = machinesKept l (a .s) (toZ w64 (ofZ w64 (a .own))) in
+    let u = c .before .before .before in
+    let m : toZ w64 (ofZ w64 (u .artificial .result .machines)) ≡ artificialOf l e .machines = kept _ (c .before .before .struct-told .given .1 .1 .1 .1 .0 .1) ∙ ap (λ (x : Artificial). x .machines) (u .artificial .ensures) in
+    let y : belongs l (a .s) e ≡ true = sym (b .belongs .ensures) ∙ u .before .if1 .taken in
+    let z : subsetOf (artificialOf l e .machines) (toZ w64 (ofZ w64 (a .own))) ≡ false = simp m at (sym (c .before .subset .ensures) ∙ not-true _ (c .if2 .taken)) in
+    let f : w e ≡ false = rw (y, z) in
+    sym (simp (toZ-ofZ (s .fits .own)) at (every-not (a .arcs) w e (t .loop-test .taken) f))
 
--- src/rules.rt:215:9
 add-e : tie.Need-add-e Inv-loop μ-loop
-add-e c = ?
+add-e c = omega arith
 
--- src/rules.rt:208:5
 loop-less : tie.Need-loop-less Inv-loop μ-loop
-loop-less c = ?
+loop-less c = omega arith
 
--- src/rules.rt:208:5
 loop-again : tie.Need-loop-again Inv-loop μ-loop
-loop-again c = ?
+unfolding machinesKept
+loop-again c =     let b = c .before in
+    let t = b .before in
+    let h = t .before in
+    let s = h .before in
+    let a = s .args in
+    let l = now (a .case) in
+    let e = h .loop .e in
+    let w = machinesKept l (a .s) (toZ w64 (ofZ w64 (a .own))) in
+    let f : w e ≡ true =
+        ⊎-elim
+        (λ x.
+            let m : toZ w64 (ofZ w64 (x .1 .result .machines)) ≡ artificialOf l e .machines = kept _ (x .2 .given .1 .1 .1 .1 .0 .1) ∙ ap (λ (x : Artificial). x .machines) (x .1 .ensures) in
+            let z : subsetOf (artificialOf l e .machines) (toZ w64 (ofZ w64 (a .own))) ≡ true = simp m at (sym (x .3 .ensures) ∙ not-false _ (x .4 .left)) in
+            rw (sym (b .belongs .ensures) ∙ x .0 .taken, z))
+        (λ x. rw (sym (b .belongs .ensures) ∙ x .left))
+        (c .if1 .came) in
+    (omega arith, every-more e w (h .loop .inv .1) f)
 
--- src/rules.rt:204:1
 returns-2 : tie.Need-returns-2 Inv-loop μ-loop
-returns-2 c = ?
+returns-2 c =     let h = c .before in
+    let s = h .before in
+    let e : h .loop .e ≡ s .args .arcs = omega arith in
+    sym (simp (toZ-ofZ (s .fits .own)) at (rw e at (h .loop .inv .1)))
 
 pub machines-kept-spec : {M : Type 1} → statement M
 machines-kept-spec =

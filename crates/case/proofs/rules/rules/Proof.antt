@@ -1,62 +1,73 @@
+use mathlib.Core.Path.{_≡_, sym, _∙_}
 use borrow.Author.Needs.{needs}
+use denote.Ref.{now}
+use Rattle.numbers.specs.Question.{firstNo, firstNo-append}
+use Rattle.case.specs.Judged.{earlyRules, ruleQuestions}
+use Rattle.case.specs.Passed.{rules-sized}
+use Rattle.case.specs.States.{allStateSets}
+use Rattle.case.proofs.Asked.{chain, stopped, went}
 use Rattle.case.proofs.rules.rules.Statement.{statement}
 use Rattle.case.proofs.rules.rules.Tie as tie
-use Rattle.case.proofs.rules.rules.Reads as reads
-use Rattle.case.proofs.rules.rules.Lts as lts
-use Rattle.case.proofs.rules.arc_ends.Reads as arc-ends-reads
-use Rattle.case.proofs.rules.direction_sets.Reads as direction-sets-reads
-use Rattle.case.proofs.rules.one_station.Reads as one-station-reads
-use Rattle.case.proofs.rules.state_sets.Reads as state-sets-reads
-use Rattle.case.proofs.rules.station_size.Reads as station-size-reads
-use Rattle.numbers.proofs.answer.or_else.Reads as or-else-reads
 
--- src/rules.rt:279:9
 arc-ends-requires : tie.Need-arc-ends-requires
 arc-ends-requires c κs = search needs
 
--- src/rules.rt:281:13
 one-station-requires : tie.Need-one-station-requires
 one-station-requires c κs = search needs
 
--- src/rules.rt:282:21
 station-size-requires : tie.Need-station-size-requires
 station-size-requires c κs = search needs
 
--- src/rules.rt:282:49
 direction-sets-requires : tie.Need-direction-sets-requires
 direction-sets-requires c κs = search needs
 
--- src/rules.rt:282:13
 or-else-requires : tie.Need-or-else-requires
 or-else-requires c κs = search needs
 
--- src/rules.rt:280:9
 or-else-requires-2 : tie.Need-or-else-requires-2
 or-else-requires-2 c κs = search needs
 
--- src/rules.rt:278:9
 or-else-requires-3 : tie.Need-or-else-requires-3
 or-else-requires-3 c κs = search needs
 
--- src/rules.rt:286:24
 enum-told : tie.Need-enum-told
 enum-told c = search needs
 
--- src/rules.rt:286:24
 state-sets-requires : tie.Need-state-sets-requires
-state-sets-requires c κs = ?
+unfolding earlyRules
+state-sets-requires c κs =     let s = c .before .before .before .before .before .before .before .before .before in
+    let l = now (s .args .case) in
+    let e : c .before .before .or-else3 .result ≡ firstNo (earlyRules l) =
+        simp firstNo-append
+        (chain (c .before .before .or-else3 .ensures) (c .before .before .before .before .before .before .before .before .arc-ends .ensures)
+        (chain (c .before .before .before .or-else2 .ensures) (c .before .before .before .before .before .before .before .one-station .ensures)
+        (chain (c .before .before .before .before .or-else .ensures) (c .before .before .before .before .before .before .station-size .ensures) (c .before .before .before .before .before .direction-sets .ensures)))) in
+    (s .pre .0, s .pre .1, rules-sized l (sym e ∙ c .enum-told .given .1), s .pre .2)
 
--- src/rules.rt:291:14
 enum-told-2 : tie.Need-enum-told-2
 enum-told-2 c = search needs
 
--- src/rules.rt:273:1
 returns : tie.Need-returns
-returns c = ?
+unfolding earlyRules ruleQuestions
+returns c =     let s = c .before .before .before .before .before .before .before .before .before .before in
+    let l = now (s .args .case) in
+    let e : c .before .before .before .or-else3 .result ≡ firstNo (earlyRules l) =
+        simp firstNo-append
+        (chain (c .before .before .before .or-else3 .ensures) (c .before .before .before .before .before .before .before .before .before .arc-ends .ensures)
+        (chain (c .before .before .before .before .or-else2 .ensures) (c .before .before .before .before .before .before .before .before .one-station .ensures)
+        (chain (c .before .before .before .before .before .or-else .ensures) (c .before .before .before .before .before .before .before .station-size .ensures) (c .before .before .before .before .before .before .direction-sets .ensures)))) in
+    went (earlyRules l) (allStateSets l) e (c .before .enum-told .given .1) (c .state-sets .ensures)
 
--- src/rules.rt:273:1
 returns-2 : tie.Need-returns-2
-returns-2 c = ?
+unfolding earlyRules ruleQuestions
+returns-2 c =     let s = c .before .before .before .before .before .before .before .before .before in
+    let l = now (s .args .case) in
+    let e : c .before .before .or-else3 .result ≡ firstNo (earlyRules l) =
+        simp firstNo-append
+        (chain (c .before .before .or-else3 .ensures) (c .before .before .before .before .before .before .before .before .arc-ends .ensures)
+        (chain (c .before .before .before .or-else2 .ensures) (c .before .before .before .before .before .before .before .one-station .ensures)
+        (chain (c .before .before .before .before .or-else .ensures) (c .before .before .before .before .before .before .station-size .ensures) (c .before .before .before .before .before .direction-sets .ensures)))) in
+    stopped (earlyRules l) (allStateSets l) e (c .enum-told2 .given .1)
 
 pub rules-spec : {M : Type 1} → statement M
 rules-spec =

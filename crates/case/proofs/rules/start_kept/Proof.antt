@@ -1,36 +1,60 @@
+use mathlib.Core.Bool.{true, false}
+use mathlib.Core.Path.{_≡_, sym, ap, _∙_}
 use borrow.Author.Needs.{needs}
+use denote.Ref.{now}
+use mir.Facts.{toZ-ofZ}
+use mir.Syntax.{w64}
+use mir.Val.{toZ, ofZ}
+use Rattle.numbers.specs.Sets.{subsetOf}
+use Rattle.case.specs.Records.{stateRow, stationRow}
+use Rattle.case.specs.States.{startKept}
+use Rattle.case.specs.declared.records.State.{State}
+use Rattle.case.specs.declared.records.Station.{Station}
+use Rattle.case.proofs.Reading.{kept}
 use Rattle.case.proofs.rules.start_kept.Statement.{statement}
 use Rattle.case.proofs.rules.start_kept.Tie as tie
-use Rattle.case.proofs.rules.start_kept.Reads as reads
-use Rattle.case.proofs.rules.start_kept.Lts as lts
-use Rattle.case.proofs.read.state.Reads as state-reads
-use Rattle.case.proofs.read.station.Reads as station-reads
-use Rattle.numbers.proofs.sets.disjoint.Reads as disjoint-reads
-use Rattle.numbers.proofs.sets.subset.Reads as subset-reads
 
--- src/rules.rt:224:13
 station-requires : tie.Need-station-requires
 station-requires c κs = search needs
 
--- src/rules.rt:225:9
 state-requires : tie.Need-state-requires
 state-requires c κs = search needs
 
--- src/rules.rt:228:8
 subset-requires : tie.Need-subset-requires
 subset-requires c κs = search needs
 
--- src/rules.rt:229:9
 disjoint-requires : tie.Need-disjoint-requires
 disjoint-requires c κs = search needs
 
--- src/rules.rt:221:1
 returns : tie.Need-returns
-returns c = ?
+unfolding startKept
+returns c =     let d = c .before .before .before .before .before in
+    let s = d .before .before in
+    let l = now (s .args .case) in
+    let q = stationRow l (s .args .row) in
+    let r = stateRow l (s .args .row) (q .state) in
+    let v = toZ-ofZ (s .fits .active) in
+    let t = c .before .before .before .before .struct-told .given in
+    let m : d .state .result ≡ r = d .state .ensures ∙ ap (λ (x : Station). stateRow l (s .args .row) (x .state)) (d .before .station .ensures) in
+    let n : toZ w64 (ofZ w64 (d .state .result .on)) ≡ r .on = kept _ (t .1 .0 .1) ∙ ap (λ (x : State). x .on) m in
+    let x : toZ w64 (ofZ w64 (d .state .result .off)) ≡ r .off = kept _ (t .1 .1 .0 .1) ∙ ap (λ (x : State). x .off) m in
+    let e : subsetOf (r .on) (s .args .active) ≡ true = simp (n, v) at (sym (c .before .before .subset .ensures) ∙ c .before .if1 .taken) in
+    rw e (simp (x, v) at (c .disjoint .ensures))
 
--- src/rules.rt:221:1
 returns-2 : tie.Need-returns-2
-returns-2 c = ?
+unfolding startKept
+returns-2 c =     let d = c .before .before .before .before in
+    let s = d .before .before in
+    let l = now (s .args .case) in
+    let q = stationRow l (s .args .row) in
+    let r = stateRow l (s .args .row) (q .state) in
+    let v = toZ-ofZ (s .fits .active) in
+    let t = c .before .before .before .struct-told .given in
+    let m : d .state .result ≡ r = d .state .ensures ∙ ap (λ (x : Station). stateRow l (s .args .row) (x .state)) (d .before .station .ensures) in
+    let n : toZ w64 (ofZ w64 (d .state .result .on)) ≡ r .on = kept _ (t .1 .0 .1) ∙ ap (λ (x : State). x .on) m in
+    let x : toZ w64 (ofZ w64 (d .state .result .off)) ≡ r .off = kept _ (t .1 .1 .0 .1) ∙ ap (λ (x : State). x .off) m in
+    let e : subsetOf (r .on) (s .args .active) ≡ false = simp (n, v) at (sym (c .before .subset .ensures) ∙ c .if1 .left) in
+    rw e
 
 pub start-kept-spec : {M : Type 1} → statement M
 start-kept-spec =

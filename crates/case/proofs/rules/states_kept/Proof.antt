@@ -1,47 +1,68 @@
+use mathlib.Core.Bool.{true}
+use mathlib.Core.Path.{_≡_, refl, sym, ap, _∙_}
+use Prim.Native.Nat.{_≤_, _-_}
+use native.Mathlib.Omega.{arith}
+use borrow.Author.Needs.{needs}
+use borrow.Author.Tests.{not-true, not-false}
+use denote.Ref.{now}
+use mir.Facts.{toZ-ofZ}
+use mir.Syntax.{w64}
+use mir.Val.{toZ, ofZ}
+use Rattle.case.specs.CountLaws.{every-more, every-not}
+use Rattle.case.specs.States.{stateKept}
+use Rattle.case.specs.StationArcs.{every}
+use Rattle.case.specs.declared.records.Station.{Station}
 use Rattle.case.proofs.rules.states_kept.Statement.{statement}
 use Rattle.case.proofs.rules.states_kept.Tie as tie
-use Rattle.case.proofs.rules.states_kept.Reads as reads
-use Rattle.case.proofs.rules.states_kept.Lts as lts
-use Rattle.case.proofs.read.station.Reads as station-reads
-use Rattle.case.proofs.rules.state_kept.Reads as state-kept-reads
 
 abbrev Inv-loop : tie.InvT-loop
-Inv-loop case row own states z₀ z = ?
+Inv-loop case row own states z₀ z = (z ≤ states) × (every z (stateKept case row (toZ w64 own)) ≡ true)
 
 abbrev μ-loop : tie.MeasureT-loop
-μ-loop case row own states z₀ z = ?
+μ-loop case row own states z₀ z = states - z
 
--- src/rules.rt:192:18
 station-requires : tie.Need-station-requires Inv-loop μ-loop
-station-requires c κs = ?
+station-requires c κs = search needs
 
--- src/rules.rt:194:5
 loop-holds : tie.Need-loop-holds Inv-loop μ-loop
-loop-holds c = ?
+loop-holds c = (omega arith, refl)
 
--- src/rules.rt:195:13
 state-kept-requires : tie.Need-state-kept-requires Inv-loop μ-loop
-state-kept-requires c κs = ?
+state-kept-requires c κs = search needs
 
--- src/rules.rt:196:13
 returns : tie.Need-returns Inv-loop μ-loop
-returns c = ?
+returns c =     let b = c .before in
+    let t = b .before in
+    let h = t .before in
+    let a = h .before .before .args in
+    let f = h .before .before .fits in
+    let l = now (a .case) in
+    let d = ap (λ (x : Station). x .states) (h .before .station .ensures) in
+    let r = every-not (h .before .station .result .states) (stateKept l (a .row) (toZ w64 (ofZ w64 (a .own)))) (h .loop .z) (t .loop-test .taken) (sym (b .state-kept .ensures) ∙ not-true _ (c .if1 .taken)) in
+    rw (← d) (sym (simp (toZ-ofZ (f .own)) at r))
 
--- src/rules.rt:198:9
 add-z : tie.Need-add-z Inv-loop μ-loop
-add-z c = ?
+add-z c = omega arith
 
--- src/rules.rt:194:5
 loop-less : tie.Need-loop-less Inv-loop μ-loop
-loop-less c = ?
+loop-less c = omega arith
 
--- src/rules.rt:194:5
 loop-again : tie.Need-loop-again Inv-loop μ-loop
-loop-again c = ?
+loop-again c =     let b = c .before in
+    let t = b .before in
+    let h = t .before in
+    let a = h .before .before .args in
+    let l = now (a .case) in
+    (omega arith, every-more (h .loop .z) (stateKept l (a .row) (toZ w64 (ofZ w64 (a .own)))) (h .loop .inv .1) (sym (b .state-kept .ensures) ∙ not-false _ (c .if1 .left)))
 
--- src/rules.rt:189:1
 returns-2 : tie.Need-returns-2 Inv-loop μ-loop
-returns-2 c = ?
+returns-2 c =     let h = c .before in
+    let a = h .before .before .args in
+    let f = h .before .before .fits in
+    let l = now (a .case) in
+    let d = ap (λ (x : Station). x .states) (h .before .station .ensures) in
+    let e : h .loop .z ≡ h .before .station .result .states = omega arith in
+    rw (← d) (sym (simp (toZ-ofZ (f .own)) at (rw e at (h .loop .inv .1))))
 
 pub states-kept-spec : {M : Type 1} → statement M
 states-kept-spec =

@@ -1,59 +1,98 @@
+use mathlib.Core.Bool.{true, false}
+use mathlib.Core.Path.{_≡_, sym, ap, _∙_}
+use Prim.Native.Nat.{ℕ}
+use native.Mathlib.Omega.{arith}
 use borrow.Author.Needs.{needs}
+use denote.Ref.{now}
+use lib.IntN.{pos}
+use mir.Syntax.{w64}
+use mir.Val.{toZ, ofZ}
+use Rattle.case.specs.Layout.{arcsOf, stationAt}
+use Rattle.case.specs.Records.{stationOf, stationRow}
+use Rattle.case.specs.States.{stateKept, machinesKept, activeAtStart, startSet, stationKept}
+use Rattle.case.specs.StationArcs.{arcsBefore, stationArcs, arcSet, every}
+use Rattle.case.specs.StationFields.{firstItems}
+use Rattle.case.specs.declared.records.Station.{Station}
+use Rattle.case.proofs.Reading.{kept}
 use Rattle.case.proofs.rules.station_kept.Statement.{statement}
 use Rattle.case.proofs.rules.station_kept.Tie as tie
-use Rattle.case.proofs.rules.station_kept.Reads as reads
-use Rattle.case.proofs.rules.station_kept.Lts as lts
-use Rattle.case.proofs.members.start_set.Reads as start-set-reads
-use Rattle.case.proofs.members.station_arcs.Reads as station-arcs-reads
-use Rattle.case.proofs.read.station.Reads as station-reads
-use Rattle.case.proofs.rules.machines_kept.Reads as machines-kept-reads
-use Rattle.case.proofs.rules.start_kept.Reads as start-kept-reads
-use Rattle.case.proofs.rules.states_kept.Reads as states-kept-reads
-use Rattle.case.proofs.stations.first_items.Reads as first-items-reads
 
--- src/rules.rt:239:32
 station-arcs-requires : tie.Need-station-arcs-requires
 station-arcs-requires c κs = search needs
 
--- src/rules.rt:239:9
 first-items-requires : tie.Need-first-items-requires
-first-items-requires c κs = ?
+first-items-requires c κs = let s = c .before in omega (arith, c .station-arcs .ensures, ap (arcsBefore (now (s .args .case)) (s .args .s)) (s .pre .1), s .pre .2)
 
--- src/rules.rt:240:36
 station-requires : tie.Need-station-requires
 station-requires c κs = search needs
 
--- src/rules.rt:240:9
 first-items-requires-2 : tie.Need-first-items-requires-2
-first-items-requires-2 c κs = ?
+first-items-requires-2 c κs = let s = c .before .before .before in omega (arith, ap (λ (x : Station). x .machines) (c .station .ensures), s .pre .3 .machines)
 
--- src/rules.rt:241:9
 start-set-requires : tie.Need-start-set-requires
-start-set-requires c κs = ?
+start-set-requires c κs = let s = c .before .before .before .before in rw (s .pre .1) (s .pre .2)
 
--- src/rules.rt:242:8
 states-kept-requires : tie.Need-states-kept-requires
 states-kept-requires c κs = search needs
 
--- src/rules.rt:243:12
 machines-kept-requires : tie.Need-machines-kept-requires
 machines-kept-requires c κs = search needs
 
--- src/rules.rt:244:13
 start-kept-requires : tie.Need-start-kept-requires
 start-kept-requires c κs = search needs
 
--- src/rules.rt:244:13
 returns : tie.Need-returns
-returns c = ?
+unfolding stationKept
+returns c =     let x = c .before .before .before .before .before in
+    let m = x .before in
+    let n = m .before in
+    let k = n .before in
+    let j = k .before in
+    let s = j .before in
+    let l = now (s .args .case) in
+    let i = s .args .s in
+    let row = s .pre .0 in
+    let own : toZ w64 (ofZ w64 (k .first-items .result)) ≡ firstItems (stationArcs l i) = kept _ (k .first-items .ok) ∙ k .first-items .ensures ∙ ap firstItems (j .station-arcs .ensures ∙ ap (arcsBefore l i) (s .pre .1)) in
+    let machines : toZ w64 (ofZ w64 (m .first-items2 .result)) ≡ firstItems (stationOf l i .machines) = kept _ (m .first-items2 .ok) ∙ m .first-items2 .ensures ∙ ap firstItems (ap (λ (x : Station). x .machines) (n .station .ensures) ∙ ap (λ (r : ℕ). stationRow l r .machines) row) in
+    let active : toZ w64 (ofZ w64 (x .start-set .result)) ≡ startSet l i = kept _ (x .start-set .ok) ∙ x .start-set .ensures ∙ ap (λ (a : ℕ). pos (arcSet l i (activeAtStart l) a)) (s .pre .1) in
+    let e : every (stationOf l i .states) (stateKept l (stationAt l i) (firstItems (stationArcs l i))) ≡ true = simp (own, row) at (sym (c .before .before .before .before .states-kept .ensures) ∙ c .before .before .before .if1 .taken) in
+    let f : every (arcsOf l) (machinesKept l i (firstItems (stationOf l i .machines))) ≡ true = simp (machines, s .pre .1) at (sym (c .before .before .machines-kept .ensures) ∙ c .before .if2 .taken) in
+    rw (e, f) (simp (active, row) at (c .start-kept .ensures))
 
--- src/rules.rt:235:1
 returns-2 : tie.Need-returns-2
-returns-2 c = ?
+unfolding stationKept
+returns-2 c =     let x = c .before .before .before .before in
+    let m = x .before in
+    let n = m .before in
+    let k = n .before in
+    let j = k .before in
+    let s = j .before in
+    let l = now (s .args .case) in
+    let i = s .args .s in
+    let row = s .pre .0 in
+    let own : toZ w64 (ofZ w64 (k .first-items .result)) ≡ firstItems (stationArcs l i) = kept _ (k .first-items .ok) ∙ k .first-items .ensures ∙ ap firstItems (j .station-arcs .ensures ∙ ap (arcsBefore l i) (s .pre .1)) in
+    let machines : toZ w64 (ofZ w64 (m .first-items2 .result)) ≡ firstItems (stationOf l i .machines) = kept _ (m .first-items2 .ok) ∙ m .first-items2 .ensures ∙ ap firstItems (ap (λ (x : Station). x .machines) (n .station .ensures) ∙ ap (λ (r : ℕ). stationRow l r .machines) row) in
+    let active : toZ w64 (ofZ w64 (x .start-set .result)) ≡ startSet l i = kept _ (x .start-set .ok) ∙ x .start-set .ensures ∙ ap (λ (a : ℕ). pos (arcSet l i (activeAtStart l) a)) (s .pre .1) in
+    let e : every (stationOf l i .states) (stateKept l (stationAt l i) (firstItems (stationArcs l i))) ≡ true = simp (own, row) at (sym (c .before .before .before .states-kept .ensures) ∙ c .before .before .if1 .taken) in
+    let f : every (arcsOf l) (machinesKept l i (firstItems (stationOf l i .machines))) ≡ false = simp (machines, s .pre .1) at (sym (c .before .machines-kept .ensures) ∙ c .if2 .left) in
+    rw (e, f)
 
--- src/rules.rt:235:1
 returns-3 : tie.Need-returns-3
-returns-3 c = ?
+unfolding stationKept
+returns-3 c =     let x = c .before .before in
+    let m = x .before in
+    let n = m .before in
+    let k = n .before in
+    let j = k .before in
+    let s = j .before in
+    let l = now (s .args .case) in
+    let i = s .args .s in
+    let row = s .pre .0 in
+    let own : toZ w64 (ofZ w64 (k .first-items .result)) ≡ firstItems (stationArcs l i) = kept _ (k .first-items .ok) ∙ k .first-items .ensures ∙ ap firstItems (j .station-arcs .ensures ∙ ap (arcsBefore l i) (s .pre .1)) in
+    let machines : toZ w64 (ofZ w64 (m .first-items2 .result)) ≡ firstItems (stationOf l i .machines) = kept _ (m .first-items2 .ok) ∙ m .first-items2 .ensures ∙ ap firstItems (ap (λ (x : Station). x .machines) (n .station .ensures) ∙ ap (λ (r : ℕ). stationRow l r .machines) row) in
+    let active : toZ w64 (ofZ w64 (x .start-set .result)) ≡ startSet l i = kept _ (x .start-set .ok) ∙ x .start-set .ensures ∙ ap (λ (a : ℕ). pos (arcSet l i (activeAtStart l) a)) (s .pre .1) in
+    let e : every (stationOf l i .states) (stateKept l (stationAt l i) (firstItems (stationArcs l i))) ≡ false = simp (own, row) at (sym (c .before .states-kept .ensures) ∙ c .if1 .left) in
+    rw e
 
 pub station-kept-spec : {M : Type 1} → statement M
 station-kept-spec =

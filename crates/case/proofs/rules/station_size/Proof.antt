@@ -1,42 +1,56 @@
+use mathlib.Core.Path.{_≡_, refl, sym, ap, _∙_}
+use Prim.Native.Nat.{_≤_, _-_}
+use native.Mathlib.Omega.{arith}
+use borrow.Author.Needs.{needs}
+use denote.Ref.{now}
+use Rattle.numbers.specs.Items.{rest, rest-on, rest-no, rest-end}
+use Rattle.numbers.specs.Question.{firstNo}
+use Rattle.case.specs.Layout.{stationsOf}
+use Rattle.case.specs.StationArcs.{arcsBefore, stationArcs}
+use Rattle.case.specs.StationSize.{stationSize, allStationSizes}
+use Rattle.case.proofs.Ruled.{size-no, size-yes}
 use Rattle.case.proofs.rules.station_size.Statement.{statement}
 use Rattle.case.proofs.rules.station_size.Tie as tie
-use Rattle.case.proofs.rules.station_size.Reads as reads
-use Rattle.case.proofs.rules.station_size.Lts as lts
-use Rattle.case.proofs.members.station_arcs.Reads as station-arcs-reads
 
 abbrev Inv-loop : tie.InvT-loop
-Inv-loop case arcs stations s₀ s = ?
+Inv-loop case arcs stations s₀ s = (s ≤ stations) × (firstNo (allStationSizes case) ≡ rest (stationSize case) s stations)
 
 abbrev μ-loop : tie.MeasureT-loop
-μ-loop case arcs stations s₀ s = ?
+μ-loop case arcs stations s₀ s = stations - s
 
--- src/rules.rt:100:5
 loop-holds : tie.Need-loop-holds Inv-loop μ-loop
-loop-holds c = ?
+unfolding allStationSizes
+loop-holds c = (omega arith, let e : c .args .layout .stations - 0 ≡ stationsOf (now (c .args .case)) = omega (arith, c .pre .stations) in rw e)
 
--- src/rules.rt:101:17
 station-arcs-requires : tie.Need-station-arcs-requires Inv-loop μ-loop
-station-arcs-requires c κs = ?
+station-arcs-requires c κs = search needs
 
--- src/rules.rt:102:13
 returns : tie.Need-returns Inv-loop μ-loop
-returns c = ?
+returns c =     let b = c .before in
+    let h = b .before .before in
+    let s = h .before in
+    let l = now (s .args .case) in
+    let n : b .station-arcs .result ≡ stationArcs l (h .loop .s) = b .station-arcs .ensures ∙ ap (arcsBefore l (h .loop .s)) (s .pre .arcs) in
+    sym (rest-no (stationSize l) (h .loop .s) (s .args .layout .stations) (h .loop .inv .1) (b .before .loop-test .taken) (size-no l (h .loop .s) n (c .if1 .taken)) refl)
 
--- src/rules.rt:108:9
 add-s : tie.Need-add-s Inv-loop μ-loop
-add-s c = ?
+add-s c = omega arith
 
--- src/rules.rt:100:5
 loop-less : tie.Need-loop-less Inv-loop μ-loop
-loop-less c = ?
+loop-less c = omega arith
 
--- src/rules.rt:100:5
 loop-again : tie.Need-loop-again Inv-loop μ-loop
-loop-again c = ?
+loop-again c =     let b = c .before in
+    let h = b .before .before in
+    let s = h .before in
+    let l = now (s .args .case) in
+    let n : b .station-arcs .result ≡ stationArcs l (h .loop .s) = b .station-arcs .ensures ∙ ap (arcsBefore l (h .loop .s)) (s .pre .arcs) in
+    (omega arith, rest-on (stationSize l) (h .loop .s) (s .args .layout .stations) (h .loop .inv .1) (b .before .loop-test .taken) (size-yes l (h .loop .s) n (c .if1 .left)) refl)
 
--- src/rules.rt:93:1
 returns-2 : tie.Need-returns-2 Inv-loop μ-loop
-returns-2 c = ?
+returns-2 c =     let h = c .before in
+    let s = h .before in
+    sym (rest-end (stationSize (now (s .args .case))) (h .loop .s) (s .args .layout .stations) (h .loop .inv .1) (c .loop-test .left))
 
 pub station-size-spec : {M : Type 1} → statement M
 station-size-spec =

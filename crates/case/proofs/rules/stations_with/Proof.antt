@@ -1,50 +1,59 @@
+use mathlib.Core.Logic.{⊎-elim}
+use mathlib.Core.Path.{_≡_, sym, ap, _∙_}
+use Prim.Native.Nat.{ℕ, _≤_, _-_, _+_}
+use native.Mathlib.Omega.{arith}
+use borrow.Author.Needs.{needs}
+use lib.IntN.{pos}
+use lib.ListN.{getD}
+use Rattle.numbers.specs.Sum.{count}
+use Rattle.case.specs.CountLaws.{count-none, count-yes, count-no, count-le}
+use Rattle.case.specs.Laid.{inSet}
+use Rattle.case.proofs.Reading.{kept}
 use Rattle.case.proofs.rules.stations_with.Statement.{statement}
 use Rattle.case.proofs.rules.stations_with.Tie as tie
-use Rattle.case.proofs.rules.stations_with.Reads as reads
-use Rattle.case.proofs.rules.stations_with.Lts as lts
-use Rattle.numbers.proofs.sets.member.Reads as member-reads
 
 abbrev Inv-loop : tie.InvT-loop
-Inv-loop stations v inside n₀ s₀ n s = ?
+Inv-loop stations v inside n₀ s₀ n s = (s ≤ stations) × (n ≡ count s (inSet inside v))
 
 abbrev μ-loop : tie.MeasureT-loop
-μ-loop stations v inside n₀ s₀ n s = ?
+μ-loop stations v inside n₀ s₀ n s = stations - s
 
--- src/rules.rt:61:5
 loop-holds : tie.Need-loop-holds Inv-loop μ-loop
-loop-holds c = ?
+loop-holds c = (omega arith, sym (count-none (inSet (c .args .t1) (c .args .v))))
 
--- src/rules.rt:62:19
 mul-member : tie.Need-mul-member Inv-loop μ-loop
-mul-member c = ?
+mul-member c = omega arith
 
--- src/rules.rt:62:19
 array-copy-out-member : tie.Need-array-copy-out-member Inv-loop μ-loop
-array-copy-out-member c = ?
+array-copy-out-member c = omega arith
 
--- src/rules.rt:62:12
 member-requires : tie.Need-member-requires Inv-loop μ-loop
-member-requires c κs = ?
+member-requires c κs = search needs
 
--- src/rules.rt:63:13
 add-n : tie.Need-add-n Inv-loop μ-loop
-add-n c = ?
+add-n c = let h = c .before .before .before .before in let a = h .before .args in omega (arith, h .loop .inv .1, count-le (inSet (a .t1) (a .v)) (h .loop .s))
 
--- src/rules.rt:65:9
 add-s : tie.Need-add-s Inv-loop μ-loop
-add-s c = ?
+add-s c = omega arith
 
--- src/rules.rt:61:5
 loop-less : tie.Need-loop-less Inv-loop μ-loop
-loop-less c = ?
+loop-less c = omega arith
 
--- src/rules.rt:61:5
 loop-again : tie.Need-loop-again Inv-loop μ-loop
-loop-again c = ?
+loop-again c =     let b = c .before in
+    let h = b .before .before .before in
+    let a = h .before .args in
+    let w = inSet (a .t1) (a .v) in
+    let i = h .loop .s in
+    let e : w i ≡ b .member .result = simp (kept (getD (a .t1) i (pos 0)) (b .before .member-arg .given)) at (sym (b .member .ensures)) in
+    (omega arith,
+    ⊎-elim
+    (λ x. x .1 ∙ ap (λ (y : ℕ). y + 1) (h .loop .inv .1) ∙ sym (count-yes w i (e ∙ x .0 .taken)))
+    (λ x. x .1 ∙ h .loop .inv .1 ∙ sym (count-no w i (e ∙ x .0 .left)))
+    (c .if1 .came))
 
--- src/rules.rt:55:1
 returns : tie.Need-returns Inv-loop μ-loop
-returns c = ?
+returns c = let e : c .before .loop .s ≡ c .before .before .args .stations = omega arith in rw e at (c .before .loop .inv .1)
 
 pub stations-with-spec : {M : Type 1} → statement M
 stations-with-spec =

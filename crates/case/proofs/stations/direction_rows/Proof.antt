@@ -1,20 +1,15 @@
-use Rattle.case.specs.StationFields.{directionFields}
-use Rattle.case.specs.Layout.{directionAt}
-use Rattle.case.proofs.Asked.{chain}
-use Rattle.numbers.specs.Question.{firstNo, firstNo-append}
-use Rattle.numbers.specs.Items.{over, rest, rest-on, rest-no, rest-end}
+use mathlib.Core.Path.{_≡_, sym}
+use Prim.Native.Nat.{_≤_, _-_}
+use native.Mathlib.Omega.{arith}
 use borrow.Author.Needs.{needs}
 use denote.Ref.{now}
-use native.Mathlib.Omega.{arith}
-use Prim.Native.Nat.{_≤_, _-_, _+_, _*_}
-use mathlib.Core.Path.{_≡_, refl, sym, ap, _∙_}
+use Rattle.numbers.specs.Items.{over, rest, rest-on, rest-no, rest-end}
+use Rattle.numbers.specs.Question.{firstNo, firstNo-append}
+use Rattle.case.specs.Layout.{directionAt}
+use Rattle.case.specs.StationFields.{directionFields}
+use Rattle.case.proofs.Asked.{chain}
 use Rattle.case.proofs.stations.direction_rows.Statement.{statement}
 use Rattle.case.proofs.stations.direction_rows.Tie as tie
-use Rattle.case.proofs.stations.direction_rows.Reads as reads
-use Rattle.case.proofs.stations.direction_rows.Lts as lts
-use Rattle.case.proofs.fields.field.Reads as field-reads
-use Rattle.case.proofs.fields.fields.Reads as fields-reads
-use Rattle.numbers.proofs.answer.or_else.Reads as or-else-reads
 
 abbrev Inv-loop : tie.InvT-loop
 Inv-loop case row directions f₀ f = (f ≤ directions) × (firstNo (over (directionFields case (row)) 0 directions) ≡ rest (directionFields case (row)) f directions)
@@ -22,46 +17,36 @@ Inv-loop case row directions f₀ f = (f ≤ directions) × (firstNo (over (dire
 abbrev μ-loop : tie.MeasureT-loop
 μ-loop case row directions f₀ f = directions - f
 
--- src/stations.rt:50:5
 loop-holds : tie.Need-loop-holds Inv-loop μ-loop
 loop-holds c = (omega arith, let e : c .args .directions - 0 ≡ c .args .directions = omega arith in rw e)
 
--- src/stations.rt:51:18
 add-at : tie.Need-add-at Inv-loop μ-loop
 add-at c = omega arith
 
--- src/stations.rt:51:28
 mul-at : tie.Need-mul-at Inv-loop μ-loop
 mul-at c = omega arith
 
--- src/stations.rt:51:18
 add-at-2 : tie.Need-add-at-2 Inv-loop μ-loop
 add-at-2 c = omega arith
 
--- src/stations.rt:52:25
 fields-requires : tie.Need-fields-requires Inv-loop μ-loop
 fields-requires c κs = omega arith
 
--- src/stations.rt:52:82
 add-field : tie.Need-add-field Inv-loop μ-loop
 add-field c = omega arith
 
--- src/stations.rt:52:70
 field-requires : tie.Need-field-requires Inv-loop μ-loop
 field-requires c κs = search needs
 
--- src/stations.rt:52:13
 or-else-requires : tie.Need-or-else-requires Inv-loop μ-loop
 or-else-requires c κs = search needs
 
 enum-told : tie.Need-enum-told Inv-loop μ-loop
 enum-told c = search needs
 
--- src/stations.rt:60:17
 enum-told-2 : tie.Need-enum-told-2 Inv-loop μ-loop
 enum-told-2 c = search needs
 
--- src/stations.rt:60:17
 returns : tie.Need-returns Inv-loop μ-loop
 unfolding directionFields directionAt
 returns c =     let b = c .before .before in
@@ -73,15 +58,12 @@ returns c =     let b = c .before .before in
     let q : b .or-else .result ≡ firstNo (directionFields l (a .row) (h .loop .f)) = rw firstNo-append (chain (b .or-else .ensures) (b .before .before .fields .ensures) (b .before .field .ensures)) in
     sym (rest-no (directionFields l (a .row)) (h .loop .f) (a .directions) (h .loop .inv .1) (t .loop-test .taken) q (c .enum-told2 .given .1))
 
--- src/stations.rt:63:9
 add-f : tie.Need-add-f Inv-loop μ-loop
 add-f c = omega arith
 
--- src/stations.rt:50:5
 loop-less : tie.Need-loop-less Inv-loop μ-loop
 loop-less c = omega arith
 
--- src/stations.rt:50:5
 loop-again : tie.Need-loop-again Inv-loop μ-loop
 unfolding directionFields directionAt
 loop-again c =     let b = c .before .before in
@@ -93,7 +75,6 @@ loop-again c =     let b = c .before .before in
     let q : b .or-else .result ≡ firstNo (directionFields l (a .row) (h .loop .f)) = rw firstNo-append (chain (b .or-else .ensures) (b .before .before .fields .ensures) (b .before .field .ensures)) in
     (omega arith, rest-on (directionFields l (a .row)) (h .loop .f) (a .directions) (h .loop .inv .1) (t .loop-test .taken) q (c .enum-told .given .1))
 
--- src/stations.rt:45:1
 returns-2 : tie.Need-returns-2 Inv-loop μ-loop
 returns-2 c =     let h = c .before in
     let a = h .before .args in

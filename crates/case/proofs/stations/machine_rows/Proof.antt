@@ -1,19 +1,15 @@
-use Rattle.case.proofs.Rows.{machine-row}
-use Rattle.case.specs.StationFields.{machineFields}
-use Rattle.case.proofs.Asked.{chain}
-use Rattle.numbers.specs.Question.{firstNo, firstNo-append}
-use Rattle.numbers.specs.Items.{over, rest, rest-on, rest-no, rest-end}
+use mathlib.Core.Path.{_≡_, sym}
+use Prim.Native.Nat.{_≤_, _-_}
+use native.Mathlib.Omega.{arith}
 use borrow.Author.Needs.{needs}
 use denote.Ref.{now}
-use native.Mathlib.Omega.{arith}
-use Prim.Native.Nat.{_≤_, _-_, _+_, _*_}
-use mathlib.Core.Path.{_≡_, refl, sym, ap, _∙_}
+use Rattle.numbers.specs.Items.{over, rest, rest-on, rest-no, rest-end}
+use Rattle.numbers.specs.Question.{firstNo, firstNo-append}
+use Rattle.case.specs.StationFields.{machineFields}
+use Rattle.case.proofs.Asked.{chain}
+use Rattle.case.proofs.Rows.{machine-row}
 use Rattle.case.proofs.stations.machine_rows.Statement.{statement}
 use Rattle.case.proofs.stations.machine_rows.Tie as tie
-use Rattle.case.proofs.stations.machine_rows.Reads as reads
-use Rattle.case.proofs.stations.machine_rows.Lts as lts
-use Rattle.case.proofs.fields.field.Reads as field-reads
-use Rattle.numbers.proofs.answer.or_else.Reads as or-else-reads
 
 abbrev Inv-loop : tie.InvT-loop
 Inv-loop case row first machines m₀ m = (m ≤ machines) × (firstNo (over (machineFields case (row)) 0 machines) ≡ rest (machineFields case (row)) m machines)
@@ -21,42 +17,33 @@ Inv-loop case row first machines m₀ m = (m ≤ machines) × (firstNo (over (ma
 abbrev μ-loop : tie.MeasureT-loop
 μ-loop case row first machines m₀ m = machines - m
 
--- src/stations.rt:107:5
 loop-holds : tie.Need-loop-holds Inv-loop μ-loop
 loop-holds c = (omega arith, let e : c .args .machines - 0 ≡ c .args .machines = omega arith in rw e)
 
--- src/stations.rt:108:26
 mul-at : tie.Need-mul-at Inv-loop μ-loop
 mul-at c = omega arith
 
--- src/stations.rt:108:18
 add-at : tie.Need-add-at Inv-loop μ-loop
 add-at c = omega arith
 
--- src/stations.rt:109:25
 field-requires : tie.Need-field-requires Inv-loop μ-loop
 field-requires c κs = search needs
 
--- src/stations.rt:109:67
 add-field : tie.Need-add-field Inv-loop μ-loop
 add-field c = omega arith
 
--- src/stations.rt:109:55
 field-requires-2 : tie.Need-field-requires-2 Inv-loop μ-loop
 field-requires-2 c κs = search needs
 
--- src/stations.rt:109:13
 or-else-requires : tie.Need-or-else-requires Inv-loop μ-loop
 or-else-requires c κs = search needs
 
 enum-told : tie.Need-enum-told Inv-loop μ-loop
 enum-told c = search needs
 
--- src/stations.rt:117:17
 enum-told-2 : tie.Need-enum-told-2 Inv-loop μ-loop
 enum-told-2 c = search needs
 
--- src/stations.rt:117:17
 returns : tie.Need-returns Inv-loop μ-loop
 unfolding machineFields
 returns c =     let b = c .before .before in
@@ -68,15 +55,12 @@ returns c =     let b = c .before .before in
     let q : b .or-else .result ≡ firstNo (machineFields l (a .row) (h .loop .m)) = rw (← machine-row l (a .row) (h .loop .m) (s .pre .1), firstNo-append) (chain (b .or-else .ensures) (b .before .before .field .ensures) (b .before .field2 .ensures)) in
     sym (rest-no (machineFields l (a .row)) (h .loop .m) (a .machines) (h .loop .inv .1) (t .loop-test .taken) q (c .enum-told2 .given .1))
 
--- src/stations.rt:120:9
 add-m : tie.Need-add-m Inv-loop μ-loop
 add-m c = omega arith
 
--- src/stations.rt:107:5
 loop-less : tie.Need-loop-less Inv-loop μ-loop
 loop-less c = omega arith
 
--- src/stations.rt:107:5
 loop-again : tie.Need-loop-again Inv-loop μ-loop
 unfolding machineFields
 loop-again c =     let b = c .before .before in
@@ -88,7 +72,6 @@ loop-again c =     let b = c .before .before in
     let q : b .or-else .result ≡ firstNo (machineFields l (a .row) (h .loop .m)) = rw (← machine-row l (a .row) (h .loop .m) (s .pre .1), firstNo-append) (chain (b .or-else .ensures) (b .before .before .field .ensures) (b .before .field2 .ensures)) in
     (omega arith, rest-on (machineFields l (a .row)) (h .loop .m) (a .machines) (h .loop .inv .1) (t .loop-test .taken) q (c .enum-told .given .1))
 
--- src/stations.rt:102:1
 returns-2 : tie.Need-returns-2 Inv-loop μ-loop
 returns-2 c =     let h = c .before in
     let a = h .before .args in

@@ -1,23 +1,18 @@
-use Rattle.case.proofs.Rows.{state-row}
-use Rattle.case.specs.StationFields.{stateFields, firstItems}
-use Rattle.case.specs.Layout.{directionsAt}
-use Rattle.case.proofs.Reading.{kept}
-use mir.Val.{toZ, ofZ}
-use mir.Syntax.{w64}
-use mir.Facts.{toZ-ofZ}
-use Rattle.numbers.specs.Items.{over, rest, rest-on, rest-no, rest-end}
-use Rattle.numbers.specs.Question.{firstNo}
+use mathlib.Core.Path.{_≡_, sym, ap, _∙_}
+use Prim.Native.Nat.{_≤_, _-_}
+use native.Mathlib.Omega.{arith}
 use borrow.Author.Needs.{needs}
 use denote.Ref.{now}
-use native.Mathlib.Omega.{arith}
-use Prim.Native.Nat.{_≤_, _-_, _+_, _*_}
-use mathlib.Core.Path.{_≡_, refl, sym, ap, _∙_}
+use mir.Syntax.{w64}
+use mir.Val.{toZ, ofZ}
+use Rattle.numbers.specs.Items.{over, rest, rest-on, rest-no, rest-end}
+use Rattle.numbers.specs.Question.{firstNo}
+use Rattle.case.specs.Layout.{directionsAt}
+use Rattle.case.specs.StationFields.{stateFields, firstItems}
+use Rattle.case.proofs.Reading.{kept}
+use Rattle.case.proofs.Rows.{state-row}
 use Rattle.case.proofs.stations.state_rows.Statement.{statement}
 use Rattle.case.proofs.stations.state_rows.Tie as tie
-use Rattle.case.proofs.stations.state_rows.Reads as reads
-use Rattle.case.proofs.stations.state_rows.Lts as lts
-use Rattle.case.proofs.stations.first_items.Reads as first-items-reads
-use Rattle.case.proofs.stations.state_fields.Reads as state-fields-reads
 
 abbrev Inv-loop : tie.InvT-loop
 Inv-loop case row directions states sets first z₀ z = (z ≤ states) × (firstNo (over (stateFields case (row)) 0 states) ≡ rest (stateFields case (row)) z states)
@@ -25,46 +20,36 @@ Inv-loop case row directions states sets first z₀ z = (z ≤ states) × (first
 abbrev μ-loop : tie.MeasureT-loop
 μ-loop case row directions states sets first z₀ z = states - z
 
--- src/stations.rt:82:9
 first-items-requires : tie.Need-first-items-requires Inv-loop μ-loop
 first-items-requires c κs = omega arith
 
--- src/stations.rt:83:17
 add-first : tie.Need-add-first Inv-loop μ-loop
 add-first c = omega arith
 
--- src/stations.rt:83:27
 mul-first : tie.Need-mul-first Inv-loop μ-loop
 mul-first c = omega arith
 
--- src/stations.rt:83:17
 add-first-2 : tie.Need-add-first-2 Inv-loop μ-loop
 add-first-2 c = omega arith
 
--- src/stations.rt:85:5
 loop-holds : tie.Need-loop-holds Inv-loop μ-loop
 loop-holds c = (omega arith, let e : c .before .args .states - 0 ≡ c .before .args .states = omega arith in rw e)
 
--- src/stations.rt:86:44
 mul-state-fields : tie.Need-mul-state-fields Inv-loop μ-loop
 mul-state-fields c = omega arith
 
--- src/stations.rt:86:36
 add-state-fields : tie.Need-add-state-fields Inv-loop μ-loop
 add-state-fields c = omega arith
 
--- src/stations.rt:86:13
 state-fields-requires : tie.Need-state-fields-requires Inv-loop μ-loop
 state-fields-requires c κs = omega arith
 
 enum-told : tie.Need-enum-told Inv-loop μ-loop
 enum-told c = search needs
 
--- src/stations.rt:94:17
 enum-told-2 : tie.Need-enum-told-2 Inv-loop μ-loop
 enum-told-2 c = search needs
 
--- src/stations.rt:94:17
 returns : tie.Need-returns Inv-loop μ-loop
 unfolding stateFields
 returns c =     let b = c .before .before in
@@ -78,15 +63,12 @@ returns c =     let b = c .before .before in
     rw (← state-row l (a .row) (h .loop .z) (s .pre .2), ← y) (b .state-fields .ensures) in
     sym (rest-no (stateFields l (a .row)) (h .loop .z) (a .states) (h .loop .inv .1) (t .loop-test .taken) q (c .enum-told2 .given .1))
 
--- src/stations.rt:97:9
 add-z : tie.Need-add-z Inv-loop μ-loop
 add-z c = omega arith
 
--- src/stations.rt:85:5
 loop-less : tie.Need-loop-less Inv-loop μ-loop
 loop-less c = omega arith
 
--- src/stations.rt:85:5
 loop-again : tie.Need-loop-again Inv-loop μ-loop
 unfolding stateFields
 loop-again c =     let b = c .before .before in
@@ -100,7 +82,6 @@ loop-again c =     let b = c .before .before in
     rw (← state-row l (a .row) (h .loop .z) (s .pre .2), ← y) (b .state-fields .ensures) in
     (omega arith, rest-on (stateFields l (a .row)) (h .loop .z) (a .states) (h .loop .inv .1) (t .loop-test .taken) q (c .enum-told .given .1))
 
--- src/stations.rt:78:1
 returns-2 : tie.Need-returns-2 Inv-loop μ-loop
 returns-2 c =     let h = c .before in
     let a = h .before .before .args in

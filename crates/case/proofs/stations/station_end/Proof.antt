@@ -1,32 +1,24 @@
-use Rattle.case.proofs.Counting.{first-is}
-use Rattle.case.specs.Layout.{directionsAt, statesAt, machinesAt, directionAt, stateAt, machineAt}
+use mathlib.Core.Path.{_≡_}
 use native.Mathlib.Omega.{arith}
-use denote.Ref.{now}
-use mathlib.Core.Path.{_≡_, refl, sym, ap, _∙_}
 use borrow.Author.Needs.{needs}
+use denote.Ref.{now}
+use Rattle.case.specs.Layout.{directionsAt, statesAt, machinesAt, directionAt, stateAt, machineAt}
+use Rattle.case.proofs.Counting.{first-is}
 use Rattle.case.proofs.stations.station_end.Statement.{statement}
 use Rattle.case.proofs.stations.station_end.Tie as tie
-use Rattle.case.proofs.stations.station_end.Reads as reads
-use Rattle.case.proofs.stations.station_end.Lts as lts
-use Rattle.case.proofs.offsets.count.Reads as count-reads
 
--- src/stations.rt:163:9
 count-requires : tie.Need-count-requires
 count-requires c κs = search needs
 
--- src/stations.rt:164:9
 count-requires-2 : tie.Need-count-requires-2
 count-requires-2 c κs = search needs
 
--- src/stations.rt:165:9
 count-requires-3 : tie.Need-count-requires-3
 count-requires-3 c κs = search needs
 
--- src/stations.rt:166:5
 add-result : tie.Need-add-result
 add-result c = search needs
 
--- src/stations.rt:166:15
 mul-result : tie.Need-mul-result
 mul-result c =     let s = c .before .before .before in
     let l = now (s .args .case) in
@@ -36,7 +28,6 @@ mul-result c =     let s = c .before .before .before in
     let m : c .count3 .result ≡ machinesAt l (s .args .row) = c .count3 .ensures .value in
     omega arith
 
--- src/stations.rt:166:5
 add-result-2 : tie.Need-add-result-2
 add-result-2 c =     let s = c .before .before .before in
     let l = now (s .args .case) in
@@ -46,11 +37,9 @@ add-result-2 c =     let s = c .before .before .before in
     let m : c .count3 .result ≡ machinesAt l (s .args .row) = c .count3 .ensures .value in
     omega arith
 
--- src/stations.rt:166:32
 mul-result-2 : tie.Need-mul-result-2
 mul-result-2 c = search needs
 
--- src/stations.rt:166:5
 add-result-3 : tie.Need-add-result-3
 add-result-3 c =     let s = c .before .before .before in
     let l = now (s .args .case) in
@@ -60,11 +49,9 @@ add-result-3 c =     let s = c .before .before .before in
     let m : c .count3 .result ≡ machinesAt l (s .args .row) = c .count3 .ensures .value in
     omega arith
 
--- src/stations.rt:166:45
 mul-result-3 : tie.Need-mul-result-3
 mul-result-3 c = search needs
 
--- src/stations.rt:166:5
 add-result-4 : tie.Need-add-result-4
 add-result-4 c =     let s = c .before .before .before in
     let l = now (s .args .case) in
@@ -74,7 +61,6 @@ add-result-4 c =     let s = c .before .before .before in
     let m : c .count3 .result ≡ machinesAt l (s .args .row) = c .count3 .ensures .value in
     omega arith
 
--- src/stations.rt:159:1
 returns : tie.Need-returns
 unfolding machineAt stateAt directionAt
 returns c =     let s = c .before .before .before in

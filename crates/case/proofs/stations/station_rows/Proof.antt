@@ -1,59 +1,85 @@
+use mathlib.Core.Path.{_≡_, refl, sym, ap, _∙_}
+use Prim.Native.Nat.{ℕ, _≤_, _-_, _+_, _*_}
+use native.Mathlib.Omega.{arith}
+use borrow.Author.Needs.{needs}
+use denote.Ref.{now}
+use Rattle.numbers.specs.Items.{rest, rest-on, rest-no, rest-end}
+use Rattle.numbers.specs.Question.{firstNo, orElse-yes}
+use Rattle.case.specs.Layout.{stationsOf, stationEnd, stationAt, caseEnd}
+use Rattle.case.specs.Leftover.{leftover}
+use Rattle.case.specs.Passed.{row-counted, station-next, end-most}
+use Rattle.case.specs.StationFields.{rowFields, stationFields, allStationFields}
+use Rattle.case.proofs.Asked.{stopped, went}
 use Rattle.case.proofs.stations.station_rows.Statement.{statement}
 use Rattle.case.proofs.stations.station_rows.Tie as tie
-use Rattle.case.proofs.stations.station_rows.Reads as reads
-use Rattle.case.proofs.stations.station_rows.Lts as lts
-use Rattle.case.proofs.stations.station_end.Reads as station-end-reads
-use Rattle.case.proofs.stations.station_fields.Reads as station-fields-reads
-use Rattle.numbers.proofs.answer.ask.Reads as ask-reads
 
 abbrev Inv-loop : tie.InvT-loop
-Inv-loop case first stations row₀ s₀ row s = ?
+Inv-loop case first stations row₀ s₀ row s = (s ≤ stations) × (row ≡ stationAt case s) × (row ≤ 5000 + 117 * s) × (firstNo (allStationFields case) ≡ rest (stationFields case) s stations)
 
 abbrev μ-loop : tie.MeasureT-loop
-μ-loop case first stations row₀ s₀ row s = ?
+μ-loop case first stations row₀ s₀ row s = stations - s
 
--- src/stations.rt:176:5
 loop-holds : tie.Need-loop-holds Inv-loop μ-loop
-loop-holds c = ?
+unfolding allStationFields
+loop-holds c = (omega arith, c .pre .1, omega (arith, c .pre .0), let e : c .args .stations - 0 ≡ stationsOf (now (c .args .case)) = omega (arith, c .pre .3) in rw e)
 
--- src/stations.rt:177:13
 station-fields-requires : tie.Need-station-fields-requires Inv-loop μ-loop
-station-fields-requires c κs = ?
+station-fields-requires c κs = omega arith
 
 enum-told : tie.Need-enum-told Inv-loop μ-loop
-enum-told c = ?
+enum-told c = search needs
 
--- src/stations.rt:185:17
 enum-told-2 : tie.Need-enum-told-2 Inv-loop μ-loop
-enum-told-2 c = ?
+enum-told-2 c = search needs
 
--- src/stations.rt:185:17
 returns : tie.Need-returns Inv-loop μ-loop
-returns c = ?
+unfolding stationFields
+returns c =     let b = c .before .before in
+    let t = b .before in
+    let h = t .before in
+    let s = h .before in
+    let l = now (s .args .case) in
+    let i = h .loop .s in
+    let q : b .station-fields .result ≡ firstNo (stationFields l i) = b .station-fields .ensures ∙ ap (λ (r : ℕ). firstNo (rowFields l r)) (h .loop .inv .1) in
+    stopped (allStationFields l) (leftover l) (sym (rest-no (stationFields l) i (s .args .stations) (h .loop .inv .3) (t .loop-test .taken) q (c .enum-told2 .given .1))) (c .enum-told2 .given .1)
 
--- src/stations.rt:188:9
 station-end-requires : tie.Need-station-end-requires Inv-loop μ-loop
-station-end-requires c κs = ?
+station-end-requires c κs = let b = c .before .before in let h = b .before .before in (omega arith, row-counted (now (h .before .args .case)) (h .loop .row) (sym (b .station-fields .ensures) ∙ c .enum-told .given .1))
 
--- src/stations.rt:189:9
 add-s : tie.Need-add-s Inv-loop μ-loop
-add-s c = ?
+add-s c = omega arith
 
--- src/stations.rt:176:5
 loop-less : tie.Need-loop-less Inv-loop μ-loop
-loop-less c = ?
+loop-less c = omega arith
 
--- src/stations.rt:176:5
 loop-again : tie.Need-loop-again Inv-loop μ-loop
-loop-again c = ?
+unfolding stationFields
+loop-again c =     let b = c .before .before .before in
+    let t = b .before in
+    let h = t .before in
+    let s = h .before in
+    let l = now (s .args .case) in
+    let i = h .loop .s in
+    let q : b .station-fields .result ≡ firstNo (stationFields l i) = b .station-fields .ensures ∙ ap (λ (r : ℕ). firstNo (rowFields l r)) (h .loop .inv .1) in
+    let y = c .before .enum-told .given .1 in
+    let k = row-counted l (h .loop .row) (sym (b .station-fields .ensures) ∙ y) in
+    (omega arith,
+    c .station-end .ensures ∙ ap (stationEnd l) (h .loop .inv .1) ∙ sym (station-next l i),
+    omega (arith, c .station-end .ensures, end-most l (h .loop .row) k, h .loop .inv .2),
+    rest-on (stationFields l) i (s .args .stations) (h .loop .inv .3) (t .loop-test .taken) q y)
 
--- src/stations.rt:191:5
 ask-requires : tie.Need-ask-requires Inv-loop μ-loop
-ask-requires c κs = ?
+ask-requires c κs = search needs
 
--- src/stations.rt:170:1
 returns-2 : tie.Need-returns-2 Inv-loop μ-loop
-returns-2 c = ?
+unfolding leftover
+returns-2 c =     let h = c .before .before in
+    let s = h .before in
+    let l = now (s .args .case) in
+    let e : h .loop .s ≡ stationsOf l = omega (arith, s .pre .3, c .before .loop-test .left, h .loop .inv .0) in
+    let r : h .loop .row ≡ caseEnd l = h .loop .inv .1 ∙ ap (stationAt l) e in
+    went (allStationFields l) (leftover l) refl (rest-end (stationFields l) (h .loop .s) (s .args .stations) (h .loop .inv .3) (c .before .loop-test .left))
+    (c .ask .ensures ∙ rw (r, orElse-yes))
 
 pub station-rows-spec : {M : Type 1} → statement M
 station-rows-spec =

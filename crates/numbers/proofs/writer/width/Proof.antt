@@ -1,34 +1,25 @@
--- The invariant counts the groups that are taken off; the measure is how many may still come.
-use Prim.Native.Nat.{ℕ}
-use borrow.Author.Needs.{needs}
+use mathlib.Core.Path.{refl, ap, sym}
 use native.Mathlib.Omega.{arith}
-use Rattle.numbers.proofs.Counted.{Counting, counting, count-some, count-turn, count-end}
+use borrow.Author.Needs.{needs}
+use lib.Count.{leading-le}
+use lib.ListN.{length}
+use Rattle.numbers.specs.Groups.{groups, one-group}
+use Rattle.numbers.proofs.Counted.{width-is}
 use Rattle.numbers.proofs.writer.width.Statement.{statement}
 use Rattle.numbers.proofs.writer.width.Tie as tie
 
-abbrev Inv-loop : tie.InvT-loop
-Inv-loop m rest₀ more₀ rest more = Counting m rest more
+returns : tie.Need-returns
+unfolding groups
+returns c = sym (ap length (one-group 9 (c .before .args .m) (c .if1 .taken)))
 
-abbrev μ-loop : tie.MeasureT-loop
-μ-loop m rest₀ more₀ rest more = more
+cast-above : tie.Need-cast-above
+cast-above c = record { fits = omega (arith, leading-le 64 (c .before .args .m)) }
 
-loop-holds : tie.Need-loop-holds Inv-loop μ-loop
-loop-holds c = counting _ (search needs)
+sub-result : tie.Need-sub-result
+sub-result c = omega (arith, leading-le 64 (c .before .args .m))
 
-sub-more : tie.Need-sub-more Inv-loop μ-loop
-sub-more c = count-some (c .before .loop .inv) (c .loop-test .taken)
-
-loop-less : tie.Need-loop-less Inv-loop μ-loop
-loop-less c = omega (arith, count-some (c .before .loop .inv) (c .loop-test .taken))
-
-loop-again : tie.Need-loop-again Inv-loop μ-loop
-loop-again c = count-turn (c .before .loop .inv) (c .loop-test .taken)
-
-sub-result : tie.Need-sub-result Inv-loop μ-loop
-sub-result c = omega (arith, c .before .loop .inv .left .few)
-
-returns : tie.Need-returns Inv-loop μ-loop
-returns c = count-end (c .before .loop .inv) (c .loop-test .left)
+returns-2 : tie.Need-returns-2
+returns-2 c = width-is (c .before .args .m) _ (c .if1 .left) (search needs) refl
 
 pub width-spec : {M : Type 1} → statement M
-width-spec = tie.close (tie.spec Inv-loop μ-loop loop-holds sub-more loop-less loop-again sub-result returns)
+width-spec = tie.close (tie.spec returns cast-above sub-result returns-2)

@@ -1,4 +1,17 @@
+-- [head]
+use mathlib.Core.Path.{_≡_, refl, sym, ap, ap₂, _∙_, subst}
+use mathlib.Core.Bool.{Bool, true, false, cond, not, _&&_, _||_}
+use Prim.Native.Nat.{ℕ, zero, suc, _+_, _*_, _-_, _^_, _<_, _≤_}
+use native.Mathlib.Omega.{arith}
+use borrow.Author.Tests.{ltb-true, ltb-false, leb-true, leb-false, eqb-true, eqb-false, not-true, not-false, lt-ltb, le-ltb, le-leb, lt-leb, eq-eqb, ne-eqb}
+use mathlib.Core.Logic.{⊎-elim}
+use Rattle.plan.proofs.Values.{kept}
 use borrow.Author.Needs.{needs}
+use lib.Dec.{leb}
+use Rattle.plan.specs.ArcFlows.{flowAllowed, noFlowAgainst}
+use Rattle.plan.specs.Setting.{settingOf}
+use Rattle.plan.specs.declared.setting.Setting.{Setting}
+-- [/head]
 use Rattle.plan.proofs.flows.flow_allowed.Statement.{statement}
 use Rattle.plan.proofs.flows.flow_allowed.Tie as tie
 use Rattle.plan.proofs.flows.flow_allowed.Reads as reads
@@ -16,11 +29,23 @@ no-flow-against-requires c κs = search needs
 
 -- src/flows.rt:119:1
 returns : tie.Need-returns
-returns c = ?
+unfolding flowAllowed
+returns c = 
+    let k = c .before .before .args .c .kind in
+    let a : 1 ≤ k = omega arith in
+    let b : k ≤ 2 = omega arith in
+    rw (le-leb _ _ a, le-leb _ _ b)
 
 -- src/flows.rt:119:1
 returns-2 : tie.Need-returns-2
-returns-2 c = ?
+unfolding flowAllowed
+returns-2 c = 
+    let s = c .before .before .before .before in
+    let k = s .args .c .kind in
+    let e : (leb 1 k && leb k 2) ≡ false =
+        ⊎-elim (λ w. let n : k < 1 = omega arith in rw (lt-leb 1 k n)) (λ w. let n : 1 ≤ k = omega arith in let m : 2 < k = omega arith in rw (le-leb 1 k n, lt-leb k 2 m)) (c .before .before .before .if1 .came) in
+    let t : c .before .setting-of .result ≡ settingOf k (s .args .r .setting) = simp (kept (s .args .r .setting) (c .before .before .struct-told .given .1 .1 .0 .1)) at (c .before .setting-of .ensures) in
+    rw e (c .no-flow-against .ensures ∙ ap (λ (x : Setting). noFlowAgainst (leb 3 k) x (s .args .r)) t)
 
 pub flow-allowed-spec : {M : Type 1} → statement M
 flow-allowed-spec =

@@ -1,4 +1,21 @@
+-- [head]
+use mathlib.Core.Path.{_≡_, refl, sym, ap, ap₂, _∙_, subst}
+use mathlib.Core.Bool.{Bool, true, false, cond, not, _&&_, _||_}
+use Prim.Native.Nat.{ℕ, zero, suc, _+_, _*_, _-_, _^_, _<_, _≤_}
+use native.Mathlib.Omega.{arith}
+use denote.Ref.{now}
 use borrow.Author.Needs.{needs}
+use mathlib.Core.List.{List, [], _∷_, _++_}
+use lib.IntN.{ℤ, pos, negsuc, natAbs, _+ℤ_, _-ℤ_, _*ℤ_}
+use Rattle.numbers.specs.SignedBounds.{Bounded}
+use Rattle.case.specs.declared.records.Arc.{Arc}
+use Rattle.case.specs.declared.records.Artificial.{Artificial}
+use Rattle.plan.specs.declared.rows.ArcRow.{ArcRow}
+use Rattle.numbers.specs.Question.{firstNo, answer, orElse, orElse-yes}
+use Rattle.plan.specs.ArcFlows.{arcNumbersKept, flowAllowed}
+use Rattle.plan.specs.ArcRules.{flowQuestions}
+use Rattle.plan.specs.CaseFacts.{counted, qmax-sized}
+-- [/head]
 use Rattle.plan.proofs.flows.flow_answer.Statement.{statement}
 use Rattle.plan.proofs.flows.flow_answer.Tie as tie
 use Rattle.plan.proofs.flows.flow_answer.Reads as reads
@@ -11,6 +28,11 @@ use Rattle.plan.proofs.flows.arc_numbers_kept.Reads as arc-numbers-kept
 use Rattle.plan.proofs.flows.flow_allowed.Reads as flow-allowed-reads
 use Rattle.plan.proofs.rows.arc_row.Reads as arc-row-reads
 
+-- [pre]
+three : {c d : Arc} {x y : Artificial} {r s : ArcRow} → c ≡ d → x ≡ y → r ≡ s → arcNumbersKept c x r ≡ arcNumbersKept d y s
+three p q e = rw (p, q, e)
+-- [/pre]
+
 -- src/flows.rt:133:9
 arc-requires : tie.Need-arc-requires
 arc-requires c κs = search needs
@@ -21,11 +43,11 @@ artificial-requires c κs = search needs
 
 -- src/flows.rt:135:9
 arc-row-requires : tie.Need-arc-row-requires
-arc-row-requires c κs = ?
+arc-row-requires c κs = let p = c .before .before .pre in (counted (p .0), p .2)
 
 -- src/flows.rt:137:13
 arc-numbers-kept-requires : tie.Need-arc-numbers-kept-requires
-arc-numbers-kept-requires c κs = ?
+arc-numbers-kept-requires c κs = let p = c .before .before .before .pre in rw (c .before .before .arc .ensures) (qmax-sized (p .0) _ (p .2))
 
 -- src/flows.rt:137:44
 add-ask : tie.Need-add-ask
@@ -53,7 +75,14 @@ or-else-requires c κs = search needs
 
 -- src/flows.rt:129:1
 returns : tie.Need-returns
-returns c = ?
+unfolding flowQuestions
+returns c = 
+    let a = c .before .before .before .before .before .before .before .before .args in
+    let k1 = c .before .before .before .before .arc-numbers-kept .ensures ∙ three (c .before .before .before .before .before .before .before .arc .ensures) (c .before .before .before .before .before .before .artificial .ensures) (c .before .before .before .before .before .arc-row .ensures) in
+    let k2 = c .before .before .flow-allowed .ensures ∙ ap₂ flowAllowed (c .before .before .before .before .before .before .before .arc .ensures) (c .before .before .before .before .before .arc-row .ensures) in
+    rw orElse-yes
+    (c .or-else .ensures
+    ∙ ap₂ orElse (c .before .before .before .ask .ensures ∙ ap (λ (b : Bool). answer b 24 (a .i + 1) (a .e)) k1) (c .before .ask2 .ensures ∙ ap (λ (b : Bool). answer b 25 (a .i + 1) (a .e)) k2))
 
 pub flow-answer-spec : {M : Type 1} → statement M
 flow-answer-spec =

@@ -1,9 +1,24 @@
+-- [head]
+use mathlib.Core.Path.{_≡_, refl, sym, ap, ap₂, _∙_, subst}
+use mathlib.Core.Bool.{Bool, true, false, cond, not, _&&_, _||_}
+use lib.IntN.{ℤ, pos, negsuc, natAbs, _+ℤ_, _-ℤ_, _*ℤ_}
+use Rattle.numbers.specs.SignedLocals.{Held, held, param, plain, literal, loosen, renamed, held<, held-fits, held-fits<, _+ʳ_, _-ʳ_, _*ʳ_, absʳ-neg, absʳ-pos}
+use Rattle.plan.proofs.Values.{kept}
+use borrow.Author.Tests.{ltb-true, ltb-false, leb-true, leb-false, eqb-true, eqb-false, not-true, not-false, lt-ltb, le-ltb, le-leb, lt-leb, eq-eqb, ne-eqb}
 use borrow.Author.Needs.{needs}
+use Rattle.plan.specs.ArcFlows.{flowsKept}
+use Rattle.plan.specs.Compared.{within}
+-- [/head]
 use Rattle.plan.proofs.flows.flows_kept.Statement.{statement}
 use Rattle.plan.proofs.flows.flows_kept.Tie as tie
 use Rattle.plan.proofs.flows.flows_kept.Reads as reads
 use Rattle.plan.proofs.flows.flows_kept.Lts as lts
 use Rattle.plan.proofs.flows.both_within.Reads as both-within-reads
+
+-- [pre]
+ranges : {l l' a a' m m' b b' : ℤ} → l ≡ l' → a ≡ a' → m ≡ m' → b ≡ b' → (within l a m && within l b m) ≡ (within l' a' m' && within l' b' m')
+ranges p q r s = rw (p, q, r, s)
+-- [/pre]
 
 -- src/flows.rt:47:14
 both-within-requires : tie.Need-both-within-requires
@@ -11,7 +26,7 @@ both-within-requires c κs = search needs
 
 -- src/flows.rt:48:26
 sub-both-within : tie.Need-sub-both-within
-sub-both-within c = ?
+sub-both-within c = held-fits (literal (pos 0) -ʳ param (c .before .before .before .pre) tt) tt
 
 -- src/flows.rt:48:14
 both-within-requires-2 : tie.Need-both-within-requires-2
@@ -23,15 +38,30 @@ both-within-requires-3 c κs = search needs
 
 -- src/flows.rt:41:1
 returns : tie.Need-returns
-returns c = ?
+unfolding flowsKept
+returns c = 
+    let a = c .before .before .before .before .before .args in
+    let t = c .before .before .before .struct-told .given in
+    let u = c .before .before .struct-told2 .given in
+    rw (c .before .before .before .before .match .keys1) (simp (kept (a .r .a) (t .0 .1), kept (a .r .b) (t .1 .0 .1), kept (a .c .qmax) (u .1 .1 .1 .0 .1)) at (c .both-within .ensures))
 
 -- src/flows.rt:41:1
 returns-2 : tie.Need-returns-2
-returns-2 c = ?
+unfolding flowsKept
+returns-2 c = 
+    let a = c .before .before .before .before .before .before .before .before .args in
+    let t = c .before .before .before .before .struct-told5 .given in
+    let q = (held (literal (pos 0) -ʳ param (c .before .before .before .before .before .before .before .before .pre) tt) tt) .val in
+    rw (c .before .before .before .before .before .before .before .match .keys2) (c .both-within2 .ensures ∙ ranges q (kept (a .r .a) (t .0 .1)) (kept (a .c .qmax) (c .before .before .before .before .before .struct-told4 .given .1 .1 .1 .0 .1)) (kept (a .r .b) (t .1 .0 .1)))
 
 -- src/flows.rt:41:1
 returns-3 : tie.Need-returns-3
-returns-3 c = ?
+unfolding flowsKept
+returns-3 c = 
+    let a = c .before .before .before .before .before .before .args in
+    let t = c .before .before .before .before .struct-told9 .given in
+    let u = c .before .before .before .struct-told10 .given in
+    rw (ne-eqb _ _ (c .before .before .before .before .before .match .rest .0 .1), ne-eqb _ _ (c .before .before .before .before .before .match .rest .1)) (simp (kept (a .r .a) (t .0 .1), kept (a .r .b) (t .1 .0 .1), kept (a .c .qmax) (u .1 .1 .1 .0 .1)) at (c .both-within3 .ensures))
 
 pub flows-kept-spec : {M : Type 1} → statement M
 flows-kept-spec =

@@ -1,69 +1,94 @@
+-- [head]
+use mathlib.Core.Path.{_≡_, refl, sym, ap, ap₂, _∙_, subst}
+use mathlib.Core.Bool.{Bool, true, false, cond, not, _&&_, _||_}
+use Rattle.plan.proofs.Values.{kept}
 use borrow.Author.Needs.{needs}
+use Rattle.plan.specs.Compared.{isZero}
+use Rattle.plan.specs.declared.rows.ArcRow.{ArcRow}
+use Rattle.plan.specs.declared.setting.Way.{Way}
+use Rattle.plan.specs.declared.setting.Way.the-variants.{Forward, Backward}
+use Rattle.plan.specs.declared.setting.Mode.{Mode}
+use Rattle.plan.specs.declared.setting.Setting.the-variants.{Active}
+use Rattle.plan.specs.ArcFlows.{noFlowAgainst}
+-- [/head]
 use Rattle.plan.proofs.flows.no_flow_against.Statement.{statement}
 use Rattle.plan.proofs.flows.no_flow_against.Tie as tie
 use Rattle.plan.proofs.flows.no_flow_against.Reads as reads
 use Rattle.plan.proofs.flows.no_flow_against.Lts as lts
 use Rattle.numbers.proofs.compare.same.Reads as same-reads
+use Rattle.plan.proofs.bools.both.Reads as both-reads
 
--- src/flows.rt:97:29
+-- [pre]
+-- an arc that is not artificial has no direction to go against
+open-valve : (way : Way) (mode : Mode) (r : ArcRow) → true ≡ noFlowAgainst false (Active way mode) r
+open-valve Forward mode r = refl
+open-valve Backward mode r = refl
+-- [/pre]
+
+-- src/flows.rt:92:29
 enum-told : tie.Need-enum-told
 enum-told c = search needs
 
--- src/flows.rt:99:16
+-- src/flows.rt:93:30
 enum-told-2 : tie.Need-enum-told-2
 enum-told-2 c = search needs
 
--- src/flows.rt:99:16
+-- src/flows.rt:93:30
 same-requires : tie.Need-same-requires
 same-requires c κs = search needs
 
--- src/flows.rt:100:17
+-- src/flows.rt:93:44
 same-requires-2 : tie.Need-same-requires-2
 same-requires-2 c κs = search needs
 
--- src/flows.rt:105:27
+-- src/flows.rt:93:25
+both-requires : tie.Need-both-requires
+both-requires c κs = search needs
+
+-- src/flows.rt:94:27
 enum-known-s : tie.Need-enum-known-s
 enum-known-s c = search needs
 
--- src/flows.rt:108:37
+-- src/flows.rt:97:37
 enum-told-3 : tie.Need-enum-told-3
 enum-told-3 c = search needs
 
--- src/flows.rt:108:37
+-- src/flows.rt:97:37
 same-requires-3 : tie.Need-same-requires-3
 same-requires-3 c κs = search needs
 
--- src/flows.rt:109:38
+-- src/flows.rt:98:38
 enum-told-4 : tie.Need-enum-told-4
 enum-told-4 c = search needs
 
--- src/flows.rt:109:38
+-- src/flows.rt:98:38
 same-requires-4 : tie.Need-same-requires-4
 same-requires-4 c κs = search needs
 
--- src/flows.rt:93:1
+-- src/flows.rt:88:1
 returns : tie.Need-returns
 returns c = search needs
 
--- src/flows.rt:93:1
+-- src/flows.rt:88:1
 returns-2 : tie.Need-returns-2
-returns-2 c = ?
+returns-2 c = 
+    let a = c .before .before .before .before .before .before .before .args in
+    let t = c .before .before .before .before .struct-told .given in
+    let w1 : c .before .before .before .same .result ≡ isZero (a .r .a) = simp (kept (a .r .a) (t .0 .1)) at (c .before .before .before .same .ensures) in
+    let w2 : c .before .same2 .result ≡ isZero (a .r .b) = simp (kept (a .r .b) (t .1 .0 .1)) at (c .before .same2 .ensures) in
+    rw (c .before .before .before .before .before .enum-told2 .given .1) (c .both .ensures ∙ ap₂ _&&_ w1 w2)
 
--- src/flows.rt:93:1
+-- src/flows.rt:88:1
 returns-3 : tie.Need-returns-3
-returns-3 c = ?
+returns-3 c = rw (c .before .before .before .before .before .before .s .given .1, c .before .before .enum-told3 .given .1, c .before .before .before .before .if1 .taken) (simp (kept (c .before .before .before .before .before .before .before .before .args .r .b) (c .before .struct-told3 .given .1 .0 .1)) at (c .same3 .ensures))
 
--- src/flows.rt:93:1
+-- src/flows.rt:88:1
 returns-4 : tie.Need-returns-4
-returns-4 c = ?
+returns-4 c = rw (c .before .before .before .before .before .before .s .given .1, c .before .before .enum-told4 .given .1, c .before .before .before .before .if1 .taken) (simp (kept (c .before .before .before .before .before .before .before .before .args .r .a) (c .before .struct-told4 .given .0 .1)) at (c .same4 .ensures))
 
--- src/flows.rt:93:1
+-- src/flows.rt:88:1
 returns-5 : tie.Need-returns-5
-returns-5 c = ?
-
--- src/flows.rt:93:1
-returns-6 : tie.Need-returns-6
-returns-6 c = ?
+returns-5 c = rw (c .before .before .s .given .1, c .if1 .left) (open-valve (c .before .before .s .given .0 .0) (c .before .before .s .given .0 .1 .0) (c .before .before .before .before .args .r))
 
 pub no-flow-against-spec : {M : Type 1} → statement M
 no-flow-against-spec =
@@ -73,6 +98,7 @@ no-flow-against-spec =
     enum-told-2
     same-requires
     same-requires-2
+    both-requires
     enum-known-s
     enum-told-3
     same-requires-3
@@ -82,5 +108,4 @@ no-flow-against-spec =
     returns-2
     returns-3
     returns-4
-    returns-5
-    returns-6)
+    returns-5)

@@ -1,4 +1,7 @@
+-- [head]
+use mathlib.Core.Path.{_≡_, refl, sym, ap, ap₂, _∙_, subst}
 use borrow.Author.Needs.{needs}
+-- [/head]
 use Rattle.plan.proofs.flows.setting_allowed.Statement.{statement}
 use Rattle.plan.proofs.flows.setting_allowed.Tie as tie
 use Rattle.plan.proofs.flows.setting_allowed.Reads as reads
@@ -38,7 +41,7 @@ returns-3 c = search needs
 
 -- src/flows.rt:67:1
 returns-4 : tie.Need-returns-4
-returns-4 c = ?
+returns-4 c = rw (c .before .before .before .s .given .1, c .enum-told4 .given .1)
 
 pub setting-allowed-spec : {M : Type 1} → statement M
 setting-allowed-spec =

@@ -2,9 +2,8 @@ use Rattle.plan.proofs.machines.machine_flow.Statement.{statement}
 use Rattle.plan.proofs.machines.machine_flow.Tie as tie
 use Rattle.plan.proofs.machines.machine_flow.Reads as reads
 use Rattle.plan.proofs.machines.machine_flow.Lts as lts
-use Rattle.case.proofs.read.machine.Reads as machine-reads
 use Rattle.case.proofs.read.station.Reads as station-reads
-use Rattle.numbers.proofs.sets.member.Reads as member-reads
+use Rattle.plan.proofs.machines.flow_part.Reads as flow-part-reads
 
 abbrev Inv-loop : tie.InvT-loop
 Inv-loop case first set machines sum₀ m₀ sum m = ?
@@ -12,39 +11,35 @@ Inv-loop case first set machines sum₀ m₀ sum m = ?
 abbrev μ-loop : tie.MeasureT-loop
 μ-loop case first set machines sum₀ m₀ sum m = ?
 
--- src/machines.rt:19:20
+-- src/machines.rt:32:20
 station-requires : tie.Need-station-requires Inv-loop μ-loop
 station-requires c κs = ?
 
--- src/machines.rt:22:5
+-- src/machines.rt:35:5
 loop-holds : tie.Need-loop-holds Inv-loop μ-loop
 loop-holds c = ?
 
--- src/machines.rt:23:12
-member-requires : tie.Need-member-requires Inv-loop μ-loop
-member-requires c κs = ?
+-- src/machines.rt:36:33
+flow-part-requires : tie.Need-flow-part-requires Inv-loop μ-loop
+flow-part-requires c κs = ?
 
--- src/machines.rt:24:37
-machine-requires : tie.Need-machine-requires Inv-loop μ-loop
-machine-requires c κs = ?
-
--- src/machines.rt:24:25
+-- src/machines.rt:36:21
 add-sum : tie.Need-add-sum Inv-loop μ-loop
 add-sum c = ?
 
--- src/machines.rt:26:9
+-- src/machines.rt:37:9
 add-m : tie.Need-add-m Inv-loop μ-loop
 add-m c = ?
 
--- src/machines.rt:22:5
+-- src/machines.rt:35:5
 loop-less : tie.Need-loop-less Inv-loop μ-loop
 loop-less c = ?
 
--- src/machines.rt:22:5
+-- src/machines.rt:35:5
 loop-again : tie.Need-loop-again Inv-loop μ-loop
 loop-again c = ?
 
--- src/machines.rt:15:1
+-- src/machines.rt:28:1
 returns : tie.Need-returns Inv-loop μ-loop
 returns c = ?
 
@@ -56,8 +51,7 @@ machine-flow-spec =
     μ-loop
     station-requires
     loop-holds
-    member-requires
-    machine-requires
+    flow-part-requires
     add-sum
     add-m
     loop-less

@@ -2,9 +2,8 @@ use Rattle.plan.proofs.machines.machine_gain.Statement.{statement}
 use Rattle.plan.proofs.machines.machine_gain.Tie as tie
 use Rattle.plan.proofs.machines.machine_gain.Reads as reads
 use Rattle.plan.proofs.machines.machine_gain.Lts as lts
-use Rattle.case.proofs.read.machine.Reads as machine-reads
 use Rattle.case.proofs.read.station.Reads as station-reads
-use Rattle.numbers.proofs.sets.member.Reads as member-reads
+use Rattle.plan.proofs.machines.gain_part.Reads as gain-part-reads
 
 abbrev Inv-loop : tie.InvT-loop
 Inv-loop case first set machines sum₀ m₀ sum m = ?
@@ -12,43 +11,35 @@ Inv-loop case first set machines sum₀ m₀ sum m = ?
 abbrev μ-loop : tie.MeasureT-loop
 μ-loop case first set machines sum₀ m₀ sum m = ?
 
--- src/machines.rt:36:20
+-- src/machines.rt:59:20
 station-requires : tie.Need-station-requires Inv-loop μ-loop
 station-requires c κs = ?
 
--- src/machines.rt:39:5
+-- src/machines.rt:62:5
 loop-holds : tie.Need-loop-holds Inv-loop μ-loop
 loop-holds c = ?
 
--- src/machines.rt:40:12
-member-requires : tie.Need-member-requires Inv-loop μ-loop
-member-requires c κs = ?
+-- src/machines.rt:63:33
+gain-part-requires : tie.Need-gain-part-requires Inv-loop μ-loop
+gain-part-requires c κs = ?
 
--- src/machines.rt:41:38
-machine-requires : tie.Need-machine-requires Inv-loop μ-loop
-machine-requires c κs = ?
-
--- src/machines.rt:41:38
-sub-sum : tie.Need-sub-sum Inv-loop μ-loop
-sub-sum c = ?
-
--- src/machines.rt:41:25
+-- src/machines.rt:63:21
 add-sum : tie.Need-add-sum Inv-loop μ-loop
 add-sum c = ?
 
--- src/machines.rt:43:9
+-- src/machines.rt:64:9
 add-m : tie.Need-add-m Inv-loop μ-loop
 add-m c = ?
 
--- src/machines.rt:39:5
+-- src/machines.rt:62:5
 loop-less : tie.Need-loop-less Inv-loop μ-loop
 loop-less c = ?
 
--- src/machines.rt:39:5
+-- src/machines.rt:62:5
 loop-again : tie.Need-loop-again Inv-loop μ-loop
 loop-again c = ?
 
--- src/machines.rt:32:1
+-- src/machines.rt:55:1
 returns : tie.Need-returns Inv-loop μ-loop
 returns c = ?
 
@@ -60,9 +51,7 @@ machine-gain-spec =
     μ-loop
     station-requires
     loop-holds
-    member-requires
-    machine-requires
-    sub-sum
+    gain-part-requires
     add-sum
     add-m
     loop-less

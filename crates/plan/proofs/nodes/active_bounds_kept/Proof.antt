@@ -1,52 +1,79 @@
+-- [head]
+use mathlib.Core.Path.{_≡_, refl, sym, ap, ap₂, _∙_, subst}
+use mathlib.Core.Bool.{Bool, true, false, cond, not, _&&_, _||_}
+use lib.IntN.{ℤ, pos, negsuc, natAbs, _+ℤ_, _-ℤ_, _*ℤ_}
+use Rattle.numbers.specs.SignedLocals.{Held, held, param, plain, literal, loosen, renamed, held<, held-fits, held-fits<, _+ʳ_, _-ʳ_, _*ʳ_, absʳ-neg, absʳ-pos}
+use Rattle.plan.proofs.Values.{kept}
 use borrow.Author.Needs.{needs}
+use borrow.Author.Tests.{ltb-true, ltb-false, leb-true, leb-false, eqb-true, eqb-false, not-true, not-false, lt-ltb, le-ltb, le-leb, lt-leb, eq-eqb, ne-eqb}
+use lib.Signed.{leZ}
+use Rattle.plan.specs.NodeRules.{activeBoundsKept}
+use Rattle.plan.specs.Compared.{isZero}
+-- [/head]
 use Rattle.plan.proofs.nodes.active_bounds_kept.Statement.{statement}
 use Rattle.plan.proofs.nodes.active_bounds_kept.Tie as tie
 use Rattle.plan.proofs.nodes.active_bounds_kept.Reads as reads
 use Rattle.plan.proofs.nodes.active_bounds_kept.Lts as lts
 use Rattle.numbers.proofs.compare.at_most.Reads as at-most-reads
 use Rattle.numbers.proofs.compare.same.Reads as same-reads
+use Rattle.plan.proofs.bools.both.Reads as both-reads
 
 -- src/nodes.rt:83:8
 same-requires : tie.Need-same-requires
 same-requires c κs = search needs
 
--- src/nodes.rt:84:9
-returns : tie.Need-returns
-returns c = ?
-
--- src/nodes.rt:86:26
+-- src/nodes.rt:87:31
 add-at-most : tie.Need-add-at-most
-add-at-most c = ?
+add-at-most c = held-fits (param (c .before .before .before .before .before .pre .p) tt +ʳ param (c .before .before .before .before .before .pre .uplus) tt) tt
 
--- src/nodes.rt:86:8
+-- src/nodes.rt:87:13
 at-most-requires : tie.Need-at-most-requires
 at-most-requires c κs = search needs
 
--- src/nodes.rt:87:17
+-- src/nodes.rt:88:21
 sub-at-most : tie.Need-sub-at-most
-sub-at-most c = ?
+sub-at-most c = held-fits (param (c .before .before .before .before .before .before .before .before .before .pre .p) tt -ʳ param (c .before .before .before .before .before .before .before .before .before .pre .uminus) tt) tt
 
--- src/nodes.rt:87:9
+-- src/nodes.rt:88:13
 at-most-requires-2 : tie.Need-at-most-requires-2
 at-most-requires-2 c κs = search needs
 
--- src/nodes.rt:79:1
-returns-2 : tie.Need-returns-2
-returns-2 c = ?
+-- src/nodes.rt:86:9
+both-requires : tie.Need-both-requires
+both-requires c κs = search needs
 
 -- src/nodes.rt:79:1
-returns-3 : tie.Need-returns-3
-returns-3 c = ?
+returns : tie.Need-returns
+unfolding activeBoundsKept
+returns c = 
+    let n = c .before .before .before .args .n in
+    let e : isZero (n .demand) ≡ true = simp (kept (n .demand) (c .before .before .struct-told .given .1 .1 .1 .1 .1 .1 .0 .1)) at (sym (c .before .same .ensures) ∙ c .if1 .taken) in
+    rw e
+
+-- src/nodes.rt:79:1
+returns-2 : tie.Need-returns-2
+unfolding activeBoundsKept
+returns-2 c = 
+    let s = c .before .before .before .before .before .before .before .before .before .before .before .before in
+    let n = s .args .n in
+    let r = s .args .r in
+    let t = c .before .before .before .before .before .before .before .before .before .before .before .struct-told .given in
+    let e : isZero (n .demand) ≡ false = simp (kept (n .demand) (t .1 .1 .1 .1 .1 .1 .0 .1)) at (sym (c .before .before .before .before .before .before .before .before .before .before .same .ensures) ∙ c .before .before .before .before .before .before .before .before .before .if1 .left) in
+    let up = (held (param (s .pre .p) tt +ʳ param (s .pre .uplus) tt) tt) .val in
+    let down = (held (param (s .pre .p) tt -ʳ param (s .pre .uminus) tt) tt) .val in
+    let w1 : c .before .before .before .before .before .at-most .result ≡ leZ (n .actlow) (r .p +ℤ r .uplus) = simp (up, kept (n .actlow) (t .1 .1 .1 .1 .0 .1)) at (c .before .before .before .before .before .at-most .ensures) in
+    let w2 : c .before .at-most2 .result ≡ leZ (r .p -ℤ r .uminus) (n .acthigh) = simp (down, kept (n .acthigh) (t .1 .1 .1 .1 .1 .0 .1)) at (c .before .at-most2 .ensures) in
+    rw e (c .both .ensures ∙ ap₂ _&&_ w1 w2)
 
 pub active-bounds-kept-spec : {M : Type 1} → statement M
 active-bounds-kept-spec =
     tie.close
     (tie.spec
     same-requires
-    returns
     add-at-most
     at-most-requires
     sub-at-most
     at-most-requires-2
-    returns-2
-    returns-3)
+    both-requires
+    returns
+    returns-2)

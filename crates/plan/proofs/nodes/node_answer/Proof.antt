@@ -1,4 +1,22 @@
+-- [head]
+use mathlib.Core.Path.{_≡_, refl, sym, ap, ap₂, _∙_, subst}
+use mathlib.Core.Bool.{Bool, true, false, cond, not, _&&_, _||_}
+use Prim.Native.Nat.{ℕ, zero, suc, _+_, _*_, _-_, _^_, _<_, _≤_}
+use native.Mathlib.Omega.{arith}
+use denote.Ref.{now}
 use borrow.Author.Needs.{needs}
+use mathlib.Core.List.{List, [], _∷_, _++_}
+use lib.IntN.{ℤ, pos, negsuc, natAbs, _+ℤ_, _-ℤ_, _*ℤ_}
+use Rattle.case.specs.declared.records.Node.{Node}
+use Rattle.plan.specs.declared.rows.NodeRow.{NodeRow}
+use Rattle.numbers.specs.Question.{firstNo, answer, orElse, orElse-yes}
+use Rattle.case.specs.Records.{nodeOf}
+use Rattle.plan.specs.PlanRecords.{nodeRow}
+use Rattle.plan.specs.NodeRules.{nodeNumbersKept, demandMet, activeBoundsKept, nodeQuestions}
+use Rattle.plan.specs.Sizes.{NodeSized, NodeRowSized}
+use Rattle.plan.specs.CaseFacts.{counted, node-sized}
+use Rattle.plan.specs.Kept.{numbers-sized}
+-- [/head]
 use Rattle.plan.proofs.nodes.node_answer.Statement.{statement}
 use Rattle.plan.proofs.nodes.node_answer.Tie as tie
 use Rattle.plan.proofs.nodes.node_answer.Reads as reads
@@ -11,25 +29,34 @@ use Rattle.plan.proofs.nodes.demand_met.Reads as demand-met-reads
 use Rattle.plan.proofs.nodes.numbers_kept.Reads as numbers-kept-reads
 use Rattle.plan.proofs.rows.node_row.Reads as node-row-reads
 
+-- [pre]
+-- past 21 the row's numbers are in range
+row-sized : (c : tie.Then1) → NodeRowSized (c .before .before .node-row .result)
+row-sized c =
+    let p = c .before .before .before .before .pre in
+    let n : NodeSized (c .before .before .before .node .result) = rw (c .before .before .before .node .ensures) (node-sized (p .0) _ (p .2) _ (p .1)) in
+    numbers-sized (c .before .before .before .node .result) (c .before .before .node-row .result) n (sym (c .before .numbers-kept .ensures) ∙ c .if1 .taken)
+-- [/pre]
+
 -- src/nodes.rt:97:9
 node-requires : tie.Need-node-requires
 node-requires c κs = search needs
 
 -- src/nodes.rt:98:9
 node-row-requires : tie.Need-node-row-requires
-node-row-requires c κs = ?
+node-row-requires c κs = let p = c .before .pre in omega (arith, counted (p .0) .nodes, p .2)
 
 -- src/nodes.rt:99:8
 numbers-kept-requires : tie.Need-numbers-kept-requires
-numbers-kept-requires c κs = ?
+numbers-kept-requires c κs = let p = c .before .before .pre in rw (c .before .node .ensures) (node-sized (p .0) _ (p .2) _ (p .1))
 
 -- src/nodes.rt:101:17
 demand-met-requires : tie.Need-demand-met-requires
-demand-met-requires c κs = ?
+demand-met-requires c κs = row-sized c
 
 -- src/nodes.rt:101:39
 add-ask : tie.Need-add-ask
-add-ask c = ?
+add-ask c = let p = c .before .before .before .before .before .pre in omega (arith, counted (p .0) .steps, p .1)
 
 -- src/nodes.rt:101:13
 ask-requires : tie.Need-ask-requires
@@ -37,11 +64,11 @@ ask-requires c κs = search needs
 
 -- src/nodes.rt:102:17
 active-bounds-kept-requires : tie.Need-active-bounds-kept-requires
-active-bounds-kept-requires c κs = ?
+active-bounds-kept-requires c κs = row-sized (c .before .before)
 
 -- src/nodes.rt:102:47
 add-ask-2 : tie.Need-add-ask-2
-add-ask-2 c = ?
+add-ask-2 c = let p = c .before .before .before .before .before .before .before .pre in omega (arith, counted (p .0) .steps, p .1)
 
 -- src/nodes.rt:102:13
 ask-requires-2 : tie.Need-ask-requires-2
@@ -53,15 +80,29 @@ or-else-requires c κs = search needs
 
 -- src/nodes.rt:107:19
 add-t15 : tie.Need-add-t15
-add-t15 c = ?
+add-t15 c = let p = c .before .before .before .before .pre in omega (arith, counted (p .0) .steps, p .1)
 
 -- src/nodes.rt:93:1
 returns : tie.Need-returns
-returns c = ?
+unfolding nodeQuestions
+returns c = 
+    let a = c .before .before .before .before .before .before .before .before .before .args in
+    let n = c .before .before .before .before .before .before .before .before .node .ensures in
+    let r = c .before .before .before .before .before .before .before .node-row .ensures in
+    let k1 : nodeNumbersKept (nodeOf (now (a .case)) (a .v) (a .i)) (nodeRow (now (a .row)) (a .v)) ≡ true = rw (n, r) at (sym (c .before .before .before .before .before .before .numbers-kept .ensures) ∙ c .before .before .before .before .before .if1 .taken) in
+    let k2 = c .before .before .before .before .demand-met .ensures ∙ ap₂ demandMet n r in
+    let k3 = c .before .before .active-bounds-kept .ensures ∙ ap₂ activeBoundsKept n r in
+    rw (k1, orElse-yes)
+    (c .or-else .ensures
+    ∙ ap₂ orElse (c .before .before .before .ask .ensures ∙ ap (λ (b : Bool). answer b 22 (a .i + 1) (a .v)) k2) (c .before .ask2 .ensures ∙ ap (λ (b : Bool). answer b 23 (a .i + 1) (a .v)) k3))
 
 -- src/nodes.rt:93:1
 returns-2 : tie.Need-returns-2
-returns-2 c = ?
+unfolding nodeQuestions
+returns-2 c = 
+    let a = c .before .before .before .before .args in
+    let k1 : nodeNumbersKept (nodeOf (now (a .case)) (a .v) (a .i)) (nodeRow (now (a .row)) (a .v)) ≡ false = rw (c .before .before .before .node .ensures, c .before .before .node-row .ensures) at (sym (c .before .numbers-kept .ensures) ∙ c .if1 .left) in
+    rw k1
 
 pub node-answer-spec : {M : Type 1} → statement M
 node-answer-spec =

@@ -1,77 +1,104 @@
+-- [head]
+use mathlib.Core.Path.{_≡_, refl, sym, ap, ap₂, _∙_, subst}
+use mathlib.Core.Bool.{Bool, true, false, cond, not, _&&_, _||_}
+use lib.IntN.{ℤ, pos, negsuc, natAbs, _+ℤ_, _-ℤ_, _*ℤ_}
+use Rattle.numbers.specs.SignedLocals.{Held, held, param, plain, literal, loosen, renamed, held<, held-fits, held-fits<, _+ʳ_, _-ʳ_, _*ʳ_, absʳ-neg, absʳ-pos}
+use mir.Facts.{toZ-ofZ}
+use Rattle.plan.proofs.Values.{kept}
 use borrow.Author.Needs.{needs}
+use Rattle.plan.specs.NodeRules.{slackLimit, slacksKept}
+use Rattle.plan.specs.Compared.{within}
+use Rattle.case.specs.Field.{mostFlow}
+-- [/head]
 use Rattle.plan.proofs.nodes.slacks_kept.Statement.{statement}
 use Rattle.plan.proofs.nodes.slacks_kept.Tie as tie
 use Rattle.plan.proofs.nodes.slacks_kept.Reads as reads
 use Rattle.plan.proofs.nodes.slacks_kept.Lts as lts
 use Rattle.numbers.proofs.compare.within.Reads as within-reads
+use Rattle.plan.proofs.bools.both.Reads as both-reads
 use Rattle.plan.proofs.nodes.slack_limit.Reads as slack-limit-reads
 
--- src/nodes.rt:31:9
+-- src/nodes.rt:32:9
 slack-limit-requires : tie.Need-slack-limit-requires
 slack-limit-requires c κs = search needs
 
--- src/nodes.rt:32:8
-within-requires : tie.Need-within-requires
-within-requires c κs = search needs
-
--- src/nodes.rt:33:12
-within-requires-2 : tie.Need-within-requires-2
-within-requires-2 c κs = search needs
-
--- src/nodes.rt:34:55
+-- src/nodes.rt:33:35
 sub-slack-limit : tie.Need-sub-slack-limit
-sub-slack-limit c = ?
+sub-slack-limit c = held-fits (param (c .before .before .before .pre .actlow) tt -ʳ param (c .before .before .before .pre .low) tt) tt
 
--- src/nodes.rt:34:35
+-- src/nodes.rt:33:9
 slack-limit-requires-2 : tie.Need-slack-limit-requires-2
 slack-limit-requires-2 c κs = search needs
 
--- src/nodes.rt:34:16
-within-requires-3 : tie.Need-within-requires-3
-within-requires-3 c κs = search needs
-
--- src/nodes.rt:35:64
+-- src/nodes.rt:34:36
 sub-slack-limit-2 : tie.Need-sub-slack-limit-2
-sub-slack-limit-2 c = ?
+sub-slack-limit-2 c = held-fits (param (c .before .before .before .before .before .before .pre .high) tt -ʳ param (c .before .before .before .before .before .before .pre .acthigh) tt) tt
 
--- src/nodes.rt:35:44
+-- src/nodes.rt:34:9
 slack-limit-requires-3 : tie.Need-slack-limit-requires-3
 slack-limit-requires-3 c κs = search needs
 
--- src/nodes.rt:35:17
+-- src/nodes.rt:36:9
+within-requires : tie.Need-within-requires
+within-requires c κs = search needs
+
+-- src/nodes.rt:38:13
+within-requires-2 : tie.Need-within-requires-2
+within-requires-2 c κs = search needs
+
+-- src/nodes.rt:39:18
+within-requires-3 : tie.Need-within-requires-3
+within-requires-3 c κs = search needs
+
+-- src/nodes.rt:39:43
 within-requires-4 : tie.Need-within-requires-4
 within-requires-4 c κs = search needs
 
--- src/nodes.rt:35:17
+-- src/nodes.rt:39:13
+both-requires : tie.Need-both-requires
+both-requires c κs = search needs
+
+-- src/nodes.rt:37:9
+both-requires-2 : tie.Need-both-requires-2
+both-requires-2 c κs = search needs
+
+-- src/nodes.rt:35:5
+both-requires-3 : tie.Need-both-requires-3
+both-requires-3 c κs = search needs
+
+-- src/nodes.rt:28:1
 returns : tie.Need-returns
-returns c = ?
-
--- src/nodes.rt:27:1
-returns-2 : tie.Need-returns-2
-returns-2 c = ?
-
--- src/nodes.rt:27:1
-returns-3 : tie.Need-returns-3
-returns-3 c = ?
-
--- src/nodes.rt:27:1
-returns-4 : tie.Need-returns-4
-returns-4 c = ?
+unfolding slacksKept
+returns c = 
+    let s = c .before .before .before .before .before .before .before .before .before .before .before .before .before .before .before .before .before .before in
+    let n = s .args .n in
+    let r = s .args .r in
+    let t = c .before .before .before .before .before .before .before .before .before .before .struct-told3 .given in
+    let low = (held (param (s .pre .actlow) tt -ʳ param (s .pre .low) tt) tt) .val in
+    let high = (held (param (s .pre .high) tt -ʳ param (s .pre .acthigh) tt) tt) .val in
+    let l1 = kept _ (c .before .before .before .before .before .before .before .before .before .before .before .before .before .before .before .before .before .slack-limit .ok) ∙ c .before .before .before .before .before .before .before .before .before .before .before .before .before .before .before .before .before .slack-limit .ensures in
+    let l2 = kept _ (c .before .before .before .before .before .before .before .before .before .before .before .before .before .before .slack-limit2 .ok) ∙ c .before .before .before .before .before .before .before .before .before .before .before .before .before .before .slack-limit2 .ensures ∙ ap (slackLimit (n .kind)) low in
+    let l3 = kept _ (c .before .before .before .before .before .before .before .before .before .before .before .slack-limit3 .ok) ∙ c .before .before .before .before .before .before .before .before .before .before .before .slack-limit3 .ensures ∙ ap (slackLimit (n .kind)) high in
+    let w1 : c .before .before .before .before .before .before .before .before .before .within .result ≡ within (pos 0) (r .splus) (slackLimit (n .kind) mostFlow) = simp (kept (r .splus) (t .1 .1 .0 .1), l1) at (c .before .before .before .before .before .before .before .before .before .within .ensures) in
+    let w2 : c .before .before .before .before .before .before .before .within2 .result ≡ within (pos 0) (r .sminus) (slackLimit (n .kind) mostFlow) = simp (kept (r .sminus) (t .1 .1 .1 .0 .1), l1) at (c .before .before .before .before .before .before .before .within2 .ensures) in
+    let w3 : c .before .before .before .before .before .within3 .result ≡ within (pos 0) (r .uplus) (slackLimit (n .kind) (n .actlow -ℤ n .low)) = simp (kept (r .uplus) (t .1 .1 .1 .1 .0 .1), l2) at (c .before .before .before .before .before .within3 .ensures) in
+    let w4 : c .before .before .before .within4 .result ≡ within (pos 0) (r .uminus) (slackLimit (n .kind) (n .high -ℤ n .acthigh)) = simp (kept (r .uminus) (t .1 .1 .1 .1 .1 .0 .1), l3) at (c .before .before .before .within4 .ensures) in
+    c .both3 .ensures ∙ ap₂ _&&_ w1 (c .before .both2 .ensures ∙ ap₂ _&&_ w2 (c .before .before .both .ensures ∙ ap₂ _&&_ w3 w4))
 
 pub slacks-kept-spec : {M : Type 1} → statement M
 slacks-kept-spec =
     tie.close
     (tie.spec
     slack-limit-requires
-    within-requires
-    within-requires-2
     sub-slack-limit
     slack-limit-requires-2
-    within-requires-3
     sub-slack-limit-2
     slack-limit-requires-3
+    within-requires
+    within-requires-2
+    within-requires-3
     within-requires-4
-    returns
-    returns-2
-    returns-3
-    returns-4)
+    both-requires
+    both-requires-2
+    both-requires-3
+    returns)

@@ -1,10 +1,26 @@
+-- [head]
+use mathlib.Core.Path.{_≡_, refl, sym, ap, ap₂, _∙_, subst}
+use Prim.Native.Nat.{ℕ, zero, suc, _+_, _*_, _-_, _^_, _<_, _≤_}
+use native.Mathlib.Omega.{arith}
+use denote.Ref.{now}
+use Rattle.plan.proofs.Values.{kept}
 use borrow.Author.Needs.{needs}
+use Rattle.case.specs.Layout.{nodesOf}
+use Rattle.numbers.specs.SignedParts.{posPart}
+use lib.IntN.{ℤ}
+-- [/head]
 use Rattle.plan.proofs.rows.arc_row.Statement.{statement}
 use Rattle.plan.proofs.rows.arc_row.Tie as tie
 use Rattle.plan.proofs.rows.arc_row.Reads as reads
 use Rattle.plan.proofs.rows.arc_row.Lts as lts
 use Rattle.numbers.proofs.compare.at.Reads as at-reads
 use Rattle.numbers.proofs.compare.index.Reads as index-reads
+
+-- [pre]
+-- the case's count of nodes
+nodes-is : (c : tie.After-index) → c .index .result ≡ nodesOf (now (c .before .before .args .case))
+nodes-is c = c .index .ensures ∙ ap posPart (kept _ (c .before .at .ok) ∙ c .before .at .ensures)
+-- [/pre]
 
 -- src/rows.rt:59:23
 at-requires : tie.Need-at-requires
@@ -16,7 +32,7 @@ index-requires c κs = search needs
 
 -- src/rows.rt:60:17
 mul-first : tie.Need-mul-first
-mul-first c = ?
+mul-first c = let n = nodes-is c in omega (arith, n, c .before .before .pre .0 .nodes)
 
 -- src/rows.rt:60:29
 mul-first-2 : tie.Need-mul-first-2
@@ -24,7 +40,7 @@ mul-first-2 c = search needs
 
 -- src/rows.rt:60:17
 add-first : tie.Need-add-first
-add-first c = ?
+add-first c = let n = nodes-is c in omega (arith, n, c .before .before .pre .0 .nodes, c .before .before .pre .0 .arcs, c .before .before .pre .1)
 
 -- src/rows.rt:62:12
 at-requires-2 : tie.Need-at-requires-2
@@ -32,7 +48,7 @@ at-requires-2 c κs = search needs
 
 -- src/rows.rt:63:20
 add-at : tie.Need-add-at
-add-at c = ?
+add-at c = let n = nodes-is (c .before) in omega (arith, n, c .before .before .before .pre .0 .nodes, c .before .before .before .pre .0 .arcs, c .before .before .before .pre .1)
 
 -- src/rows.rt:63:12
 at-requires-3 : tie.Need-at-requires-3
@@ -40,7 +56,7 @@ at-requires-3 c κs = search needs
 
 -- src/rows.rt:64:26
 add-at-2 : tie.Need-add-at-2
-add-at-2 c = ?
+add-at-2 c = let n = nodes-is (c .before .before) in omega (arith, n, c .before .before .before .before .pre .0 .nodes, c .before .before .before .before .pre .0 .arcs, c .before .before .before .before .pre .1)
 
 -- src/rows.rt:64:18
 at-requires-4 : tie.Need-at-requires-4
@@ -48,7 +64,7 @@ at-requires-4 c κs = search needs
 
 -- src/rows.rt:65:27
 add-at-3 : tie.Need-add-at-3
-add-at-3 c = ?
+add-at-3 c = let n = nodes-is (c .before .before .before) in omega (arith, n, c .before .before .before .before .before .pre .0 .nodes, c .before .before .before .before .before .pre .0 .arcs, c .before .before .before .before .before .pre .1)
 
 -- src/rows.rt:65:19
 at-requires-5 : tie.Need-at-requires-5
@@ -56,7 +72,13 @@ at-requires-5 c κs = search needs
 
 -- src/rows.rt:55:1
 returns : tie.Need-returns
-returns c = ?
+returns c = 
+    let n = nodes-is (c .before .before .before .before) in
+    let k0 = kept _ (c .before .before .before .at2 .ok) ∙ rw n at (c .before .before .before .at2 .ensures) in
+    let k1 = kept _ (c .before .before .at3 .ok) ∙ rw n at (c .before .before .at3 .ensures) in
+    let k2 = kept _ (c .before .at4 .ok) ∙ rw n at (c .before .at4 .ensures) in
+    let k3 = kept _ (c .at5 .ok) ∙ rw n at (c .at5 .ensures) in
+    rw (k0, k1, k2, k3)
 
 pub arc-row-spec : {M : Type 1} → statement M
 arc-row-spec =

@@ -1,10 +1,29 @@
+-- [head]
+use mathlib.Core.Path.{_≡_, refl, sym, ap, ap₂, _∙_, subst}
+use Prim.Native.Nat.{ℕ, zero, suc, _+_, _*_, _-_, _^_, _<_, _≤_}
+use native.Mathlib.Omega.{arith}
+use denote.Ref.{now}
+use Rattle.plan.proofs.Values.{kept}
 use borrow.Author.Needs.{needs}
+use Rattle.case.specs.Layout.{nodesOf, arcsOf}
+use Rattle.numbers.specs.SignedParts.{posPart}
+use lib.IntN.{ℤ}
+-- [/head]
 use Rattle.plan.proofs.rows.choice_of.Statement.{statement}
 use Rattle.plan.proofs.rows.choice_of.Tie as tie
 use Rattle.plan.proofs.rows.choice_of.Reads as reads
 use Rattle.plan.proofs.rows.choice_of.Lts as lts
 use Rattle.numbers.proofs.compare.at.Reads as at-reads
 use Rattle.numbers.proofs.compare.index.Reads as index-reads
+
+-- [pre]
+-- the case's counts of nodes and of arcs
+nodes-is : (c : tie.After-index) → c .index .result ≡ nodesOf (now (c .before .before .args .case))
+nodes-is c = c .index .ensures ∙ ap posPart (kept _ (c .before .at .ok) ∙ c .before .at .ensures)
+
+arcs-is : (c : tie.After-index2) → c .index2 .result ≡ arcsOf (now (c .before .before .before .before .args .case))
+arcs-is c = c .index2 .ensures ∙ ap posPart (kept _ (c .before .at2 .ok) ∙ c .before .at2 .ensures)
+-- [/pre]
 
 -- src/rows.rt:73:23
 at-requires : tie.Need-at-requires
@@ -24,15 +43,15 @@ index-requires-2 c κs = search needs
 
 -- src/rows.rt:75:17
 mul-first : tie.Need-mul-first
-mul-first c = ?
+mul-first c = let n = nodes-is (c .before .before) in omega (arith, n, c .before .before .before .before .pre .0 .nodes)
 
 -- src/rows.rt:75:29
 mul-first-2 : tie.Need-mul-first-2
-mul-first-2 c = ?
+mul-first-2 c = let m = arcs-is c in omega (arith, m, c .before .before .before .before .pre .0 .arcs)
 
 -- src/rows.rt:75:17
 add-first : tie.Need-add-first
-add-first c = ?
+add-first c = let n = nodes-is (c .before .before) in let m = arcs-is c in omega (arith, n, m, c .before .before .before .before .pre .0 .nodes, c .before .before .before .before .pre .0 .arcs)
 
 -- src/rows.rt:75:40
 mul-first-3 : tie.Need-mul-first-3
@@ -40,7 +59,7 @@ mul-first-3 c = search needs
 
 -- src/rows.rt:75:17
 add-first-2 : tie.Need-add-first-2
-add-first-2 c = ?
+add-first-2 c = let n = nodes-is (c .before .before) in let m = arcs-is c in omega (arith, n, m, c .before .before .before .before .pre .0 .nodes, c .before .before .before .before .pre .0 .arcs, c .before .before .before .before .pre .0 .stations, c .before .before .before .before .pre .1)
 
 -- src/rows.rt:77:20
 at-requires-3 : tie.Need-at-requires-3
@@ -48,7 +67,7 @@ at-requires-3 c κs = search needs
 
 -- src/rows.rt:78:24
 add-at : tie.Need-add-at
-add-at c = ?
+add-at c = let n = nodes-is (c .before .before .before) in let m = arcs-is (c .before) in omega (arith, n, m, c .before .before .before .before .before .pre .0 .nodes, c .before .before .before .before .before .pre .0 .arcs, c .before .before .before .before .before .pre .0 .stations, c .before .before .before .before .before .pre .1)
 
 -- src/rows.rt:78:16
 at-requires-4 : tie.Need-at-requires-4
@@ -56,7 +75,12 @@ at-requires-4 c κs = search needs
 
 -- src/rows.rt:69:1
 returns : tie.Need-returns
-returns c = ?
+returns c = 
+    let n = nodes-is (c .before .before .before .before) in
+    let m = arcs-is (c .before .before) in
+    let k0 = kept _ (c .before .at3 .ok) ∙ rw (n, m) at (c .before .at3 .ensures) in
+    let k1 = kept _ (c .at4 .ok) ∙ rw (n, m) at (c .at4 .ensures) in
+    rw (k0, k1)
 
 pub choice-of-spec : {M : Type 1} → statement M
 choice-of-spec =

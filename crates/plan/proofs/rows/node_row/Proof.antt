@@ -1,4 +1,9 @@
+-- [head]
+use mathlib.Core.Path.{_≡_, refl, sym, ap, ap₂, _∙_, subst}
+use denote.Ref.{now}
+use Rattle.plan.proofs.Values.{kept}
 use borrow.Author.Needs.{needs}
+-- [/head]
 use Rattle.plan.proofs.rows.node_row.Statement.{statement}
 use Rattle.plan.proofs.rows.node_row.Tie as tie
 use Rattle.plan.proofs.rows.node_row.Reads as reads
@@ -55,7 +60,15 @@ at-requires-6 c κs = search needs
 
 -- src/rows.rt:32:1
 returns : tie.Need-returns
-returns c = ?
+returns c = 
+    let a = c .before .before .before .before .before .before .args in
+    let k0 = kept _ (c .before .before .before .before .before .at .ok) ∙ c .before .before .before .before .before .at .ensures in
+    let k1 = kept _ (c .before .before .before .before .at2 .ok) ∙ c .before .before .before .before .at2 .ensures in
+    let k2 = kept _ (c .before .before .before .at3 .ok) ∙ c .before .before .before .at3 .ensures in
+    let k3 = kept _ (c .before .before .at4 .ok) ∙ c .before .before .at4 .ensures in
+    let k4 = kept _ (c .before .at5 .ok) ∙ c .before .at5 .ensures in
+    let k5 = kept _ (c .at6 .ok) ∙ c .at6 .ensures in
+    rw (k0, k1, k2, k3, k4, k5)
 
 pub node-row-spec : {M : Type 1} → statement M
 node-row-spec =

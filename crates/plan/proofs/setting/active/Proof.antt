@@ -1,4 +1,11 @@
+-- [head]
+use mathlib.Core.Path.{_≡_, refl, sym, ap, ap₂, _∙_, subst}
+use Prim.Native.Nat.{ℕ, zero, suc, _+_, _*_, _-_, _^_, _<_, _≤_}
+use native.Mathlib.Omega.{arith}
+use borrow.Author.Tests.{ltb-true, ltb-false, leb-true, leb-false, eqb-true, eqb-false, not-true, not-false, lt-ltb, le-ltb, le-leb, lt-leb, eq-eqb, ne-eqb}
 use borrow.Author.Needs.{needs}
+use Rattle.plan.specs.Setting.{activeOf}
+-- [/head]
 use Rattle.plan.proofs.setting.active.Statement.{statement}
 use Rattle.plan.proofs.setting.active.Tie as tie
 use Rattle.plan.proofs.setting.active.Reads as reads
@@ -29,27 +36,40 @@ combined-requires c κs = search needs
 
 -- src/setting.rt:65:1
 returns : tie.Need-returns
-returns c = ?
+unfolding activeOf
+returns c = rw (c .before .match .keys1) (c .valve .ensures)
 
 -- src/setting.rt:65:1
 returns-2 : tie.Need-returns-2
-returns-2 c = ?
+unfolding activeOf
+returns-2 c = rw (c .before .match .keys2) (c .directed .ensures)
 
 -- src/setting.rt:65:1
 returns-3 : tie.Need-returns-3
-returns-3 c = ?
+unfolding activeOf
+returns-3 c = rw (c .before .match .keys3) (c .directed2 .ensures)
 
 -- src/setting.rt:65:1
 returns-4 : tie.Need-returns-4
-returns-4 c = ?
+unfolding activeOf
+returns-4 c = rw (c .before .match .keys4) (c .directed3 .ensures)
 
 -- src/setting.rt:65:1
 returns-5 : tie.Need-returns-5
-returns-5 c = ?
+unfolding activeOf
+returns-5 c = 
+    let k = c .before .before .args .kind in
+    let n : k ≤ 2 = omega arith in
+    rw (ne-eqb _ _ (c .before .match .rest .0 .0 .0 .1), le-leb _ _ n)
 
 -- src/setting.rt:65:1
 returns-6 : tie.Need-returns-6
-returns-6 c = ?
+unfolding activeOf
+returns-6 c = 
+    let k = c .before .before .before .args .kind in
+    let r = c .before .before .match .rest in
+    let n : 2 < k = omega arith in
+    rw (ne-eqb _ _ (r .0 .0 .0 .1), lt-leb _ _ n, ne-eqb _ _ (r .0 .0 .1), ne-eqb _ _ (r .0 .1), ne-eqb _ _ (r .1)) (c .combined .ensures)
 
 pub active-spec : {M : Type 1} → statement M
 active-spec =

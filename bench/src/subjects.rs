@@ -1,0 +1,35 @@
+//! What is read and written.
+
+use inputs::Rng;
+use inputs::bytes::encode;
+use inputs::generate::{Size, of_size};
+
+pub struct Subject {
+    pub name: &'static str,
+    pub list: Vec<i64>,
+    pub bytes: Vec<u8>,
+}
+
+/// Numbers in each list that is not a case or a plan.
+const COUNT: usize = 40_000;
+
+pub fn subjects() -> Vec<Subject> {
+    let mut rng = Rng::new(1);
+    let pair = of_size(&mut rng, Size::LARGEST);
+    let any_size = |_| rng.bits() as i64 >> rng.below(64);
+    let mixed = (0..COUNT).map(any_size).collect();
+    let one_byte = (0..COUNT as i64).map(|number| number % 64).collect();
+    let ends = [i64::MIN, i64::MAX].repeat(COUNT / 2);
+    vec![
+        subject("largest case", pair.case.list()),
+        subject("largest plan", pair.plan.list()),
+        subject("one byte each", one_byte),
+        subject("any size", mixed),
+        subject("both ends of i64", ends),
+    ]
+}
+
+fn subject(name: &'static str, list: Vec<i64>) -> Subject {
+    let bytes = encode(&list).bytes;
+    Subject { name, list, bytes }
+}

@@ -1,0 +1,62 @@
+-- One item of a rule: what its question is answered, by what was found of the item.
+-- Assumes nothing.
+use mathlib.Core.Path.{_≡_, refl, sym, ap, _∙_}
+use mathlib.Core.Bool.{Bool, true, false}
+use mathlib.Core.List.{List, [], _∷_}
+use Prim.Native.Nat.{ℕ, _<_, _≤_}
+use borrow.Author.Tests.{le-leb, lt-leb}
+use lib.IntN.{ℤ, pos}
+use Rattle.numbers.specs.Sets.{memberOf}
+use Rattle.numbers.specs.Sum.{count}
+use Rattle.numbers.specs.Question.{firstNo, answer}
+use Rattle.numbers.specs.declared.answer.Answer.the-variants.{Yes, No}
+use Rattle.case.specs.declared.records.Layout.{Layout}
+use Rattle.case.specs.Layout.{stationsOf, arcsOf, stationAt, directionsAt}
+use Rattle.case.specs.Laid.{Laid, inSet}
+use Rattle.case.specs.StationArcs.{arcsBefore, stationArcs, every}
+use Rattle.case.specs.StationNodes.{stationNodes, plainNodes}
+use Rattle.case.specs.OneStation.{inStation, oneStation}
+use Rattle.case.specs.StationSize.{stationSize}
+use Rattle.case.specs.Directions.{directionKept, directionSets}
+use Rattle.case.specs.States.{stationKept, stateSets}
+use Rattle.case.specs.CountLaws.{count-same}
+
+-- 14: the stations that have the node, by the layout's sets
+pub stations-with : {l : List ℤ} {y : Layout} → Laid l y → (v : ℕ) → count (y .stations) (inSet (y .inside) v) ≡ count (stationsOf l) (inStation l v)
+stations-with {l} {y} h v = rw (h .stations) (count-same (inSet (y .inside) v) (inStation l v) (stationsOf l) (λ s p. ap (λ (z : ℤ). memberOf z v) (h .inside .each s p)))
+
+pub one-no : (l : List ℤ) (v : ℕ) {n : ℕ} → n ≡ count (stationsOf l) (inStation l v) → 1 < n → No 14 0 v ≡ firstNo (oneStation l v)
+unfolding oneStation
+one-no l v e h = rw (← e, lt-leb _ _ h)
+
+pub one-yes : (l : List ℤ) (v : ℕ) {n : ℕ} → n ≡ count (stationsOf l) (inStation l v) → n ≤ 1 → Yes ≡ firstNo (oneStation l v)
+unfolding oneStation
+one-yes l v e h = rw (← e, le-leb _ _ h)
+
+-- 15
+pub size-no : (l : List ℤ) (s : ℕ) {n : ℕ} → n ≡ stationArcs l s → 30 < n → No 15 0 s ≡ firstNo (stationSize l s)
+unfolding stationSize
+size-no l s e h = rw (← e, lt-leb _ _ h)
+
+pub size-yes : (l : List ℤ) (s : ℕ) {n : ℕ} → n ≡ stationArcs l s → n ≤ 30 → Yes ≡ firstNo (stationSize l s)
+unfolding stationSize
+size-yes l s e h = rw (← e, le-leb _ _ h)
+
+-- 16: the answer by what was found of all directions
+pub directions-asked : (l : List ℤ) (s row : ℕ) (inside plain : ℤ) {b v : Bool} → row ≡ stationAt l s → inside ≡ stationNodes l s → plain ≡ plainNodes l
+    → b ≡ every (directionsAt l row) (directionKept l row inside plain) → b ≡ v → answer v 16 0 s ≡ firstNo (directionSets l s)
+unfolding directionSets
+directions-asked l s row inside plain {v = v} r i p e w = rw (← r, ← i, ← p, sym e ∙ w) (single v)
+  where
+    single : (v : Bool) → answer v 16 0 s ≡ firstNo (record { yes = v; number = 16; step = 0; place = s } ∷ [])
+    single true = refl
+    single false = refl
+
+-- 17
+pub states-asked : (l : List ℤ) (s : ℕ) {b v : Bool} → b ≡ stationKept l s → b ≡ v → answer v 17 0 s ≡ firstNo (stateSets l s)
+unfolding stateSets
+states-asked l s {v = v} e w = rw (sym e ∙ w) (single v)
+  where
+    single : (v : Bool) → answer v 17 0 s ≡ firstNo (record { yes = v; number = 17; step = 0; place = s } ∷ [])
+    single true = refl
+    single false = refl

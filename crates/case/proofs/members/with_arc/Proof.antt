@@ -1,0 +1,31 @@
+use mathlib.Core.Path.{sym, _∙_}
+use Prim.Native.Nat.{_<_, _^_}
+use native.Mathlib.Omega.{arith}
+use borrow.Author.Needs.{needs}
+use lib.Pow.{pow-lt}
+use Rattle.case.proofs.Counting.{shifted}
+use Rattle.case.proofs.members.with_arc.Statement.{statement}
+use Rattle.case.proofs.members.with_arc.Tie as tie
+
+active-requires : tie.Need-active-requires
+active-requires c κs = search needs
+
+shl-result : tie.Need-shl-result
+shl-result c = omega arith
+
+add-result : tie.Need-add-result
+add-result c =     let s = c .before .before in
+    let p : 2 ^ s .args .n < 2 ^ 62 = pow-lt (s .pre .0) in
+    rw (shifted (s .args .n) (omega arith)) (record { fits = omega (arith, s .pre .1) })
+
+returns : tie.Need-returns
+returns c =     let s = c .before .before in
+    let p : 2 ^ s .args .n < 2 ^ 62 = pow-lt (s .pre .0) in
+    rw (shifted (s .args .n) (omega arith), sym (c .before .active .ensures) ∙ c .if1 .taken)
+
+returns-2 : tie.Need-returns-2
+returns-2 c =     let s = c .before .before in
+    rw (sym (c .before .active .ensures) ∙ c .if1 .left) (omega arith)
+
+pub with-arc-spec : {M : Type 1} → statement M
+with-arc-spec = tie.close (tie.spec active-requires shl-result add-result returns returns-2)

@@ -1,0 +1,4 @@
+//! The proved gas plan library beside the second checker.
+#![deny(unsafe_code)]
+
+pub mod library;
