@@ -1,2 +1,3 @@
 pub mod Values
 pub mod Sums
+pub mod ArcLaws

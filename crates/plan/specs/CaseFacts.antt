@@ -32,7 +32,7 @@ use Rattle.case.specs.OneStation.{allOneStation}
 use Rattle.case.specs.StationSize.{stationSize, allStationSizes}
 use Rattle.case.specs.Directions.{allDirectionSets}
 use Rattle.case.specs.States.{stateKept, machinesKept, startKept, startSet, stationKept, stateSets, allStateSets}
-use Rattle.case.specs.Judged.{rowQuestions, listQuestions, ruleQuestions, caseQuestions}
+use Rattle.case.specs.Judged.{rowQuestions, listQuestions, earlyRules, ruleQuestions, caseQuestions}
 use Rattle.case.specs.Bounds.{Counted}
 use Rattle.plan.specs.Pipes.{duration}
 use Rattle.plan.specs.Sizes.{NodeSized, PipeSized, MachinesSized}
@@ -177,7 +177,7 @@ module _ {case : List ℤ} (c : AcceptedCase case) where
         let r4 = field-yes case (row + 4) (numberAt case (row + 2)) mostPressure (first-yes f4 f5 b2) in
         let r5 = field-yes case (row + 5) (numberAt case (row + 4)) (numberAt case (row + 3)) (second-yes f4 f5 b2) in
         let rd : InRange case (row + (nodeHeadWidth + i)) (leastDemand kind) (mostDemand kind) =
-            at-index (omega arith) (fields-yes case (row + nodeHeadWidth) (stepsOf case) (leastDemand kind) (mostDemand kind) d i q) in
+        at-index (omega arith) (fields-yes case (row + nodeHeadWidth) (stepsOf case) (leastDemand kind) (mostDemand kind) d i q) in
         let s2 = bounded 200000 r2 (omega arith) (omega arith) in
         let s3 = bounded 200000 r3 (omega arith) (omega arith) in
         let s4 = bounded 200000 r4 (s2 .bound) (omega arith) in
@@ -291,15 +291,20 @@ module _ {case : List ℤ} (c : AcceptedCase case) where
   past-stations : firstNo (allStationFields case) ≡ Yes
   past-stations = first-yes (allStationFields case) (leftover case) past-arcs
 
-  after-13 : firstNo (allOneStation case ++ (allStationSizes case ++ (allDirectionSets case ++ allStateSets case))) ≡ Yes
+  early-yes : firstNo (earlyRules case) ≡ Yes
   unfolding ruleQuestions
-  after-13 = second-yes (allArcEnds case) (allOneStation case ++ (allStationSizes case ++ (allDirectionSets case ++ allStateSets case))) rules-yes
+  early-yes = first-yes (earlyRules case) (allStateSets case) rules-yes
 
-  after-14 : firstNo (allStationSizes case ++ (allDirectionSets case ++ allStateSets case)) ≡ Yes
-  after-14 = second-yes (allOneStation case) (allStationSizes case ++ (allDirectionSets case ++ allStateSets case)) after-13
+  states-yes : firstNo (allStateSets case) ≡ Yes
+  unfolding ruleQuestions
+  states-yes = second-yes (earlyRules case) (allStateSets case) rules-yes
 
-  after-15 : firstNo (allDirectionSets case ++ allStateSets case) ≡ Yes
-  after-15 = second-yes (allStationSizes case) (allDirectionSets case ++ allStateSets case) after-14
+  after-13 : firstNo (allOneStation case ++ (allStationSizes case ++ allDirectionSets case)) ≡ Yes
+  unfolding earlyRules
+  after-13 = second-yes (allArcEnds case) (allOneStation case ++ (allStationSizes case ++ allDirectionSets case)) early-yes
+
+  after-14 : firstNo (allStationSizes case ++ allDirectionSets case) ≡ Yes
+  after-14 = second-yes (allOneStation case) (allStationSizes case ++ allDirectionSets case) after-13
 
   module _ (s : ℕ) (p : s < stationsOf case) where
     row-yes : firstNo (rowFields case (stationAt case s)) ≡ Yes
@@ -377,13 +382,13 @@ module _ {case : List ℤ} (c : AcceptedCase case) where
     pub station-size : stationArcs case s ≤ 30
     unfolding allStationSizes stationSize
     station-size =
-        let a = item-yes (stationSize case) (stationsOf case) (first-yes (allStationSizes case) (allDirectionSets case ++ allStateSets case) after-14) s p in
+        let a = item-yes (stationSize case) (stationsOf case) (first-yes (allStationSizes case) (allDirectionSets case) after-14) s p in
         leb-true _ _ (all-yes (stationSize case s) a .0)
 
     own-kept : stationKept case s ≡ true
     unfolding allStateSets stateSets
     own-kept =
-        let a = item-yes (stateSets case) (stationsOf case) (second-yes (allDirectionSets case) (allStateSets case) after-15) s p in
+        let a = item-yes (stateSets case) (stationsOf case) states-yes s p in
         all-yes (stateSets case s) a .0
 
     -- 17: the machines of the station's arcs are its own

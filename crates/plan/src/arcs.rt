@@ -6,19 +6,22 @@ ghost use Rattle.plan.specs.PlanRecords.{pressureIn};
 ghost use Rattle.plan.specs.ArcRules.{arcQuestions, allArcQuestions};
 ghost use Rattle.plan.specs.Sizes.{PressuresSized};
 ghost use Rattle.plan.specs.Handed.{AtStep, AtArc};
-use numbers::answer::Answer;
-use numbers::answer::or_else;
-use case::records::Layout;
 use super::flows::flow_answer;
 use super::pipes::pipe_answer;
 use super::pressures::pressure_answer;
+use case::records::Layout;
+use numbers::answer::Answer;
+use numbers::answer::or_else;
 
 // 28 and 29 lean on 24, by which no product is too large.
 fn arc_answer(case: &[i64], old: &[i64], row: &[i64], layout: Layout, i: usize, e: usize) -> Answer
     requires { ⌜ (AtArc (now case) (now row) layout i e) × (PressuresSized (numberAt (now old)) (nodesOf (now case))) ⌝ }
     ensures { λ r. ⌜ r ≡ firstNo (arcQuestions (now (case .entry)) (numberAt (now (old .entry))) (now (row .entry)) i e) ⌝ }
 {
-    let a = or_else(flow_answer(case, row, i, e), pressure_answer(case, row, layout, i, e));
+    let a = or_else(
+        flow_answer(case, row, i, e),
+        pressure_answer(case, row, layout, i, e),
+    );
     match a {
         Answer::Yes => pipe_answer(case, old, row, i, e),
         Answer::No {
@@ -29,7 +32,13 @@ fn arc_answer(case: &[i64], old: &[i64], row: &[i64], layout: Layout, i: usize, 
     }
 }
 
-pub(crate) fn arc_answers(case: &[i64], old: &[i64], row: &[i64], layout: Layout, i: usize) -> Answer
+pub(crate) fn arc_answers(
+    case: &[i64],
+    old: &[i64],
+    row: &[i64],
+    layout: Layout,
+    i: usize,
+) -> Answer
     requires { ⌜ (AtStep (now case) layout i) × (PressuresSized (numberAt (now old)) (nodesOf (now case))) × (PressuresSized (pressureIn (now row)) (nodesOf (now case))) ⌝ }
     ensures { λ r. ⌜ r ≡ firstNo (allArcQuestions (now (case .entry)) (numberAt (now (old .entry))) (now (row .entry)) i) ⌝ }
 {

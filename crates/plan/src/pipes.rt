@@ -9,17 +9,17 @@ ghost use Rattle.plan.specs.PlanRecords.{pressureIn};
 ghost use Rattle.plan.specs.Pipes.{duration, change, pipeResidual, pressureBalance};
 ghost use Rattle.plan.specs.ArcRules.{pipeQuestions};
 ghost use Rattle.plan.specs.Handed.{AcceptedCase, AtFlow, AtPipe};
+use super::rows::arc_row;
+use super::rows::pressure;
+use case::read::arc;
+use case::read::pipe;
+use case::read::time;
+use case::read::time_before;
 use numbers::answer::Answer;
 use numbers::answer::ask;
 use numbers::answer::or_else;
 use numbers::compare::at;
 use numbers::compare::at_most;
-use case::read::arc;
-use case::read::pipe;
-use case::read::time;
-use case::read::time_before;
-use super::rows::arc_row;
-use super::rows::pressure;
 
 // The size of a number that is not the least of its type.
 pub(crate) fn size(x: i64) -> usize

@@ -13,18 +13,6 @@ ghost use Rattle.plan.specs.ArcMachines.{machinesCarry, modeMachines, ma
 ghost use Rattle.plan.specs.ArcRules.{pressureQuestions};
 ghost use Rattle.plan.specs.Sizes.{MachinesSized};
 ghost use Rattle.plan.specs.Handed.{AtArc, Compresses};
-use numbers::answer::Answer;
-use numbers::answer::ask;
-use numbers::answer::or_else;
-use numbers::compare::at_most;
-use numbers::compare::same;
-use numbers::sets::count;
-use case::read::arc;
-use case::read::artificial;
-use case::read::node;
-use case::records::Artificial;
-use case::records::Layout;
-use super::bools::both;
 use super::machines::machine_flow;
 use super::machines::machine_gain;
 use super::rows::arc_row;
@@ -33,10 +21,21 @@ use super::setting::Mode;
 use super::setting::Setting;
 use super::setting::Way;
 use super::setting::setting_of;
+use case::read::arc;
+use case::read::artificial;
+use case::read::node;
+use case::records::Artificial;
+use case::records::Layout;
+use numbers::answer::Answer;
+use numbers::answer::ask;
+use numbers::answer::or_else;
+use numbers::compare::at_most;
+use numbers::compare::same;
+use numbers::sets::count;
 
 // Where the rows of station `s` begin.
 fn home(layout: Layout, s: usize) -> usize
-    ensures { λ r. ⌜ (s < 8 → r ≡ getD (layout .rows) s 0) ⌝ }
+    ensures { λ r. ⌜ r ≡ getD (layout .rows) s 0 ⌝ }
 {
     if s < 8 { layout.rows[s] } else { 0 }
 }
@@ -52,23 +51,40 @@ fn out_bound(x: Artificial) -> i64
 }
 
 // Compressing from node `u` to node `w`; the rows of the arc's station begin at `first`.
-fn compression_kept(case: &[i64], row: &[i64], first: usize, i: usize, e: usize, u: usize, w: usize) -> bool
+fn compression_kept(
+    case: &[i64],
+    row: &[i64],
+    first: usize,
+    i: usize,
+    e: usize,
+    u: usize,
+    w: usize,
+) -> bool
     requires { ⌜ Compresses (now case) (now row) first i e u w ⌝ }
     ensures { λ r. ⌜ r ≡ compressionKept (now (case .entry)) (now (row .entry)) i e u w ⌝ }
 {
     let p_in = pressure(row, u);
     let p_out = pressure(row, w);
-    let bound = out_bound(artificial(case, e));
-    let ratio = 1000 + machine_gain(case, first, arc_row(case, row, e).machines);
-    let reach = node(case, u, i).p0 * ratio;
-    both(
-        at_most(p_in, p_out),
-        both(at_most(p_out, bound), at_most(1000 * p_out, reach)),
-    )
+    if at_most(p_in, p_out) {
+        if at_most(p_out, out_bound(artificial(case, e))) {
+            let ratio = 1000 + machine_gain(case, first, arc_row(case, row, e).machines);
+            return at_most(1000 * p_out, node(case, u, i).p0 * ratio);
+        }
+    }
+    false
 }
 
 // An active arc from node `u` to node `w`.
-fn mode_pressures(case: &[i64], row: &[i64], layout: Layout, i: usize, e: usize, mode: Mode, u: usize, w: usize) -> bool
+fn mode_pressures(
+    case: &[i64],
+    row: &[i64],
+    layout: Layout,
+    i: usize,
+    e: usize,
+    mode: Mode,
+    u: usize,
+    w: usize,
+) -> bool
     requires { ⌜ (AtArc (now case) (now row) layout i e) × (u < nodesOf (now case)) × (w < nodesOf (now case)) × (mode ≡ modes.Compressing → 3 ≤ arcOf (now case) e .kind) ⌝ }
     ensures { λ r. ⌜ r ≡ modePressures (now (case .entry)) (now (row .entry)) i e mode u w ⌝ }
 {
@@ -82,7 +98,14 @@ fn mode_pressures(case: &[i64], row: &[i64], layout: Layout, i: usize, e: usize,
     }
 }
 
-fn setting_pressures(case: &[i64], row: &[i64], layout: Layout, i: usize, e: usize, setting: Setting) -> bool
+fn setting_pressures(
+    case: &[i64],
+    row: &[i64],
+    layout: Layout,
+    i: usize,
+    e: usize,
+    setting: Setting,
+) -> bool
     requires { ⌜ (AtArc (now case) (now row) layout i e) × (setting ≡ settingIn (now case) (now row) e) ⌝ }
     ensures { λ r. ⌜ r ≡ settingPressures (now (case .entry)) (now (row .entry)) i e setting ⌝ }
 {
@@ -108,7 +131,14 @@ fn pressures_kept(case: &[i64], row: &[i64], layout: Layout, i: usize, e: usize)
     let kind = c.kind;
     match kind {
         1 => at_most(pressure(row, c.to), pressure(row, c.from)),
-        _ => setting_pressures(case, row, layout, i, e, setting_of(kind, arc_row(case, row, e).setting)),
+        _ => setting_pressures(
+            case,
+            row,
+            layout,
+            i,
+            e,
+            setting_of(kind, arc_row(case, row, e).setting),
+        ),
     }
 }
 
@@ -118,14 +148,23 @@ fn machines_carry(case: &[i64], row: &[i64], first: usize, e: usize, flow: i64) 
     ensures { λ r. ⌜ r ≡ machinesCarry (now (case .entry)) (now (row .entry)) e flow ⌝ }
 {
     let machines = arc_row(case, row, e).machines;
-    both(
-        count(machines) <= artificial(case, e).most,
-        at_most(flow, machine_flow(case, first, machines)),
-    )
+    if count(machines) <= artificial(case, e).most {
+        at_most(flow, machine_flow(case, first, machines))
+    } else {
+        false
+    }
 }
 
 // The machines of an active arc with the flow `flow` in the setting's direction.
-fn mode_machines(case: &[i64], row: &[i64], layout: Layout, i: usize, e: usize, mode: Mode, flow: i64) -> bool
+fn mode_machines(
+    case: &[i64],
+    row: &[i64],
+    layout: Layout,
+    i: usize,
+    e: usize,
+    mode: Mode,
+    flow: i64,
+) -> bool
     requires { ⌜ (AtArc (now case) (now row) layout i e) × (mode ≡ modes.Compressing → 3 ≤ arcOf (now case) e .kind) ⌝ }
     ensures { λ r. ⌜ r ≡ modeMachines (now (case .entry)) (now (row .entry)) e mode flow ⌝ }
 {
@@ -156,7 +195,13 @@ fn machines_used(case: &[i64], row: &[i64], layout: Layout, i: usize, e: usize) 
     }
 }
 
-pub(crate) fn pressure_answer(case: &[i64], row: &[i64], layout: Layout, i: usize, e: usize) -> Answer
+pub(crate) fn pressure_answer(
+    case: &[i64],
+    row: &[i64],
+    layout: Layout,
+    i: usize,
+    e: usize,
+) -> Answer
     requires { ⌜ AtArc (now case) (now row) layout i e ⌝ }
     ensures { λ r. ⌜ r ≡ firstNo (pressureQuestions (now (case .entry)) (now (row .entry)) i e) ⌝ }
 {

@@ -1,44 +1,69 @@
+use native.Mathlib.Omega.{arith}
+use denote.Ref.{now}
+use Rattle.case.specs.Layout.{numberAt}
+use Rattle.plan.specs.ArcRules.{flowQuestions, pressureQuestions, pipeQuestions, arcQuestions}
+use Rattle.plan.specs.CaseFacts.{counted}
+use Rattle.plan.specs.Kept.{arc-sized}
+use Rattle.plan.proofs.ArcLaws.{went-on, stopped, first-four}
 use borrow.Author.Needs.{needs}
 use Rattle.plan.proofs.arcs.arc_answer.Statement.{statement}
 use Rattle.plan.proofs.arcs.arc_answer.Tie as tie
-use Rattle.plan.proofs.arcs.arc_answer.Reads as reads
-use Rattle.plan.proofs.arcs.arc_answer.Lts as lts
-use Rattle.numbers.proofs.answer.or_else.Reads as or-else-reads
-use Rattle.plan.proofs.flows.flow_answer.Reads as flow-answer-reads
-use Rattle.plan.proofs.pipes.pipe_answer.Reads as pipe-answer-reads
-use Rattle.plan.proofs.pressures.pressure_answer.Reads as pressure-answer-reads
 
--- src/arcs.rt:21:21
 flow-answer-requires : tie.Need-flow-answer-requires
-flow-answer-requires c κs = ?
+flow-answer-requires c κs = let a = c .pre .0 in (a .at .accepted, omega (arith, a .at .step, counted (a .at .accepted) .steps), a .arc)
 
--- src/arcs.rt:21:51
 pressure-answer-requires : tie.Need-pressure-answer-requires
 pressure-answer-requires c κs = search needs
 
--- src/arcs.rt:21:9
 or-else-requires : tie.Need-or-else-requires
 or-else-requires c κs = search needs
 
--- src/arcs.rt:23:24
 enum-told : tie.Need-enum-told
 enum-told c = search needs
 
--- src/arcs.rt:23:24
 pipe-answer-requires : tie.Need-pipe-answer-requires
-pipe-answer-requires c κs = ?
+pipe-answer-requires c κs =
+    let o = c .before .before in
+    let s = o .before .before .before in
+    let a = s .pre .0 in
+    let case = now (s .args .case) in
+    let row = now (s .args .row) in
+    let i = s .args .i in
+    let e = s .args .e in
+    let y = first-four (flowQuestions case row i e) (pressureQuestions case row i e) (pipeQuestions case (numberAt (now (s .args .old))) row i e) (o .before .before .flow-answer .ensures) (o .before .pressure-answer .ensures) (o .or-else .ensures) (c .enum-told .given .1) in
+    record {
+      accepted = a .at .accepted;
+      step = a .at .step;
+      arc = a .arc;
+      before = s .pre .1;
+      pressures = a .pressures;
+      flows = arc-sized case (numberAt (now (s .args .old))) row i (a .at .accepted) e (a .arc) y;
+    }
 
--- src/arcs.rt:28:14
 enum-told-2 : tie.Need-enum-told-2
 enum-told-2 c = search needs
 
--- src/arcs.rt:17:1
 returns : tie.Need-returns
-returns c = ?
+unfolding arcQuestions
+returns c =
+    let o = c .before .before .before in
+    let s = o .before .before .before in
+    let case = now (s .args .case) in
+    let row = now (s .args .row) in
+    let i = s .args .i in
+    let e = s .args .e in
+    went-on (flowQuestions case row i e) (pressureQuestions case row i e) (pipeQuestions case (numberAt (now (s .args .old))) row i e) (o .before .before .flow-answer .ensures) (o .before .pressure-answer .ensures) (o .or-else .ensures) (c .before .enum-told .given .1) (c .pipe-answer .ensures)
 
--- src/arcs.rt:17:1
 returns-2 : tie.Need-returns-2
-returns-2 c = ?
+unfolding arcQuestions
+returns-2 c =
+    let o = c .before .before in
+    let s = o .before .before .before in
+    let case = now (s .args .case) in
+    let row = now (s .args .row) in
+    let i = s .args .i in
+    let e = s .args .e in
+    stopped (flowQuestions case row i e) (pressureQuestions case row i e) (pipeQuestions case (numberAt (now (s .args .old))) row i e) (o .before .before .flow-answer .ensures) (o .before .pressure-answer .ensures) (o .or-else .ensures) (c .enum-told2 .given .1)
 
 pub arc-answer-spec : {M : Type 1} → statement M
 arc-answer-spec =

@@ -1,49 +1,64 @@
+use mathlib.Core.Path.{_≡_, sym}
+use Prim.Native.Nat.{_-_, _≤_}
+use native.Mathlib.Omega.{arith}
+use denote.Ref.{now}
+use Rattle.numbers.specs.Question.{firstNo}
+use Rattle.numbers.specs.Items.{rest, rest-on, rest-no, rest-end}
+use Rattle.case.specs.Layout.{numberAt, arcsOf}
+use Rattle.plan.specs.ArcRules.{arcQuestions, allArcQuestions}
+use Rattle.plan.specs.CaseFacts.{counted}
+use borrow.Author.Needs.{needs}
+use borrow.Author.Needs.{needs}
 use Rattle.plan.proofs.arcs.arc_answers.Statement.{statement}
 use Rattle.plan.proofs.arcs.arc_answers.Tie as tie
-use Rattle.plan.proofs.arcs.arc_answers.Reads as reads
-use Rattle.plan.proofs.arcs.arc_answers.Lts as lts
-use Rattle.plan.proofs.arcs.arc_answer.Reads as arc-answer-reads
 
 abbrev Inv-loop : tie.InvT-loop
-Inv-loop case old row layout i arcs e₀ e = ?
+Inv-loop case old row layout i arcs e₀ e = (e ≤ arcs) × (firstNo (allArcQuestions case (numberAt old) row i) ≡ rest (arcQuestions case (numberAt old) row i) e arcs)
 
 abbrev μ-loop : tie.MeasureT-loop
-μ-loop case old row layout i arcs e₀ e = ?
+μ-loop case old row layout i arcs e₀ e = arcs - e
 
--- src/arcs.rt:38:5
 loop-holds : tie.Need-loop-holds Inv-loop μ-loop
-loop-holds c = ?
+unfolding allArcQuestions
+loop-holds c =
+    let e : c .args .layout .arcs - 0 ≡ arcsOf (now (c .args .case)) = omega (arith, c .pre .0 .laid .arcs) in
+    (omega arith, rw e)
 
--- src/arcs.rt:39:13
 arc-answer-requires : tie.Need-arc-answer-requires Inv-loop μ-loop
-arc-answer-requires c κs = ?
+arc-answer-requires c κs =
+    let s = c .before .before in
+    let p = s .pre .0 in
+    (record { at = p; arc = rw (p .laid .arcs) at (c .loop-test .taken); pressures = s .pre .2 }, s .pre .1)
 
 enum-told : tie.Need-enum-told Inv-loop μ-loop
-enum-told c = ?
+enum-told c = search needs
 
--- src/arcs.rt:47:17
 enum-told-2 : tie.Need-enum-told-2 Inv-loop μ-loop
-enum-told-2 c = ?
+enum-told-2 c = search needs
 
--- src/arcs.rt:47:17
 returns : tie.Need-returns Inv-loop μ-loop
-returns c = ?
+returns c =
+    let h = c .before .before .before .before in
+    let s = h .before in
+    sym (rest-no (arcQuestions (now (s .args .case)) (numberAt (now (s .args .old))) (now (s .args .row)) (s .args .i)) (h .loop .e) (s .args .layout .arcs) (h .loop .inv .1) (c .before .before .before .loop-test .taken) (c .before .before .arc-answer .ensures) (c .enum-told2 .given .1))
 
--- src/arcs.rt:50:9
 add-e : tie.Need-add-e Inv-loop μ-loop
-add-e c = ?
+add-e c = let s = c .before .before .before .before .before in omega (arith, s .pre .0 .laid .arcs, counted (s .pre .0 .accepted) .arcs)
 
--- src/arcs.rt:38:5
 loop-less : tie.Need-loop-less Inv-loop μ-loop
-loop-less c = ?
+loop-less c = omega arith
 
--- src/arcs.rt:38:5
 loop-again : tie.Need-loop-again Inv-loop μ-loop
-loop-again c = ?
+loop-again c =
+    let h = c .before .before .before .before in
+    let s = h .before in
+    (omega arith, rest-on (arcQuestions (now (s .args .case)) (numberAt (now (s .args .old))) (now (s .args .row)) (s .args .i)) (h .loop .e) (s .args .layout .arcs) (h .loop .inv .1) (c .before .before .before .loop-test .taken) (c .before .before .arc-answer .ensures) (c .enum-told .given .1))
 
--- src/arcs.rt:32:1
 returns-2 : tie.Need-returns-2 Inv-loop μ-loop
-returns-2 c = ?
+returns-2 c =
+    let h = c .before in
+    let s = h .before in
+    sym (rest-end (arcQuestions (now (s .args .case)) (numberAt (now (s .args .old))) (now (s .args .row)) (s .args .i)) (h .loop .e) (s .args .layout .arcs) (h .loop .inv .1) (c .loop-test .left))
 
 pub arc-answers-spec : {M : Type 1} → statement M
 arc-answers-spec =

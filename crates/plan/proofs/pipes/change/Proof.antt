@@ -1,26 +1,29 @@
+use denote.Ref.{now}
+use lib.IntN.{_-ℤ_}
+use mir.Syntax.{w64}
+use mir.Val.{toZ, ofZ}
+use Rattle.numbers.specs.SignedLocals.{Held, held, held-fits, _-ʳ_}
+use Rattle.case.specs.Layout.{numberAt}
+use Rattle.plan.specs.Pipes.{change}
+use Rattle.plan.proofs.ArcLaws.{read}
 use borrow.Author.Needs.{needs}
 use Rattle.plan.proofs.pipes.change.Statement.{statement}
 use Rattle.plan.proofs.pipes.change.Tie as tie
-use Rattle.plan.proofs.pipes.change.Reads as reads
-use Rattle.plan.proofs.pipes.change.Lts as lts
-use Rattle.numbers.proofs.compare.at.Reads as at-reads
-use Rattle.plan.proofs.rows.pressure.Reads as pressure-reads
 
--- src/pipes.rt:53:5
+moved : (c : tie.After-at) → Held (toZ w64 (ofZ w64 (c .before .pressure .result)) -ℤ toZ w64 (ofZ w64 (c .at .result))) (change (numberAt (now (c .before .before .args .old))) (now (c .before .before .args .row)) (c .before .before .args .v)) 400000
+moved c = let s = c .before .before in read (c .before .pressure .ensures) (s .pre .2) tt -ʳ read (c .at .ensures) (s .pre .1) tt
+
 pressure-requires : tie.Need-pressure-requires
 pressure-requires c κs = search needs
 
--- src/pipes.rt:53:24
 at-requires : tie.Need-at-requires
 at-requires c κs = search needs
 
--- src/pipes.rt:53:5
 sub-result : tie.Need-sub-result
-sub-result c = ?
+sub-result c = held-fits (moved c) tt
 
--- src/pipes.rt:49:1
 returns : tie.Need-returns
-returns c = ?
+returns c = held (moved c) tt .val
 
 pub change-spec : {M : Type 1} → statement M
 change-spec = tie.close (tie.spec pressure-requires at-requires sub-result returns)

@@ -1,26 +1,36 @@
+use mathlib.Core.Path.{ap₂, _∙_}
+use denote.Ref.{now}
+use lib.IntN.{_-ℤ_}
+use mir.Syntax.{w64}
+use mir.Val.{toZ, ofZ}
+use Rattle.numbers.specs.SignedLocals.{Held, held, held-fits}
+use Rattle.case.proofs.Reading.{kept}
+use Rattle.plan.specs.Pipes.{duration}
+use Rattle.plan.specs.CaseFacts.{duration-sized}
 use borrow.Author.Needs.{needs}
 use Rattle.plan.proofs.pipes.duration.Statement.{statement}
 use Rattle.plan.proofs.pipes.duration.Tie as tie
-use Rattle.plan.proofs.pipes.duration.Reads as reads
-use Rattle.plan.proofs.pipes.duration.Lts as lts
-use Rattle.case.proofs.read.time.Reads as time-reads
-use Rattle.case.proofs.read.time_before.Reads as time-before-reads
 
--- src/pipes.rt:37:5
+passed : (c : tie.After-time-before) → Held (toZ w64 (ofZ w64 (c .before .time .result)) -ℤ toZ w64 (ofZ w64 (c .time-before .result))) (duration (now (c .before .before .args .case)) (c .before .before .args .i)) 86400
+unfolding duration
+passed c =
+    let s = c .before .before in
+    record {
+      val = ap₂ _-ℤ_ (kept _ (c .before .time .ok) ∙ c .before .time .ensures) (kept _ (c .time-before .ok) ∙ c .time-before .ensures);
+      bound = duration-sized (s .pre .0) (s .args .i) (s .pre .1) .bound;
+    }
+
 time-requires : tie.Need-time-requires
 time-requires c κs = search needs
 
--- src/pipes.rt:37:21
 time-before-requires : tie.Need-time-before-requires
 time-before-requires c κs = search needs
 
--- src/pipes.rt:37:5
 sub-result : tie.Need-sub-result
-sub-result c = ?
+sub-result c = held-fits (passed c) tt
 
--- src/pipes.rt:33:1
 returns : tie.Need-returns
-returns c = ?
+returns c = held (passed c) tt .val
 
 pub duration-spec : {M : Type 1} → statement M
 duration-spec = tie.close (tie.spec time-requires time-before-requires sub-result returns)

@@ -1,31 +1,32 @@
+use Rattle.numbers.specs.SignedLocals.{held, held-fits, param, _+ʳ_, _-ʳ_, _*ʳ_}
 use Rattle.plan.proofs.pipes.imbalance.Statement.{statement}
 use Rattle.plan.proofs.pipes.imbalance.Tie as tie
-use Rattle.plan.proofs.pipes.imbalance.Reads as reads
-use Rattle.plan.proofs.pipes.imbalance.Lts as lts
 
--- src/pipes.rt:45:11
 sub-result : tie.Need-sub-result
-sub-result c = ?
+sub-result c = let p = c .pre in held-fits (param (p .1) tt -ʳ param (p .2) tt) tt
 
--- src/pipes.rt:45:5
 mul-result : tie.Need-mul-result
-mul-result c = ?
+mul-result c = let p = c .pre in held-fits (param (p .0) tt *ʳ held (param (p .1) tt -ʳ param (p .2) tt) tt) tt
 
--- src/pipes.rt:45:25
 add-result : tie.Need-add-result
-add-result c = ?
+add-result c = let p = c .pre in held-fits (param (p .4) tt +ʳ param (p .5) tt) tt
 
--- src/pipes.rt:45:20
 mul-result-2 : tie.Need-mul-result-2
-mul-result-2 c = ?
+mul-result-2 c = let p = c .pre in held-fits (param (p .3) tt *ʳ held (param (p .4) tt +ʳ param (p .5) tt) tt) tt
 
--- src/pipes.rt:45:5
 sub-result-2 : tie.Need-sub-result-2
-sub-result-2 c = ?
+sub-result-2 c =
+    let p = c .pre in
+    let taken = held (param (p .0) tt *ʳ held (param (p .1) tt -ʳ param (p .2) tt) tt) tt in
+    let told = held (param (p .3) tt *ʳ held (param (p .4) tt +ʳ param (p .5) tt) tt) tt in
+    held-fits (taken -ʳ told) tt
 
--- src/pipes.rt:41:1
 returns : tie.Need-returns
-returns c = ?
+returns c =
+    let p = c .pre in
+    let taken = held (param (p .0) tt *ʳ held (param (p .1) tt -ʳ param (p .2) tt) tt) tt in
+    let told = held (param (p .3) tt *ʳ held (param (p .4) tt +ʳ param (p .5) tt) tt) tt in
+    held (taken -ʳ told) tt .val
 
 pub imbalance-spec : {M : Type 1} → statement M
 imbalance-spec =

@@ -1,26 +1,29 @@
+use mathlib.Core.Path.{_≡_, sym, ap, _∙_}
+use mathlib.Core.Bool.{false}
+use borrow.Author.Tests.{ne-eqb}
+use denote.Ref.{now}
+use Rattle.case.specs.declared.records.Arc.{Arc}
+use Rattle.plan.specs.Pipes.{isPipe, pipeMassKept, pipePressuresKept}
+use Rattle.plan.specs.ArcRules.{pipeQuestions}
 use borrow.Author.Needs.{needs}
 use Rattle.plan.proofs.pipes.pipe_answer.Statement.{statement}
 use Rattle.plan.proofs.pipes.pipe_answer.Tie as tie
-use Rattle.plan.proofs.pipes.pipe_answer.Reads as reads
-use Rattle.plan.proofs.pipes.pipe_answer.Lts as lts
-use Rattle.case.proofs.read.arc.Reads as arc-reads
-use Rattle.plan.proofs.pipes.pipe_kept.Reads as pipe-kept-reads
 
--- src/pipes.rt:99:8
 arc-requires : tie.Need-arc-requires
 arc-requires c κs = search needs
 
--- src/pipes.rt:100:9
 pipe-kept-requires : tie.Need-pipe-kept-requires
-pipe-kept-requires c κs = ?
+pipe-kept-requires c κs = record { at = c .before .before .before .pre; pipe = sym (ap (λ (x : Arc). x .kind) (c .before .before .arc .ensures)) ∙ c .if1 .taken }
 
--- src/pipes.rt:95:1
 returns : tie.Need-returns
 returns c = search needs
 
--- src/pipes.rt:95:1
 returns-2 : tie.Need-returns-2
-returns-2 c = ?
+unfolding pipeQuestions pipeMassKept pipePressuresKept
+returns-2 c =
+    let a = c .before .before in
+    let k : isPipe (now (a .before .args .case)) (a .before .args .e) ≡ false = ne-eqb _ 2 (λ e. c .if1 .left (ap (λ (x : Arc). x .kind) (a .arc .ensures) ∙ e)) in
+    rw k
 
 pub pipe-answer-spec : {M : Type 1} → statement M
 pipe-answer-spec = tie.close (tie.spec arc-requires pipe-kept-requires returns returns-2)

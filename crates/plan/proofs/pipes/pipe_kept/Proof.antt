@@ -1,79 +1,101 @@
+use mathlib.Core.Path.{_≡_, sym, ap, ap₂, _∙_}
+use mathlib.Core.Bool.{true}
+use Prim.Native.Nat.{_+_, _≤_}
+use native.Mathlib.Omega.{arith}
+use borrow.Author.Tests.{eq-eqb}
+use denote.Ref.{now}
+use lib.IntN.{pos, natAbs}
+use lib.Signed.{leZ}
+use mir.Syntax.{w64}
+use mir.Val.{toZ, ofZ}
+use Rattle.numbers.specs.Question.{answer, orElse, orElse-yes}
+use Rattle.numbers.specs.SignedLocals.{Held, held, held-fits, fit, param, literal, _*ʳ_}
+use Rattle.case.proofs.Reading.{kept}
+use Rattle.plan.specs.Pipes.{isPipe, pipeResidual, pressureBalance, pipeMassKept, pipePressuresKept}
+use Rattle.plan.specs.ArcRules.{pipeQuestions}
+use Rattle.plan.specs.CaseFacts.{counted, tolerance-sized}
+use Rattle.plan.proofs.ArcLaws.{read, read-bounded, imbalance-sized, balance-sized}
 use borrow.Author.Needs.{needs}
 use Rattle.plan.proofs.pipes.pipe_kept.Statement.{statement}
 use Rattle.plan.proofs.pipes.pipe_kept.Tie as tie
-use Rattle.plan.proofs.pipes.pipe_kept.Reads as reads
-use Rattle.plan.proofs.pipes.pipe_kept.Lts as lts
-use Rattle.numbers.proofs.answer.ask.Reads as ask-reads
-use Rattle.numbers.proofs.answer.or_else.Reads as or-else-reads
-use Rattle.numbers.proofs.compare.at.Reads as at-reads
-use Rattle.numbers.proofs.compare.at_most.Reads as at-most-reads
-use Rattle.plan.proofs.pipes.pipe_residual.Reads as pipe-residual-reads
-use Rattle.plan.proofs.pipes.pressure_balance.Reads as pressure-balance-reads
-use Rattle.plan.proofs.pipes.size.Reads as size-reads
 
--- src/pipes.rt:86:16
+mass-small : (c : tie.After-pipe-residual) → c .pipe-residual .result ≤ 100000000000000
+unfolding pipeResidual
+mass-small c = rw (c .pipe-residual .ensures) (imbalance-sized (c .before .pre) .bound)
+
+ends : (c : tie.After-pressure-balance) → Held (toZ w64 (ofZ w64 (c .pressure-balance .result))) (pressureBalance (now (c .before .before .args .case)) (now (c .before .before .args .row)) (c .before .before .args .e)) 300000000000000
+ends c = read (c .pressure-balance .ensures) (balance-sized (c .before .before .pre)) tt
+
+ends-is : (c : tie.After-size) → c .size .result ≡ natAbs (pressureBalance (now (c .before .before .before .args .case)) (now (c .before .before .before .args .row)) (c .before .before .before .args .e))
+ends-is c = c .size .ensures ∙ ap natAbs (ends (c .before) .val)
+
+ends-small : (c : tie.After-size) → c .size .result ≤ 300000000000000
+ends-small c = omega (arith, ends-is c, ends (c .before) .bound)
+
 pipe-residual-requires : tie.Need-pipe-residual-requires
 pipe-residual-requires c κs = search needs
 
--- src/pipes.rt:86:16
 cast-mass : tie.Need-cast-mass
-cast-mass c = ?
+cast-mass c = fit (record { bound = mass-small c }) tt
 
--- src/pipes.rt:87:21
 pressure-balance-requires : tie.Need-pressure-balance-requires
 pressure-balance-requires c κs = search needs
 
--- src/pipes.rt:87:16
 size-requires : tie.Need-size-requires
-size-requires c κs = ?
+size-requires c κs = omega (arith, read-bounded (ends c) .bound)
 
--- src/pipes.rt:87:16
 cast-ends : tie.Need-cast-ends
-cast-ends c = ?
+cast-ends c = fit (record { bound = ends-small c }) tt
 
--- src/pipes.rt:88:26
 at-requires : tie.Need-at-requires
 at-requires c κs = search needs
 
--- src/pipes.rt:88:16
 mul-most : tie.Need-mul-most
-mul-most c = ?
+mul-most c = held-fits (literal (pos 1000000) *ʳ read (c .at .ensures) (tolerance-sized (c .before .before .before .before .pre .at .accepted)) tt) tt
 
--- src/pipes.rt:90:27
 at-requires-2 : tie.Need-at-requires-2
 at-requires-2 c κs = search needs
 
--- src/pipes.rt:90:13
 at-most-requires : tie.Need-at-most-requires
 at-most-requires c κs = search needs
 
--- src/pipes.rt:90:45
 add-ask : tie.Need-add-ask
-add-ask c = ?
+add-ask c = let a = c .before .before .before .before .before .before .pre .at in omega (arith, a .step, counted (a .accepted) .steps)
 
--- src/pipes.rt:90:9
 ask-requires : tie.Need-ask-requires
 ask-requires c κs = search needs
 
--- src/pipes.rt:91:13
 at-most-requires-2 : tie.Need-at-most-requires-2
 at-most-requires-2 c κs = search needs
 
--- src/pipes.rt:91:38
 add-ask-2 : tie.Need-add-ask-2
-add-ask-2 c = ?
+add-ask-2 c = let a = c .before .before .before .before .before .before .before .before .pre .at in omega (arith, a .step, counted (a .accepted) .steps)
 
--- src/pipes.rt:91:9
 ask-requires-2 : tie.Need-ask-requires-2
 ask-requires-2 c κs = search needs
 
--- src/pipes.rt:89:5
 or-else-requires : tie.Need-or-else-requires
 or-else-requires c κs = search needs
 
--- src/pipes.rt:82:1
 returns : tie.Need-returns
-returns c = ?
+unfolding pipeQuestions pipeMassKept pipePressuresKept
+returns c =
+    let two = c .before .before in
+    let one = two .before .before in
+    let t = one .before .before in
+    let d = t .before in
+    let m = d .before .before in
+    let s = m .before in
+    let case = now (s .args .case) in
+    let i = s .args .i in
+    let e = s .args .e in
+    let k : isPipe case e ≡ true = eq-eqb _ 2 (s .pre .pipe) in
+    let mass = param {z = pos (m .pipe-residual .result)} (record { bound = mass-small m }) tt .val ∙ ap pos (m .pipe-residual .ensures) in
+    let end = param {z = pos (d .size .result)} (record { bound = ends-small d }) tt .val ∙ ap pos (ends-is d) in
+    let most = held (literal (pos 1000000) *ʳ read (t .at .ensures) (tolerance-sized (s .pre .at .accepted)) tt) tt .val in
+    let x = two .before .ask .ensures ∙ ap (λ b. answer b 28 (i + 1) e) (one .at-most .ensures ∙ ap₂ leZ mass (kept _ (one .before .at2 .ok) ∙ one .before .at2 .ensures)) in
+    let y = c .before .ask2 .ensures ∙ ap (λ b. answer b 29 (i + 1) e) (two .at-most2 .ensures ∙ ap₂ leZ end most) in
+    rw k (c .or-else .ensures ∙ ap₂ orElse x (y ∙ sym (orElse-yes _)))
 
 pub pipe-kept-spec : {M : Type 1} → statement M
 pipe-kept-spec =

@@ -1,51 +1,67 @@
+use mathlib.Core.Path.{ap, _∙_}
+use Prim.Native.Nat.{_<_}
+use native.Mathlib.Omega.{arith}
+use denote.Ref.{now}
+use lib.IntN.{natAbs}
+use mir.Syntax.{w64}
+use mir.Val.{toZ, ofZ}
+use Rattle.numbers.specs.SignedLocals.{Held, held}
+use Rattle.case.specs.Layout.{numberAt, nodesOf}
+use Rattle.plan.specs.Pipes.{pipeImbalance, pipeResidual}
+use Rattle.plan.specs.CaseFacts.{counted, from-node, to-node}
+use Rattle.plan.proofs.ArcLaws.{read-bounded, SumRead, sum-read}
 use borrow.Author.Needs.{needs}
 use Rattle.plan.proofs.pipes.pipe_residual.Statement.{statement}
 use Rattle.plan.proofs.pipes.pipe_residual.Tie as tie
-use Rattle.plan.proofs.pipes.pipe_residual.Reads as reads
-use Rattle.plan.proofs.pipes.pipe_residual.Lts as lts
-use Rattle.case.proofs.read.arc.Reads as arc-reads
-use Rattle.case.proofs.read.pipe.Reads as pipe-reads
-use Rattle.plan.proofs.pipes.change.Reads as change-reads
-use Rattle.plan.proofs.pipes.duration.Reads as duration-reads
-use Rattle.plan.proofs.pipes.imbalance.Reads as imbalance-reads
-use Rattle.plan.proofs.pipes.size.Reads as size-reads
-use Rattle.plan.proofs.rows.arc_row.Reads as arc-row-reads
 
--- src/pipes.rt:61:9
+abbrev start : tie.After-struct-told3 → tie.Start
+start c = c .before .before .before .before .before .before .before .before .before
+
+parts : (c : tie.After-struct-told3) → SumRead (c .before .before .before .before .duration .result) (c .before .before .before .before .before .before .before .arc-row .result .a) (c .before .before .before .before .before .before .before .arc-row .result .b) (c .before .before .before .pipe .result .c) (c .before .before .before .before .before .before .change .result) (c .before .before .before .before .before .change2 .result) (pipeImbalance (now (start c .args .case)) (numberAt (now (start c .args .old))) (now (start c .args .row)) (start c .args .i) (start c .args .e))
+parts c =
+    let p = c .before .before .before in
+    let y = p .before .before in
+    let r = y .before .before in
+    sum-read (start c .pre) (p .before .duration .ensures) (r .arc-row .ensures) (p .pipe .ensures) (r .before .arc .ensures) (y .before .change .ensures) (y .change2 .ensures)
+
+whole : (c : tie.After-imbalance) → Held (toZ w64 (ofZ w64 (c .imbalance .result))) (pipeImbalance (now (start (c .before) .args .case)) (numberAt (now (start (c .before) .args .old))) (now (start (c .before) .args .row)) (start (c .before) .args .i) (start (c .before) .args .e)) 100000000000000
+whole c = let t = parts (c .before) .total in held (record { val = c .imbalance .ensures ∙ t .val; bound = t .bound }) tt
+
 arc-requires : tie.Need-arc-requires
 arc-requires c κs = search needs
 
--- src/pipes.rt:62:9
 arc-row-requires : tie.Need-arc-row-requires
-arc-row-requires c κs = ?
+arc-row-requires c κs = let a = c .before .pre .at in (counted (a .accepted), a .arc)
 
--- src/pipes.rt:63:9
 change-requires : tie.Need-change-requires
-change-requires c κs = ?
+change-requires c κs =
+    let s = c .before .before in
+    let a = s .pre .at in
+    let n : c .before .arc .result .from < nodesOf (now (s .args .case)) = rw (c .before .arc .ensures) (from-node (a .accepted) (s .args .e) (a .arc)) in
+    (omega (arith, n, counted (a .accepted) .nodes), a .before .each _ n, a .pressures .each _ n)
 
--- src/pipes.rt:64:9
 change-requires-2 : tie.Need-change-requires-2
-change-requires-2 c κs = ?
+change-requires-2 c κs =
+    let s = c .before .before .before in
+    let a = s .pre .at in
+    let n : c .before .before .arc .result .to < nodesOf (now (s .args .case)) = rw (c .before .before .arc .ensures) (to-node (a .accepted) (s .args .e) (a .arc)) in
+    (omega (arith, n, counted (a .accepted) .nodes), a .before .each _ n, a .pressures .each _ n)
 
--- src/pipes.rt:65:20
 duration-requires : tie.Need-duration-requires
 duration-requires c κs = search needs
 
--- src/pipes.rt:65:49
 pipe-requires : tie.Need-pipe-requires
 pipe-requires c κs = search needs
 
--- src/pipes.rt:65:10
 imbalance-requires : tie.Need-imbalance-requires
-imbalance-requires c κs = ?
+imbalance-requires c κs = parts c .sizes
 
--- src/pipes.rt:65:5
 size-requires : tie.Need-size-requires
-size-requires c κs = ?
+size-requires c κs = omega (arith, read-bounded (whole c) .bound)
 
--- src/pipes.rt:57:1
 returns : tie.Need-returns
-returns c = ?
+unfolding pipeResidual
+returns c = c .size .ensures ∙ ap natAbs (whole (c .before) .val)
 
 pub pipe-residual-spec : {M : Type 1} → statement M
 pipe-residual-spec =

@@ -1,28 +1,34 @@
-use borrow.Author.Needs.{needs}
+use mathlib.Core.Path.{ap}
+use Prim.Native.Nat.{_^_}
+use native.Mathlib.Omega.{arith}
+use lib.Dec.{lt→ltb}
+use lib.IntN.{pos, natAbs}
+use mir.Syntax.{w64}
+use mir.Val.{toZ, ofZ}
+use Rattle.numbers.specs.SignedLocals.{Held, held<, held-fits<, plain, literal, _-ʳ_, absʳ-neg, castu, castu-is}
 use Rattle.plan.proofs.pipes.size.Statement.{statement}
 use Rattle.plan.proofs.pipes.size.Tie as tie
-use Rattle.plan.proofs.pipes.size.Reads as reads
-use Rattle.plan.proofs.pipes.size.Lts as lts
 
--- src/pipes.rt:29:17
+own : (c : tie.Start) → Held (toZ w64 (ofZ w64 (c .args .x))) (c .args .x) (natAbs (c .args .x))
+own c = held< (plain (omega arith)) (c .pre)
+
 sub-result : tie.Need-sub-result
-sub-result c = ?
+sub-result c = held-fits< (literal (pos 0) -ʳ own (c .before)) (omega (arith, c .before .pre))
 
--- src/pipes.rt:29:16
 cast-result : tie.Need-cast-result
-cast-result c = ?
+cast-result c =
+    let s = c .before in
+    let e = absʳ-neg (own s) (lt→ltb (natAbs (s .args .x)) (2 ^ 63) (s .pre)) (c .if1 .taken) in
+    rw e (tt, record { fits = omega (arith, s .pre) })
 
--- src/pipes.rt:29:39
 cast-result-2 : tie.Need-cast-result-2
-cast-result-2 c = ?
+cast-result-2 c = castu (c .before .fits .x) (c .if1 .left)
 
--- src/pipes.rt:25:1
 returns : tie.Need-returns
-returns c = ?
+returns c = let s = c .before in ap natAbs (absʳ-neg (own s) (lt→ltb (natAbs (s .args .x)) (2 ^ 63) (s .pre)) (c .if1 .taken))
 
--- src/pipes.rt:25:1
 returns-2 : tie.Need-returns-2
-returns-2 c = search needs
+returns-2 c = castu-is (c .before .fits .x)
 
 pub size-spec : {M : Type 1} → statement M
 size-spec = tie.close (tie.spec sub-result cast-result cast-result-2 returns returns-2)

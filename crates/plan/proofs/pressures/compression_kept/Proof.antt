@@ -1,80 +1,127 @@
+use mathlib.Core.Path.{_≡_, sym, ap, ap₂, _∙_, subst}
+use mathlib.Core.Bool.{true, false}
+use denote.Ref.{now}
+use lib.IntN.{pos, _+ℤ_}
+use lib.Signed.{leZ}
+use mir.Syntax.{w64}
+use mir.Val.{toZ, ofZ}
+use Rattle.numbers.specs.SignedLocals.{Held, held, held-fits, literal, _+ʳ_, _*ʳ_}
+use Rattle.case.specs.declared.records.Node.{Node}
+use Rattle.case.specs.Records.{artificialOf}
+use Rattle.case.proofs.Reading.{kept}
+use Rattle.plan.specs.declared.rows.ArcRow.{ArcRow}
+use Rattle.plan.specs.PlanRecords.{pressureIn, arcRow}
+use Rattle.plan.specs.Machines.{machineGain}
+use Rattle.plan.specs.Setting.{homeOf}
+use Rattle.plan.specs.Sizes.{MachinesSized}
+use Rattle.plan.specs.ArcPressures.{outBound, basePressure, ratioOf, compressionKept}
+use Rattle.plan.proofs.ArcLaws.{read, gain-sized}
 use borrow.Author.Needs.{needs}
 use Rattle.plan.proofs.pressures.compression_kept.Statement.{statement}
 use Rattle.plan.proofs.pressures.compression_kept.Tie as tie
-use Rattle.plan.proofs.pressures.compression_kept.Reads as reads
-use Rattle.plan.proofs.pressures.compression_kept.Lts as lts
-use Rattle.case.proofs.read.artificial.Reads as artificial-reads
-use Rattle.case.proofs.read.node.Reads as node-reads
-use Rattle.numbers.proofs.compare.at_most.Reads as at-most-reads
-use Rattle.plan.proofs.bools.both.Reads as both-reads
-use Rattle.plan.proofs.machines.machine_gain.Reads as machine-gain-reads
-use Rattle.plan.proofs.pressures.out_bound.Reads as out-bound-reads
-use Rattle.plan.proofs.rows.arc_row.Reads as arc-row-reads
-use Rattle.plan.proofs.rows.pressure.Reads as pressure-reads
 
--- src/pressures.rt:59:9
+-- the two pressures, as they are read
+in-read : (c : tie.After-pressure) → toZ w64 (ofZ w64 (c .pressure .result)) ≡ pressureIn (now (c .before .args .row)) (c .before .args .u)
+in-read c = kept _ (c .pressure .ok) ∙ c .pressure .ensures
+
+out-read : (c : tie.After-pressure2) → toZ w64 (ofZ w64 (c .pressure2 .result)) ≡ pressureIn (now (c .before .before .args .row)) (c .before .before .args .w)
+out-read c = kept _ (c .pressure2 .ok) ∙ c .pressure2 .ensures
+
+out : (c : tie.After-pressure2) → Held (toZ w64 (ofZ w64 (c .pressure2 .result))) (pressureIn (now (c .before .before .args .row)) (c .before .before .args .w)) 200000
+out c = read (c .pressure2 .ensures) (c .before .before .pre .out) tt
+
+rises : (c : tie.Then1) → leZ (pressureIn (now (c .before .before .before .before .args .row)) (c .before .before .before .before .args .u)) (pressureIn (now (c .before .before .before .before .args .row)) (c .before .before .before .before .args .w)) ≡ true
+rises c = simp (in-read (c .before .before .before), out-read (c .before .before)) at (sym (c .before .at-most .ensures) ∙ c .if1 .taken)
+
+-- the out bound
+bound-read : (c : tie.After-out-bound) → toZ w64 (ofZ w64 (c .out-bound .result)) ≡ outBound (artificialOf (now (c .before .before .before .before .before .before .args .case)) (c .before .before .before .before .before .before .args .e))
+bound-read c = kept _ (c .out-bound .ok) ∙ c .out-bound .ensures ∙ ap outBound (c .before .artificial .ensures)
+
+below : (c : tie.Then2) → leZ (pressureIn (now (c .before .before .before .before .before .before .before .before .args .row)) (c .before .before .before .before .before .before .before .before .args .w)) (outBound (artificialOf (now (c .before .before .before .before .before .before .before .before .args .case)) (c .before .before .before .before .before .before .before .before .args .e))) ≡ true
+below c = simp (out-read (c .before .before .before .before .before .before), bound-read (c .before .before)) at (sym (c .before .at-most2 .ensures) ∙ c .if2 .taken)
+
+-- the ratio
+abbrev start : tie.After-machine-gain → tie.Start
+start c = c .before .before .before .before .before .before .before .before .before .before .before
+
+gain : (c : tie.After-machine-gain) → Held (toZ w64 (ofZ w64 (c .machine-gain .result))) (machineGain (now (start c .args .case)) (homeOf (now (start c .args .case)) (start c .args .e)) (arcRow (now (start c .args .case)) (now (start c .args .row)) (start c .args .e) .machines)) 132000
+gain c =
+    let s = start c in
+    let case = now (s .args .case) in
+    let m = kept _ (c .before .struct-told .given .1 .1 .1 .0 .1) ∙ ap (λ (x : ArcRow). x .machines) (c .before .before .arc-row .ensures) in
+    let z = subst (MachinesSized case) (s .pre .home) (s .pre .machines) in
+    read (c .machine-gain .ensures ∙ ap₂ (machineGain case) (s .pre .home) m) (gain-sized _ z) tt
+
+ratio : (c : tie.After-machine-gain) → Held (toZ w64 (ofZ w64 (pos 1000 +ℤ toZ w64 (ofZ w64 (c .machine-gain .result))))) (ratioOf (now (start c .args .case)) (now (start c .args .row)) (start c .args .e)) 133000
+ratio c = held (literal (pos 1000) +ʳ gain c) tt
+
+base : (c : tie.After-node) → Held (toZ w64 (ofZ w64 (c .node .result .p0))) (basePressure (now (start (c .before) .args .case)) (start (c .before) .args .i) (start (c .before) .args .u)) 200000
+base c = read (ap (λ (n : Node). n .p0) (c .node .ensures)) (start (c .before) .pre .base) tt
+
 pressure-requires : tie.Need-pressure-requires
 pressure-requires c κs = search needs
 
--- src/pressures.rt:60:9
 pressure-requires-2 : tie.Need-pressure-requires-2
 pressure-requires-2 c κs = search needs
 
--- src/pressures.rt:61:27
-artificial-requires : tie.Need-artificial-requires
-artificial-requires c κs = search needs
-
--- src/pressures.rt:61:9
-out-bound-requires : tie.Need-out-bound-requires
-out-bound-requires c κs = search needs
-
--- src/pressures.rt:62:50
-arc-row-requires : tie.Need-arc-row-requires
-arc-row-requires c κs = search needs
-
--- src/pressures.rt:62:24
-machine-gain-requires : tie.Need-machine-gain-requires
-machine-gain-requires c κs = search needs
-
--- src/pressures.rt:62:17
-add-ratio : tie.Need-add-ratio
-add-ratio c = ?
-
--- src/pressures.rt:63:17
-node-requires : tie.Need-node-requires
-node-requires c κs = search needs
-
--- src/pressures.rt:63:17
-mul-reach : tie.Need-mul-reach
-mul-reach c = ?
-
--- src/pressures.rt:65:9
 at-most-requires : tie.Need-at-most-requires
 at-most-requires c κs = search needs
 
--- src/pressures.rt:66:14
+artificial-requires : tie.Need-artificial-requires
+artificial-requires c κs = search needs
+
+out-bound-requires : tie.Need-out-bound-requires
+out-bound-requires c κs = search needs
+
 at-most-requires-2 : tie.Need-at-most-requires-2
 at-most-requires-2 c κs = search needs
 
--- src/pressures.rt:66:45
-mul-at-most : tie.Need-mul-at-most
-mul-at-most c = ?
+arc-row-requires : tie.Need-arc-row-requires
+arc-row-requires c κs = search needs
 
--- src/pressures.rt:66:37
+machine-gain-requires : tie.Need-machine-gain-requires
+machine-gain-requires c κs = search needs
+
+add-ratio : tie.Need-add-ratio
+add-ratio c = held-fits (literal (pos 1000) +ʳ gain c) tt
+
+mul-at-most : tie.Need-mul-at-most
+mul-at-most c = held-fits (literal (pos 1000) *ʳ out (c .before .before .before .before .before .before .before .before .before)) tt
+
+node-requires : tie.Need-node-requires
+node-requires c κs = search needs
+
+mul-at-most-2 : tie.Need-mul-at-most-2
+mul-at-most-2 c = held-fits (base (c .before .before) *ʳ ratio (c .before .before .before)) tt
+
 at-most-requires-3 : tie.Need-at-most-requires-3
 at-most-requires-3 c κs = search needs
 
--- src/pressures.rt:66:9
-both-requires : tie.Need-both-requires
-both-requires c κs = search needs
-
--- src/pressures.rt:64:5
-both-requires-2 : tie.Need-both-requires-2
-both-requires-2 c κs = search needs
-
--- src/pressures.rt:55:1
 returns : tie.Need-returns
-returns c = ?
+unfolding compressionKept
+returns c =
+    let d = c .before .before .before .before in
+    let t = d .before .before .before in
+    let left = held (literal (pos 1000) *ʳ out (t .before .before .before .before .before .before)) tt in
+    let right = held (base (c .before .before .before) *ʳ ratio d) tt in
+    rw (rises (t .before .before .before .before), below t) (c .at-most3 .ensures ∙ ap₂ leZ (left .val) (right .val))
+
+returns-2 : tie.Need-returns-2
+unfolding compressionKept
+returns-2 c =
+    let o = c .before .before in
+    let s = o .before .before in
+    let a = s .before .before .before .before in
+    let e : leZ (pressureIn (now (a .args .row)) (a .args .w)) (outBound (artificialOf (now (a .args .case)) (a .args .e))) ≡ false = simp (out-read (s .before .before), bound-read o) at (sym (c .before .at-most2 .ensures) ∙ c .if2 .left) in
+    rw (rises s, e)
+
+returns-3 : tie.Need-returns-3
+unfolding compressionKept
+returns-3 c =
+    let p = c .before .before in
+    let a = p .before .before .args in
+    let e : leZ (pressureIn (now (a .row)) (a .u)) (pressureIn (now (a .row)) (a .w)) ≡ false = simp (in-read (p .before), out-read p) at (sym (c .before .at-most .ensures) ∙ c .if1 .left) in
+    rw e
 
 pub compression-kept-spec : {M : Type 1} → statement M
 compression-kept-spec =
@@ -82,17 +129,17 @@ compression-kept-spec =
     (tie.spec
     pressure-requires
     pressure-requires-2
+    at-most-requires
     artificial-requires
     out-bound-requires
+    at-most-requires-2
     arc-row-requires
     machine-gain-requires
     add-ratio
-    node-requires
-    mul-reach
-    at-most-requires
-    at-most-requires-2
     mul-at-most
+    node-requires
+    mul-at-most-2
     at-most-requires-3
-    both-requires
-    both-requires-2
-    returns)
+    returns
+    returns-2
+    returns-3)

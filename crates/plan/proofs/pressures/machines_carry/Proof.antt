@@ -1,42 +1,65 @@
+use mathlib.Core.Path.{_≡_, ap, ap₂, _∙_}
+use mathlib.Core.Bool.{true, false}
+use borrow.Author.Tests.{le-leb, lt-leb}
+use denote.Ref.{now}
+use lib.Dec.{leb}
+use lib.Signed.{leZ}
+use mir.Facts.{toZ-ofZ}
+use mir.Syntax.{w64}
+use mir.Val.{toZ, ofZ}
+use Rattle.numbers.specs.Sets.{countOf}
+use Rattle.case.specs.declared.records.Artificial.{Artificial}
+use Rattle.case.specs.Records.{artificialOf}
+use Rattle.case.proofs.Reading.{kept}
+use Rattle.plan.specs.declared.rows.ArcRow.{ArcRow}
+use Rattle.plan.specs.PlanRecords.{arcRow}
+use Rattle.plan.specs.Machines.{machineFlow}
+use Rattle.plan.specs.ArcMachines.{machinesCarry}
 use borrow.Author.Needs.{needs}
 use Rattle.plan.proofs.pressures.machines_carry.Statement.{statement}
 use Rattle.plan.proofs.pressures.machines_carry.Tie as tie
-use Rattle.plan.proofs.pressures.machines_carry.Reads as reads
-use Rattle.plan.proofs.pressures.machines_carry.Lts as lts
-use Rattle.case.proofs.read.artificial.Reads as artificial-reads
-use Rattle.numbers.proofs.compare.at_most.Reads as at-most-reads
-use Rattle.numbers.proofs.sets.count.Reads as count-reads
-use Rattle.plan.proofs.bools.both.Reads as both-reads
-use Rattle.plan.proofs.machines.machine_flow.Reads as machine-flow-reads
-use Rattle.plan.proofs.rows.arc_row.Reads as arc-row-reads
 
--- src/pressures.rt:120:20
+machines-read : (c : tie.After-struct-told) → toZ w64 (ofZ w64 (c .before .arc-row .result .machines)) ≡ arcRow (now (c .before .before .args .case)) (now (c .before .before .args .row)) (c .before .before .args .e) .machines
+machines-read c = kept _ (c .struct-told .given .1 .1 .1 .0 .1) ∙ ap (λ (x : ArcRow). x .machines) (c .before .arc-row .ensures)
+
+count-is : (c : tie.After-struct-known) → c .before .before .count .result ≡ countOf (arcRow (now (c .before .before .before .before .before .args .case)) (now (c .before .before .before .before .before .args .row)) (c .before .before .before .before .before .args .e) .machines)
+count-is c = c .before .before .count .ensures ∙ ap countOf (machines-read (c .before .before .before))
+
+most-is : (c : tie.After-struct-known) → c .before .artificial .result .most ≡ artificialOf (now (c .before .before .before .before .before .args .case)) (c .before .before .before .before .before .args .e) .most
+most-is c = ap (λ (x : Artificial). x .most) (c .before .artificial .ensures)
+
 arc-row-requires : tie.Need-arc-row-requires
 arc-row-requires c κs = search needs
 
--- src/pressures.rt:122:9
 count-requires : tie.Need-count-requires
 count-requires c κs = search needs
 
--- src/pressures.rt:122:28
 artificial-requires : tie.Need-artificial-requires
 artificial-requires c κs = search needs
 
--- src/pressures.rt:123:23
 machine-flow-requires : tie.Need-machine-flow-requires
 machine-flow-requires c κs = search needs
 
--- src/pressures.rt:123:9
 at-most-requires : tie.Need-at-most-requires
 at-most-requires c κs = search needs
 
--- src/pressures.rt:121:5
-both-requires : tie.Need-both-requires
-both-requires c κs = search needs
-
--- src/pressures.rt:116:1
 returns : tie.Need-returns
-returns c = ?
+unfolding machinesCarry
+returns c =
+    let t = c .before .before in
+    let k = t .before in
+    let s = k .before .before .before .before .before in
+    let e : leb (countOf (arcRow (now (s .args .case)) (now (s .args .row)) (s .args .e) .machines)) (artificialOf (now (s .args .case)) (s .args .e) .most) ≡ true = le-leb _ _ (simp (count-is k, most-is k) at (t .if1 .taken)) in
+    let f = kept _ (c .before .machine-flow .ok) ∙ c .before .machine-flow .ensures ∙ ap₂ (machineFlow (now (s .args .case))) (s .pre .2) (machines-read (k .before .before .before)) in
+    rw e (c .at-most .ensures ∙ ap₂ leZ (toZ-ofZ (s .fits .flow)) f)
+
+returns-2 : tie.Need-returns-2
+unfolding machinesCarry
+returns-2 c =
+    let k = c .before in
+    let s = k .before .before .before .before .before in
+    let e : leb (countOf (arcRow (now (s .args .case)) (now (s .args .row)) (s .args .e) .machines)) (artificialOf (now (s .args .case)) (s .args .e) .most) ≡ false = lt-leb _ _ (simp (count-is k, most-is k) at (c .if1 .left)) in
+    rw e
 
 pub machines-carry-spec : {M : Type 1} → statement M
 machines-carry-spec =
@@ -47,5 +70,5 @@ machines-carry-spec =
     artificial-requires
     machine-flow-requires
     at-most-requires
-    both-requires
-    returns)
+    returns
+    returns-2)

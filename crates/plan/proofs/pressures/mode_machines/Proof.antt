@@ -1,65 +1,70 @@
+use mathlib.Core.Path.{_≡_, ap, _∙_}
+use denote.Ref.{now}
+use mir.Facts.{toZ-ofZ}
+use mir.Syntax.{w64}
+use mir.Val.{toZ, ofZ}
+use Rattle.case.proofs.Reading.{kept}
+use Rattle.plan.specs.declared.rows.ArcRow.{ArcRow}
+use Rattle.plan.specs.PlanRecords.{arcRow}
+use Rattle.plan.specs.ArcMachines.{machinesCarry}
+use Rattle.plan.specs.CaseFacts.{counted}
+use Rattle.plan.proofs.ArcLaws.{home-is, home-machines}
 use borrow.Author.Needs.{needs}
 use Rattle.plan.proofs.pressures.mode_machines.Statement.{statement}
 use Rattle.plan.proofs.pressures.mode_machines.Tie as tie
-use Rattle.plan.proofs.pressures.mode_machines.Reads as reads
-use Rattle.plan.proofs.pressures.mode_machines.Lts as lts
-use Rattle.case.proofs.read.artificial.Reads as artificial-reads
-use Rattle.numbers.proofs.compare.same.Reads as same-reads
-use Rattle.plan.proofs.pressures.home.Reads as home-reads
-use Rattle.plan.proofs.pressures.machines_carry.Reads as machines-carry-reads
-use Rattle.plan.proofs.rows.arc_row.Reads as arc-row-reads
 
--- src/pressures.rt:134:21
 enum-told : tie.Need-enum-told
 enum-told c = search needs
 
--- src/pressures.rt:134:21
 artificial-requires : tie.Need-artificial-requires
 artificial-requires c κs = search needs
 
--- src/pressures.rt:135:39
 home-requires : tie.Need-home-requires
 home-requires c κs = search needs
 
--- src/pressures.rt:135:13
 machines-carry-requires : tie.Need-machines-carry-requires
-machines-carry-requires c κs = ?
+machines-carry-requires c κs =
+    let s = c .before .before .before .before in
+    let a = s .pre .0 in
+    let k = s .pre .1 (c .before .before .enum-told .given .1) in
+    let h = home-is a k (c .before .artificial .ensures) (c .home .ensures) in
+    (counted (a .at .accepted), a .arc, h, home-machines a k h)
 
--- src/pressures.rt:137:28
 enum-told-2 : tie.Need-enum-told-2
 enum-told-2 c = search needs
 
--- src/pressures.rt:137:28
 arc-row-requires : tie.Need-arc-row-requires
-arc-row-requires c κs = ?
+arc-row-requires c κs = let a = c .before .before .pre .0 in (counted (a .at .accepted), a .arc)
 
--- src/pressures.rt:137:23
 same-requires : tie.Need-same-requires
 same-requires c κs = search needs
 
--- src/pressures.rt:138:34
 enum-told-3 : tie.Need-enum-told-3
 enum-told-3 c = search needs
 
--- src/pressures.rt:138:34
 arc-row-requires-2 : tie.Need-arc-row-requires-2
-arc-row-requires-2 c κs = ?
+arc-row-requires-2 c κs = let a = c .before .before .pre .0 in (counted (a .at .accepted), a .arc)
 
--- src/pressures.rt:138:29
 same-requires-2 : tie.Need-same-requires-2
 same-requires-2 c κs = search needs
 
--- src/pressures.rt:128:1
 returns : tie.Need-returns
-returns c = ?
+returns c =
+    let s = c .before .before .before .before .before in
+    rw (c .before .before .before .enum-told .given .1)
+    (c .machines-carry .ensures ∙ ap (machinesCarry (now (s .args .case)) (now (s .args .row)) (s .args .e)) (toZ-ofZ (s .fits .flow)))
 
--- src/pressures.rt:128:1
 returns-2 : tie.Need-returns-2
-returns-2 c = ?
+returns-2 c =
+    let s = c .before .before .before .before .before in
+    let m : toZ w64 (ofZ w64 (c .before .before .arc-row .result .machines)) ≡ arcRow (now (s .args .case)) (now (s .args .row)) (s .args .e) .machines = kept _ (c .before .struct-told .given .1 .1 .1 .0 .1) ∙ ap (λ (x : ArcRow). x .machines) (c .before .before .arc-row .ensures) in
+    rw (c .before .before .before .enum-told2 .given .1) (simp m at (c .same .ensures))
 
--- src/pressures.rt:128:1
 returns-3 : tie.Need-returns-3
-returns-3 c = ?
+returns-3 c =
+    let s = c .before .before .before .before .before in
+    let m : toZ w64 (ofZ w64 (c .before .before .arc-row2 .result .machines)) ≡ arcRow (now (s .args .case)) (now (s .args .row)) (s .args .e) .machines = kept _ (c .before .struct-told2 .given .1 .1 .1 .0 .1) ∙ ap (λ (x : ArcRow). x .machines) (c .before .before .arc-row2 .ensures) in
+    rw (c .before .before .before .enum-told3 .given .1) (simp m at (c .same2 .ensures))
 
 pub mode-machines-spec : {M : Type 1} → statement M
 mode-machines-spec =

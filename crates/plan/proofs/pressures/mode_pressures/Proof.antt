@@ -1,74 +1,78 @@
+use mathlib.Core.Path.{_≡_, _∙_}
+use Prim.Native.Nat.{_<_}
+use native.Mathlib.Omega.{arith}
+use denote.Ref.{now}
+use mir.Syntax.{w64}
+use mir.Val.{toZ, ofZ}
+use Rattle.case.proofs.Reading.{kept}
+use Rattle.plan.specs.PlanRecords.{pressureIn}
+use Rattle.plan.specs.CaseFacts.{counted}
+use Rattle.plan.proofs.ArcLaws.{home-is, compresses}
 use borrow.Author.Needs.{needs}
 use Rattle.plan.proofs.pressures.mode_pressures.Statement.{statement}
 use Rattle.plan.proofs.pressures.mode_pressures.Tie as tie
-use Rattle.plan.proofs.pressures.mode_pressures.Reads as reads
-use Rattle.plan.proofs.pressures.mode_pressures.Lts as lts
-use Rattle.case.proofs.read.artificial.Reads as artificial-reads
-use Rattle.numbers.proofs.compare.at_most.Reads as at-most-reads
-use Rattle.numbers.proofs.compare.same.Reads as same-reads
-use Rattle.plan.proofs.pressures.compression_kept.Reads as compression-kept-reads
-use Rattle.plan.proofs.pressures.home.Reads as home-reads
-use Rattle.plan.proofs.rows.pressure.Reads as pressure-reads
 
--- src/pressures.rt:75:28
+in-small : (c : tie.Start) → c .args .u < 1000000
+in-small c = omega (arith, c .pre .1, counted (c .pre .0 .at .accepted) .nodes)
+
+out-small : (c : tie.Start) → c .args .w < 1000000
+out-small c = omega (arith, c .pre .2, counted (c .pre .0 .at .accepted) .nodes)
+
 enum-told : tie.Need-enum-told
 enum-told c = search needs
 
--- src/pressures.rt:75:28
 pressure-requires : tie.Need-pressure-requires
-pressure-requires c κs = ?
+pressure-requires c κs = in-small (c .before .before)
 
--- src/pressures.rt:75:46
 pressure-requires-2 : tie.Need-pressure-requires-2
-pressure-requires-2 c κs = ?
+pressure-requires-2 c κs = out-small (c .before .before .before)
 
--- src/pressures.rt:75:23
 same-requires : tie.Need-same-requires
 same-requires c κs = search needs
 
--- src/pressures.rt:76:37
 enum-told-2 : tie.Need-enum-told-2
 enum-told-2 c = search needs
 
--- src/pressures.rt:76:37
 pressure-requires-3 : tie.Need-pressure-requires-3
-pressure-requires-3 c κs = ?
+pressure-requires-3 c κs = out-small (c .before .before)
 
--- src/pressures.rt:76:55
 pressure-requires-4 : tie.Need-pressure-requires-4
-pressure-requires-4 c κs = ?
+pressure-requires-4 c κs = in-small (c .before .before .before)
 
--- src/pressures.rt:76:29
 at-most-requires : tie.Need-at-most-requires
 at-most-requires c κs = search needs
 
--- src/pressures.rt:78:21
 enum-told-3 : tie.Need-enum-told-3
 enum-told-3 c = search needs
 
--- src/pressures.rt:78:21
 artificial-requires : tie.Need-artificial-requires
 artificial-requires c κs = search needs
 
--- src/pressures.rt:79:41
 home-requires : tie.Need-home-requires
 home-requires c κs = search needs
 
--- src/pressures.rt:79:13
 compression-kept-requires : tie.Need-compression-kept-requires
-compression-kept-requires c κs = ?
+compression-kept-requires c κs =
+    let s = c .before .before .before .before in
+    let k = s .pre .3 (c .before .before .enum-told3 .given .1) in
+    compresses (s .pre .0) k (home-is (s .pre .0) k (c .before .artificial .ensures) (c .home .ensures)) (s .pre .1) (s .pre .2)
 
--- src/pressures.rt:70:1
 returns : tie.Need-returns
-returns c = ?
+returns c =
+    let s = c .before .before .before .before .before in
+    let p : toZ w64 (ofZ w64 (c .before .before .pressure .result)) ≡ pressureIn (now (s .args .row)) (s .args .u) = kept _ (c .before .before .pressure .ok) ∙ c .before .before .pressure .ensures in
+    let q : toZ w64 (ofZ w64 (c .before .pressure2 .result)) ≡ pressureIn (now (s .args .row)) (s .args .w) = kept _ (c .before .pressure2 .ok) ∙ c .before .pressure2 .ensures in
+    rw (c .before .before .before .enum-told .given .1) (simp (p, q) at (c .same .ensures))
 
--- src/pressures.rt:70:1
 returns-2 : tie.Need-returns-2
-returns-2 c = ?
+returns-2 c =
+    let s = c .before .before .before .before .before in
+    let p : toZ w64 (ofZ w64 (c .before .before .pressure3 .result)) ≡ pressureIn (now (s .args .row)) (s .args .w) = kept _ (c .before .before .pressure3 .ok) ∙ c .before .before .pressure3 .ensures in
+    let q : toZ w64 (ofZ w64 (c .before .pressure4 .result)) ≡ pressureIn (now (s .args .row)) (s .args .u) = kept _ (c .before .pressure4 .ok) ∙ c .before .pressure4 .ensures in
+    rw (c .before .before .before .enum-told2 .given .1) (simp (p, q) at (c .at-most .ensures))
 
--- src/pressures.rt:70:1
 returns-3 : tie.Need-returns-3
-returns-3 c = ?
+returns-3 c = rw (c .before .before .before .enum-told3 .given .1) (c .compression-kept .ensures)
 
 pub mode-pressures-spec : {M : Type 1} → statement M
 mode-pressures-spec =

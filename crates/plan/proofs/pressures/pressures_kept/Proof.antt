@@ -1,50 +1,79 @@
+use mathlib.Core.Path.{_≡_, sym, ap, ap₂, _∙_}
+use Prim.Native.Nat.{_<_}
+use mathlib.Core.Bool.{true, false}
+use native.Mathlib.Omega.{arith}
+use borrow.Author.Tests.{eq-eqb, ne-eqb}
+use denote.Ref.{now}
+use lib.Dec.{eqb}
+use mir.Syntax.{w64}
+use mir.Val.{toZ, ofZ}
+use Rattle.case.specs.declared.records.Arc.{Arc}
+use Rattle.case.specs.Records.{arcOf}
+use Rattle.case.proofs.Reading.{kept}
+use Rattle.plan.specs.declared.rows.ArcRow.{ArcRow}
+use Rattle.plan.specs.PlanRecords.{pressureIn}
+use Rattle.plan.specs.Setting.{settingOf, settingIn}
+use Rattle.plan.specs.ArcPressures.{settingPressures, pressuresKept}
+use Rattle.plan.specs.CaseFacts.{counted, from-node, to-node}
 use borrow.Author.Needs.{needs}
 use Rattle.plan.proofs.pressures.pressures_kept.Statement.{statement}
 use Rattle.plan.proofs.pressures.pressures_kept.Tie as tie
-use Rattle.plan.proofs.pressures.pressures_kept.Reads as reads
-use Rattle.plan.proofs.pressures.pressures_kept.Lts as lts
-use Rattle.case.proofs.read.arc.Reads as arc-reads
-use Rattle.numbers.proofs.compare.at_most.Reads as at-most-reads
-use Rattle.plan.proofs.pressures.setting_pressures.Reads as setting-pressures-reads
-use Rattle.plan.proofs.rows.arc_row.Reads as arc-row-reads
-use Rattle.plan.proofs.rows.pressure.Reads as pressure-reads
-use Rattle.plan.proofs.setting.setting_of.Reads as setting-of-reads
 
--- src/pressures.rt:106:9
+setting-is : (c : tie.After-setting-of) → c .setting-of .result ≡ settingIn (now (c .before .before .before .before .before .args .case)) (now (c .before .before .before .before .before .args .row)) (c .before .before .before .before .before .args .e)
+setting-is c =
+    let n = kept _ (c .before .struct-told .given .1 .1 .0 .1) ∙ ap (λ (x : ArcRow). x .setting) (c .before .before .arc-row .ensures) in
+    c .setting-of .ensures ∙ ap₂ settingOf (ap (λ (x : Arc). x .kind) (c .before .before .before .before .arc .ensures)) n
+
 arc-requires : tie.Need-arc-requires
 arc-requires c κs = search needs
 
--- src/pressures.rt:109:22
 pressure-requires : tie.Need-pressure-requires
-pressure-requires c κs = ?
+pressure-requires c κs =
+    let s = c .before .before in
+    let a = s .pre in
+    let n = to-node (a .at .accepted) (s .args .e) (a .arc) in
+    let h : c .before .arc .result .to < 1000000 = rw (c .before .arc .ensures) (omega (arith, n, counted (a .at .accepted) .nodes)) in
+    h
 
--- src/pressures.rt:109:43
 pressure-requires-2 : tie.Need-pressure-requires-2
-pressure-requires-2 c κs = ?
+pressure-requires-2 c κs =
+    let s = c .before .before .before in
+    let a = s .pre in
+    let n = from-node (a .at .accepted) (s .args .e) (a .arc) in
+    let h : c .before .before .arc .result .from < 1000000 = rw (c .before .before .arc .ensures) (omega (arith, n, counted (a .at .accepted) .nodes)) in
+    h
 
--- src/pressures.rt:109:14
 at-most-requires : tie.Need-at-most-requires
 at-most-requires c κs = search needs
 
--- src/pressures.rt:110:74
 arc-row-requires : tie.Need-arc-row-requires
-arc-row-requires c κs = ?
+arc-row-requires c κs = let a = c .before .before .pre in (counted (a .at .accepted), a .arc)
 
--- src/pressures.rt:110:57
 setting-of-requires : tie.Need-setting-of-requires
 setting-of-requires c κs = search needs
 
--- src/pressures.rt:110:14
 setting-pressures-requires : tie.Need-setting-pressures-requires
-setting-pressures-requires c κs = ?
+setting-pressures-requires c κs = (c .before .before .before .before .before .pre, setting-is c)
 
--- src/pressures.rt:102:1
 returns : tie.Need-returns
-returns c = ?
+unfolding pressuresKept
+returns c =
+    let m = c .before .before .before in
+    let s = m .before .before in
+    let x = m .before .arc .ensures in
+    let k : eqb (arcOf (now (s .args .case)) (s .args .e) .kind) 1 ≡ true = eq-eqb _ 1 (sym (ap (λ (y : Arc). y .kind) x) ∙ m .match .keys1) in
+    let p : toZ w64 (ofZ w64 (c .before .before .pressure .result)) ≡ pressureIn (now (s .args .row)) (arcOf (now (s .args .case)) (s .args .e) .to) = kept _ (c .before .before .pressure .ok) ∙ c .before .before .pressure .ensures ∙ ap (λ (y : Arc). pressureIn (now (s .args .row)) (y .to)) x in
+    let q : toZ w64 (ofZ w64 (c .before .pressure2 .result)) ≡ pressureIn (now (s .args .row)) (arcOf (now (s .args .case)) (s .args .e) .from) = kept _ (c .before .pressure2 .ok) ∙ c .before .pressure2 .ensures ∙ ap (λ (y : Arc). pressureIn (now (s .args .row)) (y .from)) x in
+    rw k (simp (p, q) at (c .at-most .ensures))
 
--- src/pressures.rt:102:1
 returns-2 : tie.Need-returns-2
-returns-2 c = ?
+unfolding pressuresKept
+returns-2 c =
+    let d = c .before in
+    let m = d .before .before .before in
+    let s = m .before .before in
+    let k : eqb (arcOf (now (s .args .case)) (s .args .e) .kind) 1 ≡ false = ne-eqb _ 1 (λ e. m .match .rest .1 (ap (λ (y : Arc). y .kind) (m .before .arc .ensures) ∙ e)) in
+    rw k (c .setting-pressures .ensures ∙ ap (settingPressures (now (s .args .case)) (now (s .args .row)) (s .args .i) (s .args .e)) (setting-is d))
 
 pub pressures-kept-spec : {M : Type 1} → statement M
 pressures-kept-spec =

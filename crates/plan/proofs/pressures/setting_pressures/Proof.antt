@@ -1,58 +1,69 @@
+use mathlib.Core.Path.{sym, ap, _∙_}
+use denote.Ref.{now}
+use Rattle.case.specs.declared.records.Arc.{Arc}
+use Rattle.plan.specs.declared.setting.Setting.the-variants.{Active}
+use Rattle.plan.specs.ArcPressures.{modePressures}
+use Rattle.plan.specs.CaseFacts.{from-node, to-node}
+use Rattle.plan.proofs.ArcLaws.{compressing-kind}
 use borrow.Author.Needs.{needs}
 use Rattle.plan.proofs.pressures.setting_pressures.Statement.{statement}
 use Rattle.plan.proofs.pressures.setting_pressures.Tie as tie
-use Rattle.plan.proofs.pressures.setting_pressures.Reads as reads
-use Rattle.plan.proofs.pressures.setting_pressures.Lts as lts
-use Rattle.case.proofs.read.arc.Reads as arc-reads
-use Rattle.plan.proofs.pressures.mode_pressures.Reads as mode-pressures-reads
 
--- src/pressures.rt:89:29
 enum-told : tie.Need-enum-told
 enum-told c = search needs
 
--- src/pressures.rt:90:25
 enum-told-2 : tie.Need-enum-told-2
 enum-told-2 c = search needs
 
--- src/pressures.rt:91:27
 enum-known-setting : tie.Need-enum-known-setting
 enum-known-setting c = search needs
 
--- src/pressures.rt:92:17
 arc-requires : tie.Need-arc-requires
 arc-requires c κs = search needs
 
--- src/pressures.rt:94:33
 enum-told-3 : tie.Need-enum-told-3
 enum-told-3 c = search needs
 
--- src/pressures.rt:94:33
 mode-pressures-requires : tie.Need-mode-pressures-requires
-mode-pressures-requires c κs = ?
+mode-pressures-requires c κs =
+    let t = c .before .before .before .before in
+    let s = t .before .before in
+    let a = s .pre .0 in
+    let ac = a .at .accepted in
+    let q = c .before .before .arc .ensures in
+    (a, rw q (from-node ac (s .args .e) (a .arc)), rw q (to-node ac (s .args .e) (a .arc)), λ m. compressing-kind _ _ (t .setting .given .0 .0) (sym (s .pre .1) ∙ t .setting .given .1 ∙ ap (Active (t .setting .given .0 .0)) m))
 
--- src/pressures.rt:95:34
 enum-told-4 : tie.Need-enum-told-4
 enum-told-4 c = search needs
 
--- src/pressures.rt:95:34
 mode-pressures-requires-2 : tie.Need-mode-pressures-requires-2
-mode-pressures-requires-2 c κs = ?
+mode-pressures-requires-2 c κs =
+    let t = c .before .before .before .before in
+    let s = t .before .before in
+    let a = s .pre .0 in
+    let ac = a .at .accepted in
+    let q = c .before .before .arc .ensures in
+    (a, rw q (to-node ac (s .args .e) (a .arc)), rw q (from-node ac (s .args .e) (a .arc)), λ m. compressing-kind _ _ (t .setting .given .0 .0) (sym (s .pre .1) ∙ t .setting .given .1 ∙ ap (Active (t .setting .given .0 .0)) m))
 
--- src/pressures.rt:84:1
 returns : tie.Need-returns
-returns c = ?
+returns c = rw (c .enum-told .given .1)
 
--- src/pressures.rt:84:1
 returns-2 : tie.Need-returns-2
-returns-2 c = ?
+returns-2 c = rw (c .enum-told2 .given .1)
 
--- src/pressures.rt:84:1
 returns-3 : tie.Need-returns-3
-returns-3 c = ?
+returns-3 c =
+    let t = c .before .before .before .before .before in
+    let s = t .before .before in
+    rw (t .setting .given .1, c .before .enum-told3 .given .1)
+    (c .mode-pressures .ensures ∙ ap (λ (x : Arc). modePressures (now (s .args .case)) (now (s .args .row)) (s .args .i) (s .args .e) (t .setting .given .0 .1 .0) (x .from) (x .to)) (c .before .before .before .arc .ensures))
 
--- src/pressures.rt:84:1
 returns-4 : tie.Need-returns-4
-returns-4 c = ?
+returns-4 c =
+    let t = c .before .before .before .before .before in
+    let s = t .before .before in
+    rw (t .setting .given .1, c .before .enum-told4 .given .1)
+    (c .mode-pressures2 .ensures ∙ ap (λ (x : Arc). modePressures (now (s .args .case)) (now (s .args .row)) (s .args .i) (s .args .e) (t .setting .given .0 .1 .0) (x .to) (x .from)) (c .before .before .before .arc .ensures))
 
 pub setting-pressures-spec : {M : Type 1} → statement M
 setting-pressures-spec =

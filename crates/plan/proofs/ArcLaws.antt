@@ -1,0 +1,174 @@
+-- What the functions of one arc share: signed reads, sizes of a pipe's two sides, the station of a compressing arc, and the order of an arc's questions.
+-- Assumes nothing.
+use mathlib.Core.Path.{_≡_, refl, sym, ap, ap₂, _∙_, subst}
+use mathlib.Core.Bool.{Bool, true, false, cond}
+use mathlib.Core.List.{List, _++_}
+use Prim.Native.Nat.{ℕ, _<_, _≤_, _^_}
+use native.Mathlib.Omega.{arith}
+use borrow.Author.Tests.{leb-false}
+use lib.Dec.{T, eqb, leb, ltb}
+use lib.IntN.{ℤ, pos, natAbs, _+ℤ_, _-ℤ_, _*ℤ_}
+use lib.ListN.{getD}
+use lib.Signed.{leZ}
+use mir.Syntax.{w64}
+use mir.Val.{toZ, ofZ}
+use Rattle.numbers.specs.SignedParts.{posPart}
+use Rattle.numbers.specs.SignedBounds.{Bounded}
+use Rattle.numbers.specs.SignedLocals.{Held, held, plain, loosen, _+ʳ_, _-ʳ_, _*ʳ_, literal}
+use Rattle.numbers.specs.Sets.{memberOf}
+use Rattle.numbers.specs.Sum.{abs-sum-le, abs-only-le}
+use Rattle.numbers.specs.Question.{Question, firstNo, firstNo-append, orElse, orElse-assoc, orElse-first}
+use Rattle.numbers.specs.declared.answer.Answer.{Answer}
+use Rattle.numbers.specs.declared.answer.Answer.the-variants.{Yes, No}
+use Rattle.case.specs.declared.records.Layout.{Layout}
+use Rattle.case.specs.declared.records.Arc.{Arc}
+use Rattle.case.specs.declared.records.Pipe.{Pipe}
+use Rattle.case.specs.declared.records.Artificial.{Artificial}
+use Rattle.case.specs.Layout.{numberAt, nodesOf, machinesAt}
+use Rattle.case.specs.Records.{arcOf, pipeOf, artificialOf, machineRow}
+use Rattle.plan.specs.declared.rows.ArcRow.{ArcRow}
+use Rattle.plan.specs.declared.setting.Way.{Way}
+use Rattle.plan.specs.declared.setting.Way.the-variants.{Forward}
+use Rattle.plan.specs.declared.setting.Mode.the-variants.{Open, Compressing}
+use Rattle.plan.specs.declared.setting.Setting.{Setting}
+use Rattle.plan.specs.declared.setting.Setting.the-variants.{Unknown, Off, Active}
+use Rattle.plan.specs.PlanRecords.{arcRow}
+use Rattle.plan.specs.Setting.{settingOf, activeOf, valveOf, homeOf}
+use Rattle.plan.specs.Machines.{machineGain, gainPart}
+use Rattle.plan.specs.Pipes.{duration, change, pipeImbalance, pressureBalance}
+use Rattle.plan.specs.Sizes.{MachinesSized}
+use Rattle.plan.specs.Handed.{AtArc, AtPipe, Compresses}
+use Rattle.plan.specs.CaseFacts.{counted, duration-sized, node-sized, from-node, to-node, pipe-sized, station-in, machines-sized}
+
+-- ---- signed reads
+
+-- a value in a local, of which it is known what it is and how large
+pub read : {r z : ℤ} {n : ℕ} → r ≡ z → Bounded z n → T (ltb n (2 ^ 63)) → Held (toZ w64 (ofZ w64 r)) z n
+read e b t = held (record { val = e; bound = b .bound }) t
+
+pub read-bounded : {r z : ℤ} {n : ℕ} → Held r z n → Bounded r n
+read-bounded {n = n} h = record { bound = subst (λ (y : ℤ). natAbs y ≤ n) (sym (h .val)) (h .bound) }
+
+pub sized : {z : ℤ} {n : ℕ} → Bounded z n → Held z z n
+sized b = plain (b .bound)
+
+-- ---- 26: the ratio of a station's machines
+
+pub gain-sized : {case : List ℤ} {first : ℕ} (set : ℤ) → MachinesSized case first → Bounded (machineGain case first set) 132000
+unfolding machineGain gainPart
+gain-sized {case} {first} set z =
+    let part : (m : ℕ) → m < machinesAt case first → natAbs (gainPart case first set m) ≤ 11000 =
+    λ m p. abs-only-le (memberOf set m) (machineRow case first m .ratio -ℤ pos 1000) ((sized (z .ratio m p) -ʳ literal (pos 1000)) .bound) in
+    record { bound = omega (arith, abs-sum-le (machinesAt case first) 11000 (gainPart case first set) part, z .count) }
+
+-- ---- the station of an artificial arc
+
+module _ {case row : List ℤ} {l : Layout} {i e : ℕ} (a : AtArc case row l i e) (k : 3 ≤ arcOf case e .kind) where
+  pub home-is : {x : Artificial} {r : ℕ} → x ≡ artificialOf case e → r ≡ getD (l .rows) (x .station) 0 → r ≡ homeOf case e
+  home-is q h =
+      h ∙ ap (λ (y : Artificial). getD (l .rows) (y .station) 0) q
+      ∙ a .at .laid .rows .each (artificialOf case e .station) (station-in (a .at .accepted) e (a .arc) k)
+
+  pub home-machines : {r : ℕ} → r ≡ homeOf case e → MachinesSized case r
+  home-machines h = rw h (machines-sized (a .at .accepted) (artificialOf case e .station) (station-in (a .at .accepted) e (a .arc) k))
+
+  pub compresses : {r u w : ℕ} → r ≡ homeOf case e → u < nodesOf case → w < nodesOf case → Compresses case row r i e u w
+  compresses {r} {u} {w} h p q = record {
+    counted = counted (a .at .accepted);
+    arc = a .arc;
+    home = h;
+    machines = home-machines h;
+    in-node = p;
+    out-node = q;
+    out = a .pressures .each w q;
+    base = node-sized (a .at .accepted) u p i (a .at .step) .p0;
+  }
+
+-- only arcs of a station compress
+pub compressing-kind : (kind : ℕ) (z : ℤ) (way : Way) → settingOf kind z ≡ Active way Compressing → 3 ≤ kind
+unfolding settingOf activeOf valveOf
+compressing-kind kind z way e = go (leZ (pos 0) z) (eqb (posPart z) 0) (eqb kind 0) (leb kind 2) (eqb (posPart z) 1) _ refl e
+  where
+    go : (a b v d f : Bool) (X : Setting) → leb kind 2 ≡ d
+        → cond a (cond b Off (cond v (cond f (Active Forward Open) Unknown) (cond d Unknown X))) Unknown ≡ Active way Compressing → 3 ≤ kind
+    go true true v d f X h e = let y : _≡_ {A = ℕ} 0 1 = cc in omega arith
+    go true false true d true X h e = let y : _≡_ {A = ℕ} 0 1 = cc in omega arith
+    go true false true d false X h e = let y : _≡_ {A = ℕ} 0 1 = cc in omega arith
+    go true false false true f X h e = let y : _≡_ {A = ℕ} 0 1 = cc in omega arith
+    go true false false false f X h e = omega (arith, leb-false kind 2 h)
+    go false b v d f X h e = let y : _≡_ {A = ℕ} 0 1 = cc in omega arith
+
+-- ---- 28 and 29: the two sides of a pipe
+
+-- what the sum of 28 is made of, as it is read, and that it is the sum
+pub record SumRead (dt a b c x y z : ℤ) : Type 0 where
+  pub sizes : Bounded (toZ w64 (ofZ w64 dt)) 86400
+      × Bounded (toZ w64 (ofZ w64 a)) 10000000
+      × Bounded (toZ w64 (ofZ w64 b)) 10000000
+      × Bounded (toZ w64 (ofZ w64 c)) 100000000
+      × Bounded (toZ w64 (ofZ w64 x)) 400000
+      × Bounded (toZ w64 (ofZ w64 y)) 400000
+  pub total : Held (toZ w64 (ofZ w64 dt) *ℤ (toZ w64 (ofZ w64 a) -ℤ toZ w64 (ofZ w64 b)) -ℤ toZ w64 (ofZ w64 c) *ℤ (toZ w64 (ofZ w64 x) +ℤ toZ w64 (ofZ w64 y))) z 100000000000000
+
+module _ {case old row : List ℤ} {i e : ℕ} (p : AtPipe case old row i e) where
+  pub change-sized : (v : ℕ) → v < nodesOf case → Bounded (change (numberAt old) row v) 400000
+  change-sized v q = record { bound = (sized (p .at .pressures .each v q) -ʳ sized (p .at .before .each v q)) .bound }
+
+  pub sum-read : {dt x y : ℤ} {r : ArcRow} {k : Pipe} {n : Arc} → dt ≡ duration case i → r ≡ arcRow case row e → k ≡ pipeOf case e → n ≡ arcOf case e
+      → x ≡ change (numberAt old) row (n .from) → y ≡ change (numberAt old) row (n .to)
+      → SumRead dt (r .a) (r .b) (k .c) x y (pipeImbalance case (numberAt old) row i e)
+  unfolding pipeImbalance
+  sum-read {dt} {x} {y} {r} {k} {n} et er ek en ex ey =
+      let s = p .at in
+      let z = pipe-sized (s .accepted) e (s .arc) (p .pipe) in
+      let d = read et (duration-sized (s .accepted) i (s .step)) tt in
+      let a = read (ap (λ (u : ArcRow). u .a) er) (s .flows .a) tt in
+      let b = read (ap (λ (u : ArcRow). u .b) er) (s .flows .b) tt in
+      let c = read (ap (λ (u : Pipe). u .c) ek) (z .c) tt in
+      let f = read (ex ∙ ap (λ (u : Arc). change (numberAt old) row (u .from)) en) (change-sized (arcOf case e .from) (from-node (s .accepted) e (s .arc))) tt in
+      let t = read (ey ∙ ap (λ (u : Arc). change (numberAt old) row (u .to)) en) (change-sized (arcOf case e .to) (to-node (s .accepted) e (s .arc))) tt in
+      record {
+        sizes = (read-bounded d, read-bounded a, read-bounded b, read-bounded c, read-bounded f, read-bounded t);
+        total = loosen 100000000000000 (omega arith) (d *ʳ (a -ʳ b) -ʳ c *ʳ (f +ʳ t));
+      }
+
+  pub imbalance-sized : Bounded (pipeImbalance case (numberAt old) row i e) 100000000000000
+  unfolding pipeImbalance
+  imbalance-sized =
+      let a = p .at in
+      let f = a .flows in
+      let z = pipe-sized (a .accepted) e (a .arc) (p .pipe) in
+      let x = change-sized (arcOf case e .from) (from-node (a .accepted) e (a .arc)) in
+      let y = change-sized (arcOf case e .to) (to-node (a .accepted) e (a .arc)) in
+      let h = sized (duration-sized (a .accepted) i (a .step)) *ʳ (sized (f .a) -ʳ sized (f .b)) -ʳ sized (z .c) *ʳ (sized x +ʳ sized y) in
+      record { bound = omega (arith, h .bound) }
+
+  pub balance-sized : Bounded (pressureBalance case row e) 300000000000000
+  unfolding pressureBalance
+  balance-sized =
+      let a = p .at in
+      let f = a .flows in
+      let z = pipe-sized (a .accepted) e (a .arc) (p .pipe) in
+      let x = sized (a .pressures .each (arcOf case e .from) (from-node (a .accepted) e (a .arc))) in
+      let y = sized (a .pressures .each (arcOf case e .to) (to-node (a .accepted) e (a .arc))) in
+      let h = literal (pos 1000000) *ʳ (y -ʳ x) +ʳ sized (z .f) *ʳ sized (f .a) +ʳ sized (z .g) *ʳ sized (f .b) +ʳ sized (z .h) *ʳ (x +ʳ y) in
+      record { bound = omega (arith, h .bound) }
+
+-- ---- the questions of an arc, the first four asked before the last two
+
+module _ (F P Q : List Question) {f p a : Answer} (ef : f ≡ firstNo F) (ep : p ≡ firstNo P) (ea : a ≡ orElse f p) where
+  joined : firstNo (F ++ (P ++ Q)) ≡ orElse a (firstNo Q)
+  joined =
+      firstNo-append F (P ++ Q)
+      ∙ ap₂ orElse (sym ef) (firstNo-append P Q ∙ ap (λ (y : Answer). orElse y (firstNo Q)) (sym ep))
+      ∙ sym (orElse-assoc f p (firstNo Q))
+      ∙ ap (λ (y : Answer). orElse y (firstNo Q)) (sym ea)
+
+  pub went-on : {q : Answer} → a ≡ Yes → q ≡ firstNo Q → q ≡ firstNo (F ++ (P ++ Q))
+  went-on y e = e ∙ sym (joined ∙ ap (λ (z : Answer). orElse z (firstNo Q)) y)
+
+  pub stopped : {n s v : ℕ} → a ≡ No n s v → a ≡ firstNo (F ++ (P ++ Q))
+  stopped y = y ∙ sym (joined ∙ ap (λ (z : Answer). orElse z (firstNo Q)) y)
+
+  pub first-four : a ≡ Yes → firstNo F ≡ Yes
+  first-four y = sym ef ∙ orElse-first f p (sym ea ∙ y)
