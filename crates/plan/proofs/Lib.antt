@@ -1,3 +1,11 @@
 pub mod Values
 pub mod Sums
+pub mod Filled
+pub mod Adding
+pub mod StepSizes
 pub mod ArcLaws
+pub mod NetFlows
+pub mod NodeParts
+pub mod StationParts
+pub mod Taken
+pub mod Verdicts

@@ -10,7 +10,7 @@ use Rattle.numbers.specs.Question.{Question}
 use Rattle.numbers.specs.Items.{over}
 use Rattle.numbers.specs.SignedParts.{posPart}
 use Rattle.numbers.specs.Sets.{memberOf, subsetOf, disjointOf}
-use Rattle.numbers.specs.Sum.{sum, only, onlyN, count}
+use Rattle.numbers.specs.Sum.{sum, only, count}
 use Rattle.case.specs.declared.records.Direction.{Direction}
 use Rattle.case.specs.Layout.{nodesOf, arcsOf, stationsOf}
 use Rattle.case.specs.Records.{arcOf, stationOf, directionOf, stateOf}
@@ -47,10 +47,6 @@ choiceKept case row s =
 -- is machine m on arc e?
 abbrev pub onArc : List ℤ → List ℤ → ℕ → ℕ → ℕ → Bool
 onArc case row s m e = belongs case s e && memberOf (arcRow case row e .machines) m
-
--- the machines on arc e, if the arc is the station's
-unfoldable pub machinesOn : List ℤ → List ℤ → ℕ → ℕ → ℕ
-machinesOn case row s e = onlyN (belongs case s e) (posPart (arcRow case row e .machines))
 
 abbrev pub machineOnce : List ℤ → List ℤ → ℕ → ℕ → Bool
 machineOnce case row s m = leb (count (arcsOf case) (onArc case row s m)) 1

@@ -22,7 +22,7 @@ use Rattle.case.specs.OneStation.{oneStation, allOneStation}
 use Rattle.case.specs.StationSize.{stationSize, allStationSizes}
 use Rattle.case.specs.Directions.{directionKept, directionSets, allDirectionSets}
 use Rattle.case.specs.States.{stateKept, machinesKept, startKept, stationKept, stateSets, allStateSets}
-use Rattle.case.specs.Judged.{rowQuestions, listQuestions, ruleQuestions, caseQuestions}
+use Rattle.case.specs.Judged.{rowQuestions, listQuestions, earlyRules, ruleQuestions, caseQuestions}
 use Rattle.plan.specs.PlanLayout.{stepWidth, stepAt, stepRow}
 use Rattle.plan.specs.Setting.{directed, combinedOf, valveOf, activeOf, settingOf}
 use Rattle.plan.specs.Before as before
@@ -83,5 +83,5 @@ pub record Rows : Type 0 where
   pub row6-above : judgeOf case6 (plan6 (pos 60001)) ≡ refuses 26 1 0
 
 pub rows : Rows
-unfolding judgeOf questions planQuestions planStep totalsOf totalsTo stepPressureSlack stepDemandSlack stepSwitching stepResidual gasAt gasPart nodeResiduals pipeResiduals pipePart activityCosts choiceCosts choiceCost activityCost stateCost directionCost demandSlackIn pressureSlackIn demandSlackAt pressureSlackAt stepQuestions allBalanceQuestions balanceQuestions balanceKept nodeResidual nodeImbalance netFlow inflow outflow inPart outPart flowAtTo flowAtFrom allStationQuestions stationQuestions fenceFlowsKept fenceNodeKept stationFlow stationPart machinesOnce choiceKept stateObeyed activeSet allArcQuestions arcQuestions flowQuestions pressureQuestions pipeQuestions pipePressuresKept pressureBalance pipeMassKept pipeResidual pipeImbalance duration machinesUsed machinesCarry pressuresKept compressionKept machineGain gainPart machineFlow flowPart flowAllowed arcNumbersKept machinesWithin flowsKept allNodeQuestions nodeQuestions activeBoundsKept demandMet nodeNumbersKept boundaryFlowKept slacksKept headKept before.pressureAt before.activeAt before.directionAt before.stateAt settingOf activeOf valveOf combinedOf directed stepRow stepAt stepWidth caseQuestions ruleQuestions listQuestions rowQuestions allStateSets stateSets stationKept startKept machinesKept stateKept allDirectionSets directionSets directionKept allStationSizes stationSize allOneStation oneStation allArcEnds arcEnds plainNodes stationNodes endsOf withNode arcSet arcsBefore leftover allStationFields stationFields rowFields partFields machineFields stateFields stateRowFields directionFields stationHead allArcFields arcFields kindFields compressorFields memberFields pipeFields endFields allNodeFields nodeFields demandFields boundFields timeFields timeField headFields toleranceFields countFields field fields nodeAt arcAt stationAt directionAt stateAt machineAt sum sumN count ones
+unfolding judgeOf questions planQuestions planStep totalsOf totalsTo stepPressureSlack stepDemandSlack stepSwitching stepResidual gasAt gasPart nodeResiduals pipeResiduals pipePart activityCosts choiceCosts choiceCost activityCost stateCost directionCost demandSlackIn pressureSlackIn demandSlackAt pressureSlackAt stepQuestions allBalanceQuestions balanceQuestions balanceKept nodeResidual nodeImbalance netFlow inflow outflow inPart outPart flowAtTo flowAtFrom allStationQuestions stationQuestions fenceFlowsKept fenceNodeKept stationFlow stationPart machinesOnce choiceKept stateObeyed activeSet allArcQuestions arcQuestions flowQuestions pressureQuestions pipeQuestions pipePressuresKept pressureBalance pipeMassKept pipeResidual pipeImbalance duration machinesUsed machinesCarry pressuresKept compressionKept machineGain gainPart machineFlow flowPart flowAllowed arcNumbersKept machinesWithin flowsKept allNodeQuestions nodeQuestions activeBoundsKept demandMet nodeNumbersKept boundaryFlowKept slacksKept headKept before.pressureAt before.activeAt before.directionAt before.stateAt settingOf activeOf valveOf combinedOf directed stepRow stepAt stepWidth caseQuestions ruleQuestions earlyRules listQuestions rowQuestions allStateSets stateSets stationKept startKept machinesKept stateKept allDirectionSets directionSets directionKept allStationSizes stationSize allOneStation oneStation allArcEnds arcEnds plainNodes stationNodes endsOf withNode arcSet arcsBefore leftover allStationFields stationFields rowFields partFields machineFields stateFields stateRowFields directionFields stationHead allArcFields arcFields kindFields compressorFields memberFields pipeFields endFields allNodeFields nodeFields demandFields boundFields timeFields timeField headFields toleranceFields countFields field fields nodeAt arcAt stationAt directionAt stateAt machineAt sum sumN count ones
 rows = record { row1 = refl; row2 = refl; row3 = refl; row4 = refl; row6 = refl; row6-above = refl }

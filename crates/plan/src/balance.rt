@@ -4,21 +4,21 @@ ghost use Prim.Native.Nat.{_<_};
 ghost use lib.IntN.{pos};
 ghost use Rattle.numbers.specs.Question.{firstNo};
 ghost use Rattle.numbers.specs.SignedBounds.{Bounded};
-ghost use Rattle.case.specs.Layout.{numberAt, nodesOf, arcsOf};
+ghost use Rattle.case.specs.Layout.{nodesOf, arcsOf};
 ghost use Rattle.case.specs.Laid.{Holds};
 ghost use Rattle.plan.specs.Balance.{flowAtFrom, flowAtTo, netFlow, nodeResidual, allBalanceQuestions};
-ghost use Rattle.plan.specs.Moved.{movedAt, arcMoved, NetSized};
+ghost use Rattle.plan.specs.Moved.{movedAt, NetSized};
 ghost use Rattle.plan.specs.Sizes.{FlowsSized, NodesSized};
 ghost use Rattle.plan.specs.Handed.{AcceptedCase, AtStep, AtBalance};
-use numbers::answer::Answer;
-use numbers::compare::at;
-use numbers::compare::at_most;
-use case::read::arc;
-use case::records::Layout;
 use super::pipes::duration;
 use super::pipes::size;
 use super::rows::arc_row;
 use super::rows::node_row;
+use case::read::arc;
+use case::records::Layout;
+use numbers::answer::Answer;
+use numbers::compare::at;
+use numbers::compare::at_most;
 
 // Each node's net flow.
 pub struct Net {
@@ -28,7 +28,7 @@ pub struct Net {
 // The net flows with one arc more, which takes `out` from node `from` and brings `into` to node `to`.
 pub(crate) fn moved(net: Net, from: usize, to: usize, out: i64, into: i64) -> Net
     requires { ⌜ (from < 60) × (to < 60) × (Bounded out 20000000) × (Bounded into 20000000) × (NetSized (net .flows)) ⌝ }
-    ensures { λ r. ⌜ Holds (pos 0) (r .flows) (movedAt from to out into (numberAt (net .flows))) 60 ⌝ }
+    ensures { λ r. ⌜ Holds (pos 0) (r .flows) (movedAt (net .flows) from to out into) 60 ⌝ }
 {
     let mut next = net;
     let leaving = next.flows[from] + out;
@@ -60,16 +60,6 @@ fn end_flows(case: &[i64], row: &[i64], e: usize) -> Ends
     }
 }
 
-// The net flows with arc `e`.
-fn arc_moved(net: Net, case: &[i64], row: &[i64], e: usize) -> Net
-    requires { ⌜ (AcceptedCase (now case)) × (e < arcsOf (now case)) × (FlowsSized (now case) (now row)) × (NetSized (net .flows)) ⌝ }
-    ensures { λ r. ⌜ Holds (pos 0) (r .flows) (arcMoved (now (case .entry)) (now (row .entry)) e (numberAt (net .flows))) 60 ⌝ }
-{
-    let c = arc(case, e);
-    let flow = end_flows(case, row, e);
-    moved(net, c.from, c.to, flow.from, flow.to)
-}
-
 // Each node's flow out less its flow in.
 pub(crate) fn net_flows(case: &[i64], row: &[i64], arcs: usize) -> Net
     requires { ⌜ (AcceptedCase (now case)) × (arcs ≡ arcsOf (now case)) × (FlowsSized (now case) (now row)) ⌝ }
@@ -78,7 +68,9 @@ pub(crate) fn net_flows(case: &[i64], row: &[i64], arcs: usize) -> Net
     let mut net = Net { flows: [0; 60] };
     let mut e: usize = 0;
     while e < arcs {
-        net = arc_moved(net, case, row, e);
+        let c = arc(case, e);
+        let flow = end_flows(case, row, e);
+        net = moved(net, c.from, c.to, flow.from, flow.to);
         e += 1;
     }
     net

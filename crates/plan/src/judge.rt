@@ -10,31 +10,29 @@ ghost use Rattle.plan.specs.Totals.{totalsOf};
 ghost use Rattle.plan.specs.Judged.{planQuestions, verdictOf, verdictTold, judgeOf};
 ghost use Rattle.plan.specs.JudgedBytes.{planNumber, planBytesTold, bytesTold, caseBytesTold, planListAfter, planListOf};
 ghost use Rattle.plan.specs.Handed.{AcceptedCase};
+use super::steps::steps;
+use super::verdict::Verdict;
+use case::judge::judge_case;
+use case::judge::layout;
+use case::records::Layout;
 use numbers::answer::Answer;
 use numbers::compare::at;
 use numbers::compare::same;
 use numbers::reader::Reading;
 use numbers::reader::read;
-use case::judge::judge_case;
-use case::judge::layout;
-use case::records::Layout;
-use super::bools::both;
-use super::steps::steps;
-use super::verdict::Verdict;
 
 // 20
 fn head_kept(case: &[i64], plan: &[i64], layout: Layout) -> bool
     requires { ⌜ (AcceptedCase (now case)) × (Laid (now case) layout) ⌝ }
     ensures { λ r. ⌜ r ≡ headKept (now (case .entry)) (now (plan .entry)) ⌝ }
 {
-    let width = layout.nodes * 6 + layout.arcs * 4 + layout.stations * 2;
-    both(
-        same(at(plan, 0), 1),
-        both(
-            same(at(plan, 1), layout.steps as i64),
-            plan.len() == 2 + layout.steps * width,
-        ),
-    )
+    if same(at(plan, 0), 1) {
+        if same(at(plan, 1), layout.steps as i64) {
+            let width = layout.nodes * 6 + layout.arcs * 4 + layout.stations * 2;
+            return plan.len() == 2 + layout.steps * width;
+        }
+    }
+    false
 }
 
 // The verdict on a plan for a case that has been accepted.
@@ -85,14 +83,14 @@ fn plan_number(number: usize) -> usize
 }
 
 // The plan bytes, for a case that has been accepted.
-fn judge_plan_bytes(case: &[i64], plan_bytes: &[u8], plan_list: &mut [i64]) -> Verdict
+fn judge_plan_bytes(case: &[i64], planbytes: &[u8], planlist: &mut [i64]) -> Verdict
     requires { ⌜ AcceptedCase (now case) ⌝ }
-    ensures { λ r. ⌜ verdictTold r ≡ planBytesTold (now (case .entry)) (now (plan_bytes .entry)) (length (now (plan_list .entry))) ⌝ }
-    ensures { λ _. ⌜ now (plan_list .exit) ≡ overlay (readOf (now (plan_bytes .entry)) (length (now (plan_list .entry))) .stored) (now (plan_list .entry)) ⌝ }
+    ensures { λ r. ⌜ verdictTold r ≡ planBytesTold (now (case .entry)) (now (planbytes .entry)) (length (now (planlist .entry))) ⌝ }
+    ensures { λ _. ⌜ now (planlist .exit) ≡ overlay (readOf (now (planbytes .entry)) (length (now (planlist .entry))) .stored) (now (planlist .entry)) ⌝ }
 {
-    let got = read(plan_bytes, plan_list);
+    let got = read(planbytes, planlist);
     match got {
-        Reading::Count(count) => judge_plan(case, &plan_list[..count]),
+        Reading::Count(count) => judge_plan(case, &planlist[..count]),
         Reading::Refused { number, place } => Verdict::Refused {
             number: plan_number(number),
             step: 0,
@@ -102,13 +100,13 @@ fn judge_plan_bytes(case: &[i64], plan_bytes: &[u8], plan_list: &mut [i64]) -> V
 }
 
 // The case, and then the plan bytes.
-fn judge_case_list(case: &[i64], plan_bytes: &[u8], plan_list: &mut [i64]) -> Verdict
-    ensures { λ r. ⌜ verdictTold r ≡ caseBytesTold (now (case .entry)) (now (plan_bytes .entry)) (length (now (plan_list .entry))) ⌝ }
-    ensures { λ _. ⌜ now (plan_list .exit) ≡ planListAfter (now (case .entry)) (now (plan_bytes .entry)) (now (plan_list .entry)) ⌝ }
+fn judge_case_list(case: &[i64], planbytes: &[u8], planlist: &mut [i64]) -> Verdict
+    ensures { λ r. ⌜ verdictTold r ≡ caseBytesTold (now (case .entry)) (now (planbytes .entry)) (length (now (planlist .entry))) ⌝ }
+    ensures { λ _. ⌜ now (planlist .exit) ≡ planListAfter (now (case .entry)) (now (planbytes .entry)) (now (planlist .entry)) ⌝ }
 {
     let a = judge_case(case);
     match a {
-        Answer::Yes => judge_plan_bytes(case, plan_bytes, plan_list),
+        Answer::Yes => judge_plan_bytes(case, planbytes, planlist),
         Answer::No {
             number,
             step,
@@ -122,14 +120,19 @@ fn judge_case_list(case: &[i64], plan_bytes: &[u8], plan_list: &mut [i64]) -> Ve
 }
 
 // The case bytes are read, the case is judged, the plan bytes are read, the plan is judged. A list that is not reached is unchanged.
-pub fn judge_bytes(case_bytes: &[u8], plan_bytes: &[u8], case_list: &mut [i64], plan_list: &mut [i64]) -> Verdict
-    ensures { λ r. ⌜ verdictTold r ≡ bytesTold (now (case_bytes .entry)) (now (plan_bytes .entry)) (length (now (case_list .entry))) (length (now (plan_list .entry))) ⌝ }
-    ensures { λ _. ⌜ now (case_list .exit) ≡ overlay (readOf (now (case_bytes .entry)) (length (now (case_list .entry))) .stored) (now (case_list .entry)) ⌝ }
-    ensures { λ _. ⌜ now (plan_list .exit) ≡ planListOf (now (case_bytes .entry)) (now (plan_bytes .entry)) (length (now (case_list .entry))) (now (plan_list .entry)) ⌝ }
+pub fn judge_bytes(
+    casebytes: &[u8],
+    planbytes: &[u8],
+    caselist: &mut [i64],
+    planlist: &mut [i64],
+) -> Verdict
+    ensures { λ r. ⌜ verdictTold r ≡ bytesTold (now (casebytes .entry)) (now (planbytes .entry)) (length (now (caselist .entry))) (length (now (planlist .entry))) ⌝ }
+    ensures { λ _. ⌜ now (caselist .exit) ≡ overlay (readOf (now (casebytes .entry)) (length (now (caselist .entry))) .stored) (now (caselist .entry)) ⌝ }
+    ensures { λ _. ⌜ now (planlist .exit) ≡ planListOf (now (casebytes .entry)) (now (planbytes .entry)) (length (now (caselist .entry))) (now (planlist .entry)) ⌝ }
 {
-    let got = read(case_bytes, case_list);
+    let got = read(casebytes, caselist);
     match got {
-        Reading::Count(count) => judge_case_list(&case_list[..count], plan_bytes, plan_list),
+        Reading::Count(count) => judge_case_list(&caselist[..count], planbytes, planlist),
         Reading::Refused { number, place } => Verdict::Refused {
             number: number,
             step: 0,

@@ -1,28 +1,21 @@
 // 30 to 32, of every station of a step.
 ghost use mathlib.Core.Path.{_≡_};
-ghost use Prim.Native.Nat.{_+_, _^_, _<_, _≤_};
-ghost use Rattle.numbers.specs.Sum.{onlyN};
+ghost use Prim.Native.Nat.{_+_, _<_, _≤_, _^_};
 ghost use lib.IntN.{pos};
 ghost use Rattle.numbers.specs.Question.{firstNo};
-ghost use Rattle.case.specs.Layout.{numberAt, nodesOf, arcsOf, stationAt};
+ghost use Rattle.numbers.specs.Sum.{onlyN};
+ghost use Rattle.case.specs.Layout.{nodesOf, arcsOf, stationAt};
 ghost use Rattle.case.specs.StationArcs.{stationArcs};
 ghost use Rattle.case.specs.Bounds.{Counted};
 ghost use Rattle.case.specs.Laid.{Holds};
-ghost use Rattle.plan.specs.StationRules.{oneOf, activeSet, stateObeyed, choiceKept, machinesOn, machinesOnce, stationFlow, fenceFlowKept, fenceNodeKept, fenceFlowsKept, stationQuestions, allStationQuestions};
 ghost use Rattle.plan.specs.PlanRecords.{activeIn};
-ghost use Rattle.plan.specs.Moved.{stationMoved, NetSized};
+ghost use Rattle.plan.specs.StationRules.{oneOf, activeSet, stateObeyed, choiceKept, machinesOnce, stationFlow, fenceFlowKept, fenceNodeKept, fenceFlowsKept, stationQuestions, allStationQuestions};
 ghost use Rattle.plan.specs.Sizes.{FlowsSized};
 ghost use Rattle.plan.specs.Handed.{AcceptedCase, AtStep, AtStation, MachinesKept};
-use numbers::answer::Answer;
-use numbers::answer::ask;
-use numbers::answer::or_else;
-
-use numbers::compare::at_most;
-use numbers::compare::index;
-use numbers::compare::same;
-use numbers::sets::disjoint;
-use numbers::sets::member;
-use numbers::sets::subset;
+use super::balance::Net;
+use super::balance::moved;
+use super::rows::arc_row;
+use super::rows::choice_of;
 use case::members::belongs;
 use case::read::arc;
 use case::read::direction;
@@ -30,21 +23,25 @@ use case::read::state;
 use case::read::station;
 use case::records::Direction;
 use case::records::Layout;
-use super::balance::Net;
-use super::balance::moved;
-use super::bools::both;
-use super::rows::arc_row;
-use super::rows::choice_of;
+use numbers::answer::Answer;
+use numbers::answer::ask;
+use numbers::answer::or_else;
+use numbers::compare::at_most;
+use numbers::compare::index;
+use numbers::compare::same;
+use numbers::sets::disjoint;
+use numbers::sets::member;
+use numbers::sets::subset;
 
 // Is it the index of one of `n` items?
 fn one_of(x: i64, n: usize) -> bool
     ensures { λ r. ⌜ r ≡ oneOf x n ⌝ }
 {
-    both(at_most(0, x), index(x) < n)
+    if at_most(0, x) { index(x) < n } else { false }
 }
 
-// A set of the station's arcs, with arc `e`, its `n`-th, in it if the arc is active.
-fn with_arc(case: &[i64], row: &[i64], set: usize, n: usize, e: usize) -> usize
+// The set with arc `e` in it, if that is active. It is the station's arc `n`, and the arcs before it make up `set`.
+fn with_active(case: &[i64], row: &[i64], set: usize, n: usize, e: usize) -> usize
     requires { ⌜ (Counted (now case)) × (e < arcsOf (now case)) × (n < 62) × (set < 2 ^ n) ⌝ }
     ensures { λ r. ⌜ r ≡ set + onlyN (activeIn (now (case .entry)) (now (row .entry)) e) (2 ^ n) ⌝ }
 {
@@ -65,7 +62,7 @@ fn active_set(case: &[i64], row: &[i64], s: usize, arcs: usize) -> i64
     let mut e: usize = 0;
     while e < arcs {
         if belongs(case, s, e) {
-            set = with_arc(case, row, set, n, e);
+            set = with_active(case, row, set, n, e);
             n += 1;
         }
         e += 1;
@@ -74,16 +71,26 @@ fn active_set(case: &[i64], row: &[i64], s: usize, arcs: usize) -> i64
 }
 
 // Does the state support the direction, and do the active arcs obey it? The station's rows begin at `first`.
-fn state_obeyed(case: &[i64], row: &[i64], first: usize, s: usize, arcs: usize, f: usize, z: usize) -> bool
+fn state_obeyed(
+    case: &[i64],
+    row: &[i64],
+    first: usize,
+    s: usize,
+    arcs: usize,
+    f: usize,
+    z: usize,
+) -> bool
     requires { ⌜ (Counted (now case)) × (arcs ≡ arcsOf (now case)) × (stationArcs (now case) s ≤ 30) × (first ≡ stationAt (now case) s) ⌝ }
     ensures { λ r. ⌜ r ≡ stateObeyed (now (case .entry)) (now (row .entry)) s f z ⌝ }
 {
     let x = state(case, first, z);
-    let active = active_set(case, row, s, arcs);
-    both(
-        member(x.directions, f),
-        both(subset(x.on, active), disjoint(x.off, active)),
-    )
+    if member(x.directions, f) {
+        let active = active_set(case, row, s, arcs);
+        if subset(x.on, active) {
+            return disjoint(x.off, active);
+        }
+    }
+    false
 }
 
 // 30
@@ -94,27 +101,20 @@ fn choice_kept(case: &[i64], row: &[i64], layout: Layout, i: usize, s: usize) ->
     let first = layout.rows[s];
     let has = station(case, first);
     let chosen = choice_of(case, row, s);
-    let f = index(chosen.direction);
-    let z = index(chosen.state);
-    both(
-        one_of(chosen.direction, has.directions),
-        both(
-            one_of(chosen.state, has.states),
-            state_obeyed(case, row, first, s, layout.arcs, f, z),
-        ),
-    )
-}
-
-// The machines on arc `e`, if the arc is the station's.
-fn own_machines(case: &[i64], row: &[i64], s: usize, e: usize) -> usize
-    requires { ⌜ (Counted (now case)) × (e < arcsOf (now case)) ⌝ }
-    ensures { λ r. ⌜ r ≡ machinesOn (now (case .entry)) (now (row .entry)) s e ⌝ }
-{
-    if belongs(case, s, e) {
-        index(arc_row(case, row, e).machines)
-    } else {
-        0
+    if one_of(chosen.direction, has.directions) {
+        if one_of(chosen.state, has.states) {
+            return state_obeyed(
+                case,
+                row,
+                first,
+                s,
+                layout.arcs,
+                index(chosen.direction),
+                index(chosen.state),
+            );
+        }
     }
+    false
 }
 
 // 31: no arc of the station has a machine that an arc before it has.
@@ -126,29 +126,16 @@ fn machines_once(case: &[i64], row: &[i64], layout: Layout, i: usize, s: usize) 
     let mut taken: usize = 0;
     let mut e: usize = 0;
     while e < arcs {
-        let machines = own_machines(case, row, s, e);
-        if machines & taken != 0 {
-            return false;
+        if belongs(case, s, e) {
+            let machines = index(arc_row(case, row, e).machines);
+            if machines & taken != 0 {
+                return false;
+            }
+            taken = taken | machines;
         }
-        taken = taken | machines;
         e += 1;
     }
     true
-}
-
-// The net flows with arc `e`, if the arc is the station's.
-fn station_moved(net: Net, case: &[i64], row: &[i64], s: usize, e: usize) -> Net
-    requires { ⌜ (AcceptedCase (now case)) × (e < arcsOf (now case)) × (FlowsSized (now case) (now row)) × (NetSized (net .flows)) ⌝ }
-    ensures { λ r. ⌜ Holds (pos 0) (r .flows) (stationMoved (now (case .entry)) (now (row .entry)) s e (numberAt (net .flows))) 60 ⌝ }
-{
-    if belongs(case, s, e) {
-        let c = arc(case, e);
-        let r = arc_row(case, row, e);
-        let flow = r.a - r.b;
-        moved(net, c.from, c.to, flow, flow)
-    } else {
-        net
-    }
 }
 
 // The net flow from each node into the station's arcs.
@@ -159,7 +146,12 @@ fn station_flows(case: &[i64], row: &[i64], s: usize, arcs: usize) -> Net
     let mut net = Net { flows: [0; 60] };
     let mut e: usize = 0;
     while e < arcs {
-        net = station_moved(net, case, row, s, e);
+        if belongs(case, s, e) {
+            let c = arc(case, e);
+            let r = arc_row(case, row, e);
+            let flow = r.a - r.b;
+            net = moved(net, c.from, c.to, flow, flow);
+        }
         e += 1;
     }
     net
@@ -171,7 +163,11 @@ fn fence_flow_kept(entry: bool, exit: bool, flow: i64) -> bool
     if entry {
         return at_most(0, flow);
     }
-    if exit { at_most(flow, 0) } else { same(flow, 0) }
+    if exit {
+        at_most(flow, 0)
+    } else {
+        same(flow, 0)
+    }
 }
 
 // 32 of one node: `inside` are the station's nodes, `plain` the nodes that end an arc of kind 0 to 2; a fence node is in both.
@@ -192,7 +188,11 @@ fn fence_flows_kept(case: &[i64], row: &[i64], layout: Layout, i: usize, s: usiz
     ensures { λ r. ⌜ r ≡ fenceFlowsKept (now (case .entry)) (now (row .entry)) s ⌝ }
 {
     let net = station_flows(case, row, s, layout.arcs);
-    let chosen = direction(case, layout.rows[s], index(choice_of(case, row, s).direction));
+    let chosen = direction(
+        case,
+        layout.rows[s],
+        index(choice_of(case, row, s).direction),
+    );
     let inside = layout.inside[s];
     let plain = layout.plain;
     let nodes = layout.nodes;

@@ -1,73 +1,129 @@
+use mathlib.Core.Path.{_≡_, refl, sym, ap, _∙_}
+use mathlib.Core.Bool.{Bool}
+use Prim.Native.Nat.{ℕ, _≤_, _<_, _-_, _+_}
+use native.Mathlib.Omega.{arith}
+use borrow.Author.Needs.{needs}
+use borrow.Author.Tests.{not-true, not-false}
+use denote.Ref.{now}
+use lib.IntN.{ℤ, pos}
+use lib.ListN.{getD}
+use mir.Facts.{toZ-pos}
+use mir.Syntax.{w64}
+use mir.Val.{toZ, ofZ}
+use Rattle.numbers.specs.Items.{rest, rest-on, rest-no, rest-end}
+use Rattle.numbers.specs.Question.{firstNo, answer}
+use Rattle.case.specs.Layout.{nodesOf}
+use Rattle.plan.specs.Balance.{netFlow, nodeResidual, balanceQuestions, allBalanceQuestions}
+use Rattle.plan.specs.Handed.{AtBalance}
+use Rattle.plan.specs.CaseFacts.{counted, mass-sized}
+use Rattle.plan.proofs.NetFlows.{read}
+use Rattle.plan.proofs.NodeParts.{net-sized, residual-sized, balance-asked}
 use Rattle.plan.proofs.balance.balance_answers.Statement.{statement}
 use Rattle.plan.proofs.balance.balance_answers.Tie as tie
-use Rattle.plan.proofs.balance.balance_answers.Reads as reads
-use Rattle.plan.proofs.balance.balance_answers.Lts as lts
-use Rattle.numbers.proofs.compare.at.Reads as at-reads
-use Rattle.numbers.proofs.compare.at_most.Reads as at-most-reads
-use Rattle.plan.proofs.balance.net_flows.Reads as net-flows-reads
-use Rattle.plan.proofs.balance.node_residual.Reads as node-residual-reads
 
 abbrev Inv-loop : tie.InvT-loop
-Inv-loop case row i nodes most net v₀ v = ?
+Inv-loop case row i nodes most net v₀ v = (v ≤ nodes) × (firstNo (allBalanceQuestions case row i) ≡ rest (balanceQuestions case row i) v nodes)
 
 abbrev μ-loop : tie.MeasureT-loop
-μ-loop case row i nodes most net v₀ v = ?
+μ-loop case row i nodes most net v₀ v = nodes - v
 
--- src/balance.rt:92:9
+node-in : (c : tie.In-loop Inv-loop μ-loop) → c .before .loop .v < nodesOf (now (c .before .before .before .before .args .case))
+node-in c = rw (← (c .before .before .before .before .pre .0 .laid .nodes)) (c .loop-test .taken)
+
+-- the node with its net flow
+at-node : (c : tie.In-loop Inv-loop μ-loop) →
+    AtBalance (now (c .before .before .before .before .args .case)) (now (c .before .before .before .before .args .row)) (c .before .before .before .before .args .i) (c .before .loop .v)
+    (toZ w64 (ofZ w64 (getD (c .before .before .net-flows .result .flows) (c .before .loop .v) (pos 0))))
+at-node c =
+    let h = c .before in
+    let n = h .before in
+    let s = n .before .before in
+    let p = node-in c in
+    record {
+      accepted = s .pre .0 .accepted;
+      step = s .pre .0 .step;
+      node = p;
+      flows = s .pre .1;
+      rows = s .pre .2;
+      is = (read (n .net-flows .ensures .each (h .loop .v) p) (net-sized (s .pre .1) (s .pre .0 .accepted) (h .loop .v)) tt) .val;
+    }
+
 at-requires : tie.Need-at-requires Inv-loop μ-loop
-at-requires c κs = ?
+at-requires c κs = search needs
 
--- src/balance.rt:93:15
 net-flows-requires : tie.Need-net-flows-requires Inv-loop μ-loop
-net-flows-requires c κs = ?
+net-flows-requires c κs = let s = c .before in (s .pre .0 .accepted, s .pre .0 .laid .arcs, s .pre .1)
 
--- src/balance.rt:95:5
 loop-holds : tie.Need-loop-holds Inv-loop μ-loop
-loop-holds c = ?
+unfolding allBalanceQuestions
+loop-holds c =
+    let s = c .before .before in
+    let e : s .args .layout .nodes - 0 ≡ nodesOf (now (s .args .case)) = omega (arith, s .pre .0 .laid .nodes) in
+    (omega arith, rw e)
 
--- src/balance.rt:96:55
 mul-node-residual : tie.Need-mul-node-residual Inv-loop μ-loop
-mul-node-residual c = ?
+mul-node-residual c = omega (arith, node-in c, counted (c .before .before .before .before .pre .0 .accepted) .nodes)
 
--- src/balance.rt:96:55
 element-copy-out-node-residual : tie.Need-element-copy-out-node-residual Inv-loop μ-loop
-element-copy-out-node-residual c = ?
+element-copy-out-node-residual c = omega (arith, node-in c, counted (c .before .before .before .before .pre .0 .accepted) .nodes)
 
--- src/balance.rt:96:13
 node-residual-requires : tie.Need-node-residual-requires Inv-loop μ-loop
-node-residual-requires c κs = ?
+node-residual-requires c κs = at-node (c .before)
 
--- src/balance.rt:97:21
+small : (c : tie.After-node-residual Inv-loop μ-loop) → c .node-residual .result ≤ 415584000000000
+small c = rw (c .node-residual .ensures) (residual-sized (at-node (c .before .before)))
+
 cast-at-most : tie.Need-cast-at-most Inv-loop μ-loop
-cast-at-most c = ?
+cast-at-most c = record { sfits = omega (arith, small c) }
 
--- src/balance.rt:97:13
 at-most-requires : tie.Need-at-most-requires Inv-loop μ-loop
-at-most-requires c κs = ?
+at-most-requires c κs = search needs
 
--- src/balance.rt:100:23
+-- the node's question by the test
+question : (c : tie.After-at-most Inv-loop μ-loop) {w : Bool} → c .at-most .result ≡ w →
+    answer w 33 (c .before .before .before .before .before .before .before .args .i + 1) (c .before .before .before .before .loop .v)
+    ≡ firstNo (balanceQuestions (now (c .before .before .before .before .before .before .before .args .case)) (now (c .before .before .before .before .before .before .before .args .row)) (c .before .before .before .before .before .before .before .args .i) (c .before .before .before .before .loop .v))
+question c k =
+    let d = c .before in
+    let h = d .before .before .before in
+    let m = h .before .before in
+    let s = m .before in
+    balance-asked (now (s .args .case)) (now (s .args .row)) (s .args .i) (h .loop .v)
+    (toZ-pos w64 (omega (arith, small d)) ∙ ap pos (d .node-residual .ensures))
+    ((read (m .at .ensures) (mass-sized (s .pre .0 .accepted)) tt) .val)
+    (c .at-most .ensures)
+    k
+
 add-t17 : tie.Need-add-t17 Inv-loop μ-loop
-add-t17 c = ?
+add-t17 c = let s = c .before .before .before .before .before .before .before .before in omega (arith, s .pre .0 .step, counted (s .pre .0 .accepted) .steps)
 
--- src/balance.rt:98:13
 returns : tie.Need-returns Inv-loop μ-loop
-returns c = ?
+returns c =
+    let b = c .before in
+    let t = b .before .before .before in
+    let h = t .before in
+    let s = h .before .before .before in
+    sym (rest-no (balanceQuestions (now (s .args .case)) (now (s .args .row)) (s .args .i)) (h .loop .v) (s .args .layout .nodes) (h .loop .inv .1) (t .loop-test .taken) (question b (not-true _ (c .if1 .taken))) refl)
 
--- src/balance.rt:104:9
 add-v : tie.Need-add-v Inv-loop μ-loop
-add-v c = ?
+add-v c = omega arith
 
--- src/balance.rt:95:5
 loop-less : tie.Need-loop-less Inv-loop μ-loop
-loop-less c = ?
+loop-less c = omega arith
 
--- src/balance.rt:95:5
 loop-again : tie.Need-loop-again Inv-loop μ-loop
-loop-again c = ?
+loop-again c =
+    let b = c .before in
+    let t = b .before .before .before in
+    let h = t .before in
+    let s = h .before .before .before in
+    (omega arith, rest-on (balanceQuestions (now (s .args .case)) (now (s .args .row)) (s .args .i)) (h .loop .v) (s .args .layout .nodes) (h .loop .inv .1) (t .loop-test .taken) (question b (not-false _ (c .if1 .left))) refl)
 
--- src/balance.rt:87:1
 returns-2 : tie.Need-returns-2 Inv-loop μ-loop
-returns-2 c = ?
+returns-2 c =
+    let h = c .before in
+    let s = h .before .before .before in
+    sym (rest-end (balanceQuestions (now (s .args .case)) (now (s .args .row)) (s .args .i)) (h .loop .v) (s .args .layout .nodes) (h .loop .inv .1) (c .loop-test .left))
 
 pub balance-answers-spec : {M : Type 1} → statement M
 balance-answers-spec =

@@ -1,30 +1,54 @@
+use mathlib.Core.Path.{_≡_, sym, ap, _∙_}
+use mathlib.Core.Bool.{true, false}
+use native.Mathlib.Omega.{arith}
 use borrow.Author.Needs.{needs}
+use borrow.Author.Tests.{eq-eqb, ne-eqb}
+use denote.Ref.{now}
+use mir.Syntax.{w64}
+use mir.Val.{toZ, ofZ}
+use Rattle.numbers.specs.SignedLocals.{Held, held, held-fits, _-ʳ_}
+use Rattle.case.specs.declared.records.Arc.{Arc}
+use Rattle.plan.specs.declared.rows.ArcRow.{ArcRow}
+use Rattle.plan.specs.PlanRecords.{arcRow}
+use Rattle.plan.specs.Pipes.{isPipe}
+use Rattle.plan.specs.Balance.{flowAtFrom, flowAtTo}
+use Rattle.plan.specs.CaseFacts.{counted}
+use Rattle.plan.proofs.NetFlows.{read}
 use Rattle.plan.proofs.balance.end_flows.Statement.{statement}
 use Rattle.plan.proofs.balance.end_flows.Tie as tie
-use Rattle.plan.proofs.balance.end_flows.Reads as reads
-use Rattle.plan.proofs.balance.end_flows.Lts as lts
-use Rattle.case.proofs.read.arc.Reads as arc-reads
-use Rattle.plan.proofs.rows.arc_row.Reads as arc-row-reads
 
--- src/balance.rt:44:9
+a-is : (c : tie.After-arc-row) → Held (toZ w64 (ofZ w64 (c .arc-row .result .a))) (arcRow (now (c .before .args .case)) (now (c .before .args .row)) (c .before .args .e) .a) 10000000
+a-is c = let s = c .before in read (ap (λ (r : ArcRow). r .a) (c .arc-row .ensures)) (s .pre .2 .each (s .args .e) (s .pre .1) .a) tt
+
+b-is : (c : tie.After-arc-row) → Held (toZ w64 (ofZ w64 (c .arc-row .result .b))) (arcRow (now (c .before .args .case)) (now (c .before .args .row)) (c .before .args .e) .b) 10000000
+b-is c = let s = c .before in read (ap (λ (r : ArcRow). r .b) (c .arc-row .ensures)) (s .pre .2 .each (s .args .e) (s .pre .1) .b) tt
+
 arc-row-requires : tie.Need-arc-row-requires
-arc-row-requires c κs = ?
+arc-row-requires c κs = (counted (c .pre .0), c .pre .1)
 
--- src/balance.rt:45:8
 arc-requires : tie.Need-arc-requires
 arc-requires c κs = search needs
 
--- src/balance.rt:48:20
 sub-flow : tie.Need-sub-flow
-sub-flow c = ?
+sub-flow c = let r = c .before .before .before .before .before in held-fits (a-is r -ʳ b-is r) tt
 
--- src/balance.rt:40:1
 returns : tie.Need-returns
-returns c = ?
+unfolding flowAtFrom flowAtTo
+returns c =
+    let r = c .before .before .before .before in
+    let s = r .before in
+    let y : isPipe (now (s .args .case)) (s .args .e) ≡ true = eq-eqb _ 2 (sym (ap (λ (x : Arc). x .kind) (c .before .before .before .arc .ensures)) ∙ c .before .if1 .taken) in
+    rw y (a-is r .val, b-is r .val)
 
--- src/balance.rt:40:1
 returns-2 : tie.Need-returns-2
-returns-2 c = ?
+unfolding flowAtFrom flowAtTo
+returns-2 c =
+    let r = c .before .before .before .before .before in
+    let s = r .before in
+    let k = ap (λ (x : Arc). x .kind) (c .before .before .before .before .arc .ensures) in
+    let y : isPipe (now (s .args .case)) (s .args .e) ≡ false = ne-eqb _ 2 (λ q. c .before .before .if1 .left (k ∙ q)) in
+    let d = (held (a-is r -ʳ b-is r) tt) .val in
+    rw y (d, d)
 
 pub end-flows-spec : {M : Type 1} → statement M
 end-flows-spec = tie.close (tie.spec arc-row-requires arc-requires sub-flow returns returns-2)

@@ -1,39 +1,66 @@
+use mathlib.Core.Path.{_≡_, sym, ap, ap₂, _∙_}
+use Prim.Native.Nat.{ℕ, _*_, _≤_}
+use native.Mathlib.Nat.{mul-le-mul}
+use native.Mathlib.Omega.{arith}
 use borrow.Author.Needs.{needs}
+use denote.Ref.{now}
+use lib.IntN.{ℤ, natAbs, _-ℤ_}
+use mir.Facts.{fits-le, fits-lit}
+use mir.Syntax.{w64}
+use mir.Val.{toZ, ofZ}
+use Rattle.numbers.specs.SignedLocals.{Held, held, held-fits, _-ʳ_}
+use Rattle.plan.specs.declared.rows.NodeRow.{NodeRow}
+use Rattle.plan.specs.Pipes.{duration}
+use Rattle.plan.specs.Balance.{nodeImbalance, nodeResidual}
+use Rattle.plan.specs.CaseFacts.{counted, duration-sized}
+use Rattle.plan.proofs.NetFlows.{read}
+use Rattle.plan.proofs.NodeParts.{net-sized}
 use Rattle.plan.proofs.balance.node_residual.Statement.{statement}
 use Rattle.plan.proofs.balance.node_residual.Tie as tie
-use Rattle.plan.proofs.balance.node_residual.Reads as reads
-use Rattle.plan.proofs.balance.node_residual.Lts as lts
-use Rattle.plan.proofs.pipes.duration.Reads as duration-reads
-use Rattle.plan.proofs.pipes.size.Reads as size-reads
-use Rattle.plan.proofs.rows.node_row.Reads as node-row-reads
 
--- src/balance.rt:84:10
+time-is : (c : tie.After-duration) → Held (toZ w64 (ofZ w64 (c .duration .result))) (duration (now (c .before .args .case)) (c .before .args .i)) 86400
+time-is c = let s = c .before in read (c .duration .ensures) (duration-sized (s .pre .accepted) (s .args .i) (s .pre .step)) tt
+
+-- "flow out - flow in - d"
+left-is : (c : tie.After-node-row) → Held (toZ w64 (ofZ w64 (c .before .before .before .args .net)) -ℤ toZ w64 (ofZ w64 (c .node-row .result .d))) (nodeImbalance (now (c .before .before .before .args .case)) (now (c .before .before .before .args .row)) (c .before .before .before .args .v)) 4810000000
+unfolding nodeImbalance
+left-is c =
+    let s = c .before .before .before in
+    read (s .pre .is) (net-sized (s .pre .flows) (s .pre .accepted) (s .args .v)) tt
+    -ʳ read (ap (λ (r : NodeRow). r .d) (c .node-row .ensures)) (s .pre .rows .each (s .args .v) (s .pre .node) .d) tt
+
 duration-requires : tie.Need-duration-requires
 duration-requires c κs = search needs
 
--- src/balance.rt:84:5
 size-requires : tie.Need-size-requires
-size-requires c κs = ?
+size-requires c κs = rw (time-is c .val) (omega (arith, time-is c .bound))
 
--- src/balance.rt:84:42
 node-row-requires : tie.Need-node-row-requires
-node-row-requires c κs = ?
+node-row-requires c κs = let s = c .before .before in omega (arith, s .pre .node, counted (s .pre .accepted) .nodes)
 
--- src/balance.rt:84:36
 sub-size : tie.Need-sub-size
-sub-size c = ?
+sub-size c = held-fits (left-is (c .before .before)) tt
 
--- src/balance.rt:84:31
 size-requires-2 : tie.Need-size-requires-2
-size-requires-2 c κs = ?
+size-requires-2 c κs = let h = held (left-is (c .before .before)) tt in rw (h .val) (omega (arith, h .bound))
 
--- src/balance.rt:84:5
+-- the two factors
+first-is : (c : tie.After-size) → c .size .result ≡ natAbs (duration (now (c .before .before .args .case)) (c .before .before .args .i))
+first-is c = c .size .ensures ∙ ap natAbs (time-is (c .before) .val)
+
+second-is : (c : tie.After-size2) → c .size2 .result ≡ natAbs (nodeImbalance (now (c .before .before .before .before .before .before .args .case)) (now (c .before .before .before .before .before .before .args .row)) (c .before .before .before .before .before .before .args .v))
+second-is c = c .size2 .ensures ∙ ap natAbs ((held (left-is (c .before .before .before)) tt) .val)
+
 mul-result : tie.Need-mul-result
-mul-result c = ?
+mul-result c =
+    let d = c .before .before .before .before in
+    let a : d .size .result ≤ 86400 = omega (arith, first-is d, time-is (d .before) .bound) in
+    let b : c .size2 .result ≤ 4810000000 = omega (arith, second-is c, left-is (c .before .before .before) .bound) in
+    fits-le (mul-le-mul a b) (fits-lit {n = 86400 * 4810000000} tt)
 
--- src/balance.rt:80:1
 returns : tie.Need-returns
-returns c = ?
+unfolding nodeResidual
+returns c = ap₂ _*_ (first-is (c .before .before .before .before)) (second-is c)
 
 pub node-residual-spec : {M : Type 1} → statement M
 node-residual-spec =

@@ -1,26 +1,40 @@
+-- The set holds the machine, or it does not. Assumes nothing.
+use mathlib.Core.Path.{sym, ap, _∙_}
+use Prim.Native.Nat.{_-_}
 use borrow.Author.Needs.{needs}
+use denote.Ref.{now}
+use lib.IntN.{ℤ}
+use mir.Facts.{toZ-ofZ}
+use Rattle.numbers.specs.Sets.{memberOf}
+use Rattle.case.specs.declared.records.Machine.{Machine}
+use Rattle.case.specs.Records.{machineRow}
+use Rattle.plan.proofs.Values.{kept}
+use Rattle.plan.proofs.Adding.{fits, taken-part, left-part}
+use Rattle.plan.specs.Machines.{flowPart}
 use Rattle.plan.proofs.machines.flow_part.Statement.{statement}
 use Rattle.plan.proofs.machines.flow_part.Tie as tie
-use Rattle.plan.proofs.machines.flow_part.Reads as reads
-use Rattle.plan.proofs.machines.flow_part.Lts as lts
-use Rattle.case.proofs.read.machine.Reads as machine-reads
-use Rattle.numbers.proofs.sets.member.Reads as member-reads
 
--- src/machines.rt:20:8
 member-requires : tie.Need-member-requires
 member-requires c κs = search needs
 
--- src/machines.rt:21:9
 machine-requires : tie.Need-machine-requires
 machine-requires c κs = search needs
 
--- src/machines.rt:17:1
 returns : tie.Need-returns
-returns c = ?
+unfolding flowPart
+returns c =
+    let m = c .before in
+    let d = m .before .before in
+    let s = d .before in
+    kept _ (c .struct-told .given .0 .1) ∙ ap (λ (y : Machine). y .flow) (m .machine .ensures) ∙ taken-part (machineRow (now (s .args .case)) (s .args .first) (s .args .m) .flow) (d .member .ensures ∙ ap (λ (z : ℤ). memberOf z (s .args .m)) (toZ-ofZ (s .fits .set))) (m .before .if1 .taken)
 
--- src/machines.rt:17:1
 returns-2 : tie.Need-returns-2
-returns-2 c = ?
+unfolding flowPart
+returns-2 c =
+    let d = c .before in
+    let s = d .before in
+    let l = now (s .args .case) in
+    sym (left-part (machineRow l (s .args .first) (s .args .m) .flow) (d .member .ensures ∙ ap (λ (z : ℤ). memberOf z (s .args .m)) (toZ-ofZ (s .fits .set))) (c .if1 .left))
 
 pub flow-part-spec : {M : Type 1} → statement M
 flow-part-spec = tie.close (tie.spec member-requires machine-requires returns returns-2)

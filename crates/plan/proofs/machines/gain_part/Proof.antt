@@ -1,30 +1,47 @@
+-- The set holds the machine, or it does not. Assumes nothing.
+use mathlib.Core.Path.{sym, ap, _∙_}
+use Prim.Native.Nat.{_-_}
 use borrow.Author.Needs.{needs}
+use denote.Ref.{now}
+use lib.IntN.{ℤ, pos, _-ℤ_}
+use mir.Facts.{toZ-ofZ}
+use Rattle.numbers.specs.SignedLocals.{held, held-fits, literal, _-ʳ_}
+use Rattle.numbers.specs.Sets.{memberOf}
+use Rattle.case.specs.declared.records.Machine.{Machine}
+use Rattle.case.specs.Records.{machineRow}
+use Rattle.plan.proofs.Adding.{fits, got, taken-part, left-part}
+use Rattle.plan.specs.Machines.{gainPart}
 use Rattle.plan.proofs.machines.gain_part.Statement.{statement}
 use Rattle.plan.proofs.machines.gain_part.Tie as tie
-use Rattle.plan.proofs.machines.gain_part.Reads as reads
-use Rattle.plan.proofs.machines.gain_part.Lts as lts
-use Rattle.case.proofs.read.machine.Reads as machine-reads
-use Rattle.numbers.proofs.sets.member.Reads as member-reads
 
--- src/machines.rt:47:8
 member-requires : tie.Need-member-requires
 member-requires c κs = search needs
 
--- src/machines.rt:48:9
 machine-requires : tie.Need-machine-requires
 machine-requires c κs = search needs
 
--- src/machines.rt:48:9
 sub-result : tie.Need-sub-result
-sub-result c = ?
+sub-result c =
+    let m = c .before .before in
+    let s = m .before .before .before in
+    held-fits (got (ap (λ (y : Machine). y .ratio) (m .machine .ensures)) (s .pre .0 .ratio (s .args .m) (s .pre .1)) tt -ʳ literal (pos 1000)) tt
 
--- src/machines.rt:43:1
 returns : tie.Need-returns
-returns c = ?
+unfolding gainPart
+returns c =
+    let m = c .before .before in
+    let d = m .before .before in
+    let s = d .before in
+    held (got (ap (λ (y : Machine). y .ratio) (m .machine .ensures)) (s .pre .0 .ratio (s .args .m) (s .pre .1)) tt -ʳ literal (pos 1000)) tt .val
+    ∙ taken-part (machineRow (now (s .args .case)) (s .args .first) (s .args .m) .ratio -ℤ pos 1000) (d .member .ensures ∙ ap (λ (z : ℤ). memberOf z (s .args .m)) (toZ-ofZ (s .fits .set))) (m .before .if1 .taken)
 
--- src/machines.rt:43:1
 returns-2 : tie.Need-returns-2
-returns-2 c = ?
+unfolding gainPart
+returns-2 c =
+    let d = c .before in
+    let s = d .before in
+    let l = now (s .args .case) in
+    sym (left-part (machineRow l (s .args .first) (s .args .m) .ratio -ℤ pos 1000) (d .member .ensures ∙ ap (λ (z : ℤ). memberOf z (s .args .m)) (toZ-ofZ (s .fits .set))) (c .if1 .left))
 
 pub gain-part-spec : {M : Type 1} → statement M
 gain-part-spec = tie.close (tie.spec member-requires machine-requires sub-result returns returns-2)

@@ -1,47 +1,82 @@
+-- The sum so far is that over the machines passed. Assumes nothing.
+use mathlib.Core.Path.{refl, ap, _∙_}
+use Prim.Native.Nat.{ℕ, _-_, _<_, _≤_}
+use native.Mathlib.Omega.{arith}
+use borrow.Author.Needs.{needs}
+use denote.Ref.{now}
+use lib.IntN.{ℤ, pos}
+use mir.Syntax.{w64}
+use mir.Val.{toZ, ofZ}
+use mir.Facts.{toZ-ofZ}
+use Rattle.numbers.specs.SignedLocals.{literal, _-ʳ_}
+use Rattle.numbers.specs.Sum.{sum, abs-only-le}
+use Rattle.numbers.specs.Sets.{memberOf}
+use Rattle.case.specs.declared.records.Station.{Station}
+use Rattle.case.specs.Layout.{machinesAt}
+use Rattle.plan.proofs.Values.{kept}
+use Rattle.plan.proofs.Adding.{Adding, start, fits, turn, end, got}
+use Rattle.plan.specs.Machines.{gainPart, machineGain}
 use Rattle.plan.proofs.machines.machine_gain.Statement.{statement}
 use Rattle.plan.proofs.machines.machine_gain.Tie as tie
-use Rattle.plan.proofs.machines.machine_gain.Reads as reads
-use Rattle.plan.proofs.machines.machine_gain.Lts as lts
-use Rattle.case.proofs.read.station.Reads as station-reads
-use Rattle.plan.proofs.machines.gain_part.Reads as gain-part-reads
 
 abbrev Inv-loop : tie.InvT-loop
-Inv-loop case first set machines sum₀ m₀ sum m = ?
+Inv-loop case first set machines sum₀ m₀ sum m = (machines ≤ 12) × Adding (sum .value) (gainPart case first (toZ w64 set)) 11000 machines m
 
 abbrev μ-loop : tie.MeasureT-loop
-μ-loop case first set machines sum₀ m₀ sum m = ?
+μ-loop case first set machines sum₀ m₀ sum m = machines - m
 
--- src/machines.rt:59:20
 station-requires : tie.Need-station-requires Inv-loop μ-loop
-station-requires c κs = ?
+station-requires c κs = search needs
 
--- src/machines.rt:62:5
 loop-holds : tie.Need-loop-holds Inv-loop μ-loop
-loop-holds c = ?
+loop-holds c = (omega (arith, c .before .pre .count, ap (λ (y : Station). y .machines) (c .station .ensures)), start)
 
--- src/machines.rt:63:33
 gain-part-requires : tie.Need-gain-part-requires Inv-loop μ-loop
-gain-part-requires c κs = ?
+gain-part-requires c κs =
+    let h = c .before in
+    let s = h .before .before in
+    (s .pre, omega (arith, c .loop-test .taken, ap (λ (y : Station). y .machines) (h .before .station .ensures)))
 
--- src/machines.rt:63:21
 add-sum : tie.Need-add-sum Inv-loop μ-loop
-add-sum c = ?
+unfolding gainPart
+add-sum c =
+    let g = c .before .before in
+    let h = g .before .before in
+    let s = h .before .before in
+    let i = h .loop .m in
+    let p = g .before .loop-test .taken in
+    let q : i < machinesAt (now (s .args .case)) (s .args .first) = omega (arith, p, ap (λ (y : Station). y .machines) (h .before .station .ensures)) in
+    let k = got (g .gain-part .ensures) (record { bound = abs-only-le (memberOf (toZ w64 (ofZ w64 (s .args .set))) i) _ ((got refl (s .pre .ratio i q) tt -ʳ literal (pos 1000)) .bound) }) tt in
+    fits (h .loop .inv .1) k p (omega (arith, h .loop .inv .0))
 
--- src/machines.rt:64:9
 add-m : tie.Need-add-m Inv-loop μ-loop
-add-m c = ?
+add-m c = omega arith
 
--- src/machines.rt:62:5
 loop-less : tie.Need-loop-less Inv-loop μ-loop
-loop-less c = ?
+loop-less c = omega arith
 
--- src/machines.rt:62:5
 loop-again : tie.Need-loop-again Inv-loop μ-loop
-loop-again c = ?
+unfolding gainPart
+loop-again c =
+    let g = c .before .before in
+    let h = g .before .before in
+    let s = h .before .before in
+    let i = h .loop .m in
+    let p = g .before .loop-test .taken in
+    let q : i < machinesAt (now (s .args .case)) (s .args .first) = omega (arith, p, ap (λ (y : Station). y .machines) (h .before .station .ensures)) in
+    let k = got (g .gain-part .ensures) (record { bound = abs-only-le (memberOf (toZ w64 (ofZ w64 (s .args .set))) i) _ ((got refl (s .pre .ratio i q) tt -ʳ literal (pos 1000)) .bound) }) tt in
+    (h .loop .inv .0, turn (h .loop .inv .1) refl k p (omega (arith, h .loop .inv .0)))
 
--- src/machines.rt:55:1
 returns : tie.Need-returns Inv-loop μ-loop
-returns c = ?
+unfolding machineGain
+returns c =
+    let h = c .before .before in
+    let s = h .before .before in
+    let l = now (s .args .case) in
+    kept _ (c .struct-told2 .given .0 .1)
+    ∙ end (h .loop .inv .1) (c .before .loop-test .left)
+    ∙ ap (λ (n : ℕ). sum n (gainPart l (s .args .first) (toZ w64 (ofZ w64 (s .args .set))))) (ap (λ (y : Station). y .machines) (h .before .station .ensures))
+    ∙ ap (λ (y : ℤ). sum (machinesAt l (s .args .first)) (gainPart l (s .args .first) y)) (toZ-ofZ (s .fits .set))
 
 pub machine-gain-spec : {M : Type 1} → statement M
 machine-gain-spec =

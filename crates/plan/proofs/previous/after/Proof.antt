@@ -1,32 +1,39 @@
+-- Each part holds its own, by the counts of the layout. Assumes nothing.
 use borrow.Author.Needs.{needs}
+use Prim.Native.Nat.{ℕ}
+use denote.Ref.{now}
+use mathlib.Core.Path.{subst}
+use mathlib.Core.Bool.{false}
+use lib.IntN.{pos}
+use Rattle.case.specs.Laid.{Holds}
+use Rattle.plan.specs.PlanRecords.{pressureIn, activeIn, directionIn, stateIn}
 use Rattle.plan.proofs.previous.after.Statement.{statement}
 use Rattle.plan.proofs.previous.after.Tie as tie
-use Rattle.plan.proofs.previous.after.Reads as reads
-use Rattle.plan.proofs.previous.after.Lts as lts
-use Rattle.plan.proofs.previous.row_active.Reads as row-active-reads
-use Rattle.plan.proofs.previous.row_directions.Reads as row-directions-reads
-use Rattle.plan.proofs.previous.row_pressures.Reads as row-pressures-reads
-use Rattle.plan.proofs.previous.row_states.Reads as row-states-reads
 
--- src/previous.rt:163:9
 row-pressures-requires : tie.Need-row-pressures-requires
 row-pressures-requires c κs = search needs
 
--- src/previous.rt:164:9
 row-active-requires : tie.Need-row-active-requires
 row-active-requires c κs = search needs
 
--- src/previous.rt:165:9
 row-directions-requires : tie.Need-row-directions-requires
 row-directions-requires c κs = search needs
 
--- src/previous.rt:166:9
 row-states-requires : tie.Need-row-states-requires
 row-states-requires c κs = search needs
 
--- src/previous.rt:155:1
 returns : tie.Need-returns
-returns c = ?
+returns c =
+    let b = c .before .before .before in
+    let s = b .before .before .before .before .before in
+    let l = now (s .args .case) in
+    let r = now (s .args .row) in
+    record {
+      pressures = subst (λ (n : ℕ). Holds (pos 0) (b .row-pressures .result) (pressureIn r) n) (s .pre .1 .nodes) (b .row-pressures .ensures);
+      active = subst (λ (n : ℕ). Holds false (c .before .before .row-active .result) (activeIn l r) n) (s .pre .1 .arcs) (c .before .before .row-active .ensures);
+      directions = subst (λ (n : ℕ). Holds 0 (c .before .row-directions .result) (directionIn l r) n) (s .pre .1 .stations) (c .before .row-directions .ensures);
+      states = subst (λ (n : ℕ). Holds 0 (c .row-states .result) (stateIn l r) n) (s .pre .1 .stations) (c .row-states .ensures);
+    }
 
 pub after-spec : {M : Type 1} → statement M
 after-spec =

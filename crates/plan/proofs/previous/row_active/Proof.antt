@@ -1,47 +1,51 @@
+-- The array holds the activity of the arcs passed. Assumes nothing.
+use mathlib.Core.Path.{ap, _∙_}
+use Prim.Native.Nat.{_-_}
+use native.Mathlib.Omega.{arith}
+use borrow.Author.Needs.{needs}
+use mathlib.Core.Bool.{false}
+use lib.IntN.{pos}
+use lib.Signed.{leZ}
+use Rattle.plan.proofs.Values.{kept}
+use Rattle.plan.specs.declared.rows.ArcRow.{ArcRow}
+use Rattle.plan.specs.PlanRecords.{activeIn}
+use Rattle.plan.proofs.Filled.{Filling, start, turn, end}
 use Rattle.plan.proofs.previous.row_active.Statement.{statement}
 use Rattle.plan.proofs.previous.row_active.Tie as tie
-use Rattle.plan.proofs.previous.row_active.Reads as reads
-use Rattle.plan.proofs.previous.row_active.Lts as lts
-use Rattle.numbers.proofs.compare.at_most.Reads as at-most-reads
-use Rattle.plan.proofs.rows.arc_row.Reads as arc-row-reads
 
 abbrev Inv-loop : tie.InvT-loop
-Inv-loop case row arcs on₀ e₀ on e = ?
+Inv-loop case row arcs on₀ e₀ on e = Filling false on (activeIn case row) 120 arcs e
 
 abbrev μ-loop : tie.MeasureT-loop
-μ-loop case row arcs on₀ e₀ on e = ?
+μ-loop case row arcs on₀ e₀ on e = arcs - e
 
--- src/previous.rt:120:5
 loop-holds : tie.Need-loop-holds Inv-loop μ-loop
-loop-holds c = ?
+loop-holds c = start (c .good .0 .1 .0 .1)
 
--- src/previous.rt:121:28
 arc-row-requires : tie.Need-arc-row-requires Inv-loop μ-loop
-arc-row-requires c κs = ?
+arc-row-requires c κs = search needs
 
--- src/previous.rt:121:17
 at-most-requires : tie.Need-at-most-requires Inv-loop μ-loop
-at-most-requires c κs = ?
+at-most-requires c κs = search needs
 
--- src/previous.rt:121:9
 array-write-on : tie.Need-array-write-on Inv-loop μ-loop
-array-write-on c = ?
+array-write-on c = omega arith
 
--- src/previous.rt:122:9
 add-e : tie.Need-add-e Inv-loop μ-loop
-add-e c = ?
+add-e c = omega arith
 
--- src/previous.rt:120:5
 loop-less : tie.Need-loop-less Inv-loop μ-loop
-loop-less c = ?
+loop-less c = omega arith
 
--- src/previous.rt:120:5
 loop-again : tie.Need-loop-again Inv-loop μ-loop
-loop-again c = ?
+loop-again c =
+    let h = c .before .before .before .before in
+    let s = h .before in
+    turn (h .loop .inv) (c .before .before .before .loop-test .taken) (omega (arith, s .pre .0 .arcs, s .pre .1))
+    (c .at-most .ensures ∙ ap (leZ (pos 1)) (kept _ (c .before .struct-told .given .1 .1 .0 .1) ∙ ap (λ (x : ArcRow). x .setting) (c .before .before .arc-row .ensures)))
 
--- src/previous.rt:114:1
 returns : tie.Need-returns Inv-loop μ-loop
-returns c = ?
+returns c = end (c .before .loop .inv) (c .loop-test .left)
 
 pub row-active-spec : {M : Type 1} → statement M
 row-active-spec =

@@ -1,51 +1,52 @@
+-- The array holds the directions of the stations passed. Assumes nothing.
+use mathlib.Core.Path.{ap, _∙_}
+use Prim.Native.Nat.{_-_}
+use native.Mathlib.Omega.{arith}
+use borrow.Author.Needs.{needs}
+use Rattle.numbers.specs.SignedParts.{posPart}
+use Rattle.case.proofs.Reading.{kept}
+use Rattle.plan.specs.declared.rows.Choice.{Choice}
+use Rattle.plan.specs.PlanRecords.{directionIn}
+use Rattle.plan.proofs.Filled.{Filling, start, turn, end}
 use Rattle.plan.proofs.previous.row_directions.Statement.{statement}
 use Rattle.plan.proofs.previous.row_directions.Tie as tie
-use Rattle.plan.proofs.previous.row_directions.Reads as reads
-use Rattle.plan.proofs.previous.row_directions.Lts as lts
-use Rattle.numbers.proofs.compare.index.Reads as index-reads
-use Rattle.plan.proofs.rows.choice_of.Reads as choice-of-reads
 
 abbrev Inv-loop : tie.InvT-loop
-Inv-loop case row stations directions₀ s₀ directions s = ?
+Inv-loop case row stations directions₀ s₀ directions s = Filling 0 directions (directionIn case row) 8 stations s
 
 abbrev μ-loop : tie.MeasureT-loop
-μ-loop case row stations directions₀ s₀ directions s = ?
+μ-loop case row stations directions₀ s₀ directions s = stations - s
 
--- src/previous.rt:133:5
 loop-holds : tie.Need-loop-holds Inv-loop μ-loop
-loop-holds c = ?
+loop-holds c = start (c .good .0 .1 .0 .1)
 
--- src/previous.rt:134:31
 choice-of-requires : tie.Need-choice-of-requires Inv-loop μ-loop
-choice-of-requires c κs = ?
+choice-of-requires c κs = search needs
 
--- src/previous.rt:134:25
 index-requires : tie.Need-index-requires Inv-loop μ-loop
-index-requires c κs = ?
+index-requires c κs = search needs
 
--- src/previous.rt:134:9
 mul-directions : tie.Need-mul-directions Inv-loop μ-loop
-mul-directions c = ?
+mul-directions c = omega arith
 
--- src/previous.rt:134:9
 array-write-directions : tie.Need-array-write-directions Inv-loop μ-loop
-array-write-directions c = ?
+array-write-directions c = omega arith
 
--- src/previous.rt:135:9
 add-s : tie.Need-add-s Inv-loop μ-loop
-add-s c = ?
+add-s c = omega arith
 
--- src/previous.rt:133:5
 loop-less : tie.Need-loop-less Inv-loop μ-loop
-loop-less c = ?
+loop-less c = omega arith
 
--- src/previous.rt:133:5
 loop-again : tie.Need-loop-again Inv-loop μ-loop
-loop-again c = ?
+loop-again c =
+    let h = c .before .before .before .before in
+    let s = h .before in
+    turn (h .loop .inv) (c .before .before .before .loop-test .taken) (omega (arith, s .pre .0 .stations, s .pre .1))
+    (c .index .ensures ∙ ap posPart (kept _ (c .before .struct-told .given .0 .1) ∙ ap (λ (x : Choice). x .direction) (c .before .before .choice-of .ensures)))
 
--- src/previous.rt:127:1
 returns : tie.Need-returns Inv-loop μ-loop
-returns c = ?
+returns c = end (c .before .loop .inv) (c .loop-test .left)
 
 pub row-directions-spec : {M : Type 1} → statement M
 row-directions-spec =

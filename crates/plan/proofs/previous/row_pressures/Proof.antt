@@ -1,46 +1,45 @@
+-- The array holds the pressures of the nodes passed. Assumes nothing.
+use mathlib.Core.Path.{_∙_}
+use Prim.Native.Nat.{_-_}
+use native.Mathlib.Omega.{arith}
+use lib.IntN.{pos}
+use Rattle.plan.proofs.Values.{kept}
+use Rattle.plan.specs.PlanRecords.{pressureIn}
+use Rattle.plan.proofs.Filled.{Filling, start, turn, end}
 use Rattle.plan.proofs.previous.row_pressures.Statement.{statement}
 use Rattle.plan.proofs.previous.row_pressures.Tie as tie
-use Rattle.plan.proofs.previous.row_pressures.Reads as reads
-use Rattle.plan.proofs.previous.row_pressures.Lts as lts
-use Rattle.plan.proofs.rows.pressure.Reads as pressure-reads
 
 abbrev Inv-loop : tie.InvT-loop
-Inv-loop row nodes pressures₀ v₀ pressures v = ?
+Inv-loop row nodes pressures₀ v₀ pressures v = Filling (pos 0) pressures (pressureIn row) 60 nodes v
 
 abbrev μ-loop : tie.MeasureT-loop
-μ-loop row nodes pressures₀ v₀ pressures v = ?
+μ-loop row nodes pressures₀ v₀ pressures v = nodes - v
 
--- src/previous.rt:107:5
 loop-holds : tie.Need-loop-holds Inv-loop μ-loop
-loop-holds c = ?
+loop-holds c = start (c .good .0 .1 .0 .1)
 
--- src/previous.rt:108:24
 pressure-requires : tie.Need-pressure-requires Inv-loop μ-loop
-pressure-requires c κs = ?
+pressure-requires c κs = omega arith
 
--- src/previous.rt:108:9
 mul-pressures : tie.Need-mul-pressures Inv-loop μ-loop
-mul-pressures c = ?
+mul-pressures c = omega arith
 
--- src/previous.rt:108:9
 array-set-from-pressures : tie.Need-array-set-from-pressures Inv-loop μ-loop
-array-set-from-pressures c = ?
+array-set-from-pressures c = omega arith
 
--- src/previous.rt:109:9
 add-v : tie.Need-add-v Inv-loop μ-loop
-add-v c = ?
+add-v c = omega arith
 
--- src/previous.rt:107:5
 loop-less : tie.Need-loop-less Inv-loop μ-loop
-loop-less c = ?
+loop-less c = omega arith
 
--- src/previous.rt:107:5
 loop-again : tie.Need-loop-again Inv-loop μ-loop
-loop-again c = ?
+loop-again c =
+    let h = c .before .before in
+    turn (h .loop .inv) (c .before .loop-test .taken) (h .before .pre) (kept _ (c .pressure .ok) ∙ c .pressure .ensures)
 
--- src/previous.rt:101:1
 returns : tie.Need-returns Inv-loop μ-loop
-returns c = ?
+returns c = end (c .before .loop .inv) (c .loop-test .left)
 
 pub row-pressures-spec : {M : Type 1} → statement M
 row-pressures-spec =

@@ -1,32 +1,39 @@
+-- Each part holds its own, by the counts of the layout. Assumes nothing.
 use borrow.Author.Needs.{needs}
+use Prim.Native.Nat.{ℕ}
+use denote.Ref.{now}
+use mathlib.Core.Path.{subst}
+use mathlib.Core.Bool.{false}
+use lib.IntN.{pos}
+use Rattle.case.specs.Laid.{Holds}
+use Rattle.case.specs.States.{activeAtStart}
+use Rattle.plan.specs.Before.{startPressure}
 use Rattle.plan.proofs.previous.start.Statement.{statement}
 use Rattle.plan.proofs.previous.start.Tie as tie
-use Rattle.plan.proofs.previous.start.Reads as reads
-use Rattle.plan.proofs.previous.start.Lts as lts
-use Rattle.plan.proofs.previous.start_active.Reads as start-active-reads
-use Rattle.plan.proofs.previous.start_directions.Reads as start-directions-reads
-use Rattle.plan.proofs.previous.start_pressures.Reads as start-pressures-reads
-use Rattle.plan.proofs.previous.start_states.Reads as start-states-reads
 
--- src/previous.rt:90:9
 start-pressures-requires : tie.Need-start-pressures-requires
 start-pressures-requires c κs = search needs
 
--- src/previous.rt:91:9
 start-active-requires : tie.Need-start-active-requires
 start-active-requires c κs = search needs
 
--- src/previous.rt:92:9
 start-directions-requires : tie.Need-start-directions-requires
 start-directions-requires c κs = search needs
 
--- src/previous.rt:93:9
 start-states-requires : tie.Need-start-states-requires
 start-states-requires c κs = search needs
 
--- src/previous.rt:86:1
 returns : tie.Need-returns
-returns c = ?
+returns c =
+    let b = c .before .before .before in
+    let s = b .before in
+    let l = now (s .args .case) in
+    record {
+      pressures = subst (λ (n : ℕ). Holds (pos 0) (b .start-pressures .result) (startPressure l) n) (s .pre .1 .nodes) (b .start-pressures .ensures);
+      active = subst (λ (n : ℕ). Holds false (c .before .before .start-active .result) (activeAtStart l) n) (s .pre .1 .arcs) (c .before .before .start-active .ensures);
+      directions = c .before .start-directions .ensures;
+      states = c .start-states .ensures;
+    }
 
 pub start-spec : {M : Type 1} → statement M
 start-spec =

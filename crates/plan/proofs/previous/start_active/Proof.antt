@@ -1,42 +1,40 @@
+-- The array holds the activity of the arcs passed. Assumes nothing.
+use mathlib.Core.Path.{refl}
+use Prim.Native.Nat.{_-_}
+use native.Mathlib.Omega.{arith}
+use borrow.Author.Needs.{needs}
+use mathlib.Core.Bool.{false}
+use Rattle.case.specs.States.{activeAtStart}
+use Rattle.plan.proofs.Filled.{Filling, start, turn, end}
 use Rattle.plan.proofs.previous.start_active.Statement.{statement}
 use Rattle.plan.proofs.previous.start_active.Tie as tie
-use Rattle.plan.proofs.previous.start_active.Reads as reads
-use Rattle.plan.proofs.previous.start_active.Lts as lts
-use Rattle.case.proofs.members.active.Reads as active-reads
 
 abbrev Inv-loop : tie.InvT-loop
-Inv-loop case arcs on₀ e₀ on e = ?
+Inv-loop case arcs on₀ e₀ on e = Filling false on (activeAtStart case) 120 arcs e
 
 abbrev μ-loop : tie.MeasureT-loop
-μ-loop case arcs on₀ e₀ on e = ?
+μ-loop case arcs on₀ e₀ on e = arcs - e
 
--- src/previous.rt:49:5
 loop-holds : tie.Need-loop-holds Inv-loop μ-loop
-loop-holds c = ?
+loop-holds c = start refl
 
--- src/previous.rt:50:17
 active-requires : tie.Need-active-requires Inv-loop μ-loop
-active-requires c κs = ?
+active-requires c κs = search needs
 
--- src/previous.rt:50:9
 array-write-on : tie.Need-array-write-on Inv-loop μ-loop
-array-write-on c = ?
+array-write-on c = omega arith
 
--- src/previous.rt:51:9
 add-e : tie.Need-add-e Inv-loop μ-loop
-add-e c = ?
+add-e c = omega arith
 
--- src/previous.rt:49:5
 loop-less : tie.Need-loop-less Inv-loop μ-loop
-loop-less c = ?
+loop-less c = omega arith
 
--- src/previous.rt:49:5
 loop-again : tie.Need-loop-again Inv-loop μ-loop
-loop-again c = ?
+loop-again c = let h = c .before .before in turn (h .loop .inv) (c .before .loop-test .taken) (h .before .pre) (c .active .ensures)
 
--- src/previous.rt:43:1
 returns : tie.Need-returns Inv-loop μ-loop
-returns c = ?
+returns c = end (c .before .loop .inv) (c .loop-test .left)
 
 pub start-active-spec : {M : Type 1} → statement M
 start-active-spec =

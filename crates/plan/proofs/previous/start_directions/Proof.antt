@@ -1,54 +1,59 @@
+-- The array holds the directions of the stations passed. Assumes nothing.
+use mathlib.Core.Path.{refl, ap, _∙_}
+use Prim.Native.Nat.{_-_}
+use native.Mathlib.Omega.{arith}
+use borrow.Author.Needs.{needs}
+use Prim.Native.Nat.{ℕ, _<_}
+use denote.Ref.{now}
+use Rattle.case.specs.declared.records.Station.{Station}
+use Rattle.case.specs.Layout.{stationsOf}
+use Rattle.case.specs.Records.{stationRow}
+use Rattle.plan.specs.Before.{startDirection}
+use Rattle.plan.proofs.Filled.{Filling, start, turn, end}
 use Rattle.plan.proofs.previous.start_directions.Statement.{statement}
 use Rattle.plan.proofs.previous.start_directions.Tie as tie
-use Rattle.plan.proofs.previous.start_directions.Reads as reads
-use Rattle.plan.proofs.previous.start_directions.Lts as lts
-use Rattle.case.proofs.read.station.Reads as station-reads
 
 abbrev Inv-loop : tie.InvT-loop
-Inv-loop case layout directions₀ stations s₀ directions s = ?
+Inv-loop case layout directions₀ stations s₀ directions s = Filling 0 directions (startDirection case) 8 (stationsOf case) s
 
 abbrev μ-loop : tie.MeasureT-loop
-μ-loop case layout directions₀ stations s₀ directions s = ?
+μ-loop case layout directions₀ stations s₀ directions s = stationsOf case - s
 
--- src/previous.rt:63:5
 loop-holds : tie.Need-loop-holds Inv-loop μ-loop
-loop-holds c = ?
+loop-holds c = start refl
 
--- src/previous.rt:64:39
 mul-station : tie.Need-mul-station Inv-loop μ-loop
-mul-station c = ?
+mul-station c = omega arith
 
--- src/previous.rt:64:39
 element-copy-out-station : tie.Need-element-copy-out-station Inv-loop μ-loop
-element-copy-out-station c = ?
+element-copy-out-station c = omega arith
 
--- src/previous.rt:64:25
 station-requires : tie.Need-station-requires Inv-loop μ-loop
-station-requires c κs = ?
+station-requires c κs = search needs
 
--- src/previous.rt:64:9
 mul-directions : tie.Need-mul-directions Inv-loop μ-loop
-mul-directions c = ?
+mul-directions c = omega arith
 
--- src/previous.rt:64:9
 array-write-directions : tie.Need-array-write-directions Inv-loop μ-loop
-array-write-directions c = ?
+array-write-directions c = omega arith
 
--- src/previous.rt:65:9
 add-s : tie.Need-add-s Inv-loop μ-loop
-add-s c = ?
+add-s c = omega arith
 
--- src/previous.rt:63:5
 loop-less : tie.Need-loop-less Inv-loop μ-loop
-loop-less c = ?
+loop-less c = omega arith
 
--- src/previous.rt:63:5
 loop-again : tie.Need-loop-again Inv-loop μ-loop
-loop-again c = ?
+loop-again c =
+    let h = c .before .before .before in
+    let s = h .before in
+    let l = now (s .args .case) in
+    let p : h .loop .s < stationsOf l = omega (arith, c .before .before .loop-test .taken, s .pre .1 .stations) in
+    turn (h .loop .inv) p (s .pre .0 .stations)
+    (ap (λ (x : Station). x .direction) (c .station .ensures) ∙ ap (λ (k : ℕ). stationRow l k .direction) (s .pre .1 .rows .each (h .loop .s) p))
 
--- src/previous.rt:56:1
 returns : tie.Need-returns Inv-loop μ-loop
-returns c = ?
+returns c = end (c .before .loop .inv) (omega (arith, c .loop-test .left, c .before .before .pre .1 .stations))
 
 pub start-directions-spec : {M : Type 1} → statement M
 start-directions-spec =

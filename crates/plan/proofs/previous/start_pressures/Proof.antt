@@ -1,46 +1,48 @@
+-- The array holds p0 of the nodes passed. Assumes nothing.
+use mathlib.Core.Path.{refl, ap, _∙_}
+use Prim.Native.Nat.{_-_}
+use native.Mathlib.Omega.{arith}
+use borrow.Author.Needs.{needs}
+use lib.IntN.{pos}
+use Rattle.case.specs.declared.records.Node.{Node}
+use Rattle.plan.proofs.Values.{kept}
+use Rattle.plan.specs.Before.{startPressure}
+use Rattle.plan.proofs.Filled.{Filling, start, turn, end}
 use Rattle.plan.proofs.previous.start_pressures.Statement.{statement}
 use Rattle.plan.proofs.previous.start_pressures.Tie as tie
-use Rattle.plan.proofs.previous.start_pressures.Reads as reads
-use Rattle.plan.proofs.previous.start_pressures.Lts as lts
-use Rattle.case.proofs.read.node.Reads as node-reads
 
 abbrev Inv-loop : tie.InvT-loop
-Inv-loop case nodes pressures₀ v₀ pressures v = ?
+Inv-loop case nodes pressures₀ v₀ pressures v = Filling (pos 0) pressures (startPressure case) 60 nodes v
 
 abbrev μ-loop : tie.MeasureT-loop
-μ-loop case nodes pressures₀ v₀ pressures v = ?
+μ-loop case nodes pressures₀ v₀ pressures v = nodes - v
 
--- src/previous.rt:36:5
 loop-holds : tie.Need-loop-holds Inv-loop μ-loop
-loop-holds c = ?
+loop-holds c = start refl
 
--- src/previous.rt:37:18
 node-requires : tie.Need-node-requires Inv-loop μ-loop
-node-requires c κs = ?
+node-requires c κs = search needs
 
--- src/previous.rt:38:9
 mul-pressures : tie.Need-mul-pressures Inv-loop μ-loop
-mul-pressures c = ?
+mul-pressures c = omega arith
 
--- src/previous.rt:38:9
 array-set-from-pressures : tie.Need-array-set-from-pressures Inv-loop μ-loop
-array-set-from-pressures c = ?
+array-set-from-pressures c = omega arith
 
--- src/previous.rt:39:9
 add-v : tie.Need-add-v Inv-loop μ-loop
-add-v c = ?
+add-v c = omega arith
 
--- src/previous.rt:36:5
 loop-less : tie.Need-loop-less Inv-loop μ-loop
-loop-less c = ?
+loop-less c = omega arith
 
--- src/previous.rt:36:5
 loop-again : tie.Need-loop-again Inv-loop μ-loop
-loop-again c = ?
+loop-again c =
+    let h = c .before .before .before in
+    turn (h .loop .inv) (c .before .before .loop-test .taken) (h .before .pre)
+    (kept _ (c .struct-told .given .1 .0 .1) ∙ ap (λ (x : Node). x .p0) (c .before .node .ensures))
 
--- src/previous.rt:30:1
 returns : tie.Need-returns Inv-loop μ-loop
-returns c = ?
+returns c = end (c .before .loop .inv) (c .loop-test .left)
 
 pub start-pressures-spec : {M : Type 1} → statement M
 start-pressures-spec =

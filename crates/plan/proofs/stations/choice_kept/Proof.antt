@@ -1,62 +1,91 @@
+use mathlib.Core.Path.{_≡_, sym, ap, ap₂, _∙_}
+use Prim.Native.Nat.{ℕ}
+use native.Mathlib.Omega.{arith}
 use borrow.Author.Needs.{needs}
+use denote.Ref.{now}
+use lib.ListN.{getD}
+use mir.Syntax.{w64}
+use mir.Val.{toZ, ofZ}
+use Rattle.numbers.specs.SignedParts.{posPart}
+use Rattle.case.specs.Records.{stationRow, stationOf}
+use Rattle.case.specs.declared.records.Station.{Station}
+use Rattle.case.proofs.Reading.{kept}
+use Rattle.plan.specs.declared.rows.Choice.{Choice}
+use Rattle.plan.specs.PlanRecords.{choiceOf}
+use Rattle.plan.specs.StationRules.{oneOf, stateObeyed, choiceKept}
+use Rattle.plan.specs.CaseFacts.{counted, station-size}
 use Rattle.plan.proofs.stations.choice_kept.Statement.{statement}
 use Rattle.plan.proofs.stations.choice_kept.Tie as tie
-use Rattle.plan.proofs.stations.choice_kept.Reads as reads
-use Rattle.plan.proofs.stations.choice_kept.Lts as lts
-use Rattle.case.proofs.read.station.Reads as station-reads
-use Rattle.numbers.proofs.compare.index.Reads as index-reads
-use Rattle.plan.proofs.bools.both.Reads as both-reads
-use Rattle.plan.proofs.rows.choice_of.Reads as choice-of-reads
-use Rattle.plan.proofs.stations.one_of.Reads as one-of-reads
-use Rattle.plan.proofs.stations.state_obeyed.Reads as state-obeyed-reads
 
--- src/stations.rt:81:17
 mul-first : tie.Need-mul-first
-mul-first c = ?
+mul-first c = omega (arith, c .pre .station, counted (c .pre .at .accepted) .stations)
 
--- src/stations.rt:81:17
 element-copy-out-first : tie.Need-element-copy-out-first
-element-copy-out-first c = ?
+element-copy-out-first c = omega (arith, c .pre .station, counted (c .pre .at .accepted) .stations)
 
--- src/stations.rt:82:9
 station-requires : tie.Need-station-requires
 station-requires c κs = search needs
 
--- src/stations.rt:83:9
+-- the station and the choice that were read
+station-is : (c : tie.After-station) → c .station .result ≡ stationOf (now (c .before .before .args .case)) (c .before .before .args .s)
+station-is c = let s = c .before .before in c .station .ensures ∙ ap (stationRow (now (s .args .case))) (s .pre .at .laid .rows .each (s .args .s) (s .pre .station))
+
+direction-is : (c : tie.After-struct-told) → toZ w64 (ofZ w64 (c .before .choice-of .result .direction)) ≡ choiceOf (now (c .before .before .before .before .args .case)) (now (c .before .before .before .before .args .row)) (c .before .before .before .before .args .s) .direction
+direction-is c = kept _ (c .struct-told .given .0 .1) ∙ ap (λ (x : Choice). x .direction) (c .before .choice-of .ensures)
+
+state-is : (c : tie.After-struct-told) → toZ w64 (ofZ w64 (c .before .choice-of .result .state)) ≡ choiceOf (now (c .before .before .before .before .args .case)) (now (c .before .before .before .before .args .row)) (c .before .before .before .before .args .s) .state
+state-is c = kept _ (c .struct-told .given .1 .0 .1) ∙ ap (λ (x : Choice). x .state) (c .before .choice-of .ensures)
+
+direction-in : (c : tie.After-one-of) → c .one-of .result ≡ oneOf (choiceOf (now (c .before .before .before .before .before .args .case)) (now (c .before .before .before .before .before .args .row)) (c .before .before .before .before .before .args .s) .direction) (stationOf (now (c .before .before .before .before .before .args .case)) (c .before .before .before .before .before .args .s) .directions)
+direction-in c = c .one-of .ensures ∙ ap₂ oneOf (direction-is (c .before)) (ap (λ (x : Station). x .directions) (station-is (c .before .before .before)))
+
+state-in : (c : tie.After-one-of2) → c .one-of2 .result ≡ oneOf (choiceOf (now (c .before .before .before .before .before .before .before .before .args .case)) (now (c .before .before .before .before .before .before .before .before .args .row)) (c .before .before .before .before .before .before .before .before .args .s) .state) (stationOf (now (c .before .before .before .before .before .before .before .before .args .case)) (c .before .before .before .before .before .before .before .before .args .s) .states)
+state-in c = let t = c .before .before .before .before in c .one-of2 .ensures ∙ ap₂ oneOf (state-is t) (ap (λ (x : Station). x .states) (station-is (t .before .before)))
+
 choice-of-requires : tie.Need-choice-of-requires
-choice-of-requires c κs = ?
+choice-of-requires c κs = let s = c .before .before in (counted (s .pre .at .accepted), s .pre .station)
 
--- src/stations.rt:84:9
-index-requires : tie.Need-index-requires
-index-requires c κs = search needs
-
--- src/stations.rt:85:9
-index-requires-2 : tie.Need-index-requires-2
-index-requires-2 c κs = search needs
-
--- src/stations.rt:87:9
 one-of-requires : tie.Need-one-of-requires
 one-of-requires c κs = search needs
 
--- src/stations.rt:89:13
 one-of-requires-2 : tie.Need-one-of-requires-2
 one-of-requires-2 c κs = search needs
 
--- src/stations.rt:90:13
+index-requires : tie.Need-index-requires
+index-requires c κs = search needs
+
+index-requires-2 : tie.Need-index-requires-2
+index-requires-2 c κs = search needs
+
 state-obeyed-requires : tie.Need-state-obeyed-requires
-state-obeyed-requires c κs = ?
+state-obeyed-requires c κs =
+    let s = c .before .before .before .before .before .before .before .before .before .before .before .before .before in
+    let a = s .pre .at .accepted in
+    (counted a, s .pre .at .laid .arcs, station-size a (s .args .s) (s .pre .station), s .pre .at .laid .rows .each (s .args .s) (s .pre .station))
 
--- src/stations.rt:88:9
-both-requires : tie.Need-both-requires
-both-requires c κs = search needs
-
--- src/stations.rt:86:5
-both-requires-2 : tie.Need-both-requires-2
-both-requires-2 c κs = search needs
-
--- src/stations.rt:77:1
 returns : tie.Need-returns
-returns c = ?
+unfolding choiceKept
+returns c =
+    let j = c .before in
+    let i = j .before .before in
+    let w = i .before .before in
+    let o = w .before in
+    let q = o .before .before .before in
+    let t = q .before in
+    let s = t .before .before .before .before in
+    rw (sym (direction-in q) ∙ o .before .before .if1 .taken, sym (state-in o) ∙ w .if2 .taken)
+    (c .state-obeyed .ensures
+    ∙ ap₂ (stateObeyed (now (s .args .case)) (now (s .args .row)) (s .args .s)) (i .index .ensures ∙ ap posPart (direction-is t)) (j .index2 .ensures ∙ ap posPart (state-is t)))
+
+returns-2 : tie.Need-returns-2
+unfolding choiceKept
+returns-2 c =
+    let o = c .before in
+    rw (sym (direction-in (o .before .before .before)) ∙ o .before .before .if1 .taken, sym (state-in o) ∙ c .if2 .left)
+
+returns-3 : tie.Need-returns-3
+unfolding choiceKept
+returns-3 c = rw (sym (direction-in (c .before)) ∙ c .if1 .left)
 
 pub choice-kept-spec : {M : Type 1} → statement M
 choice-kept-spec =
@@ -66,11 +95,11 @@ choice-kept-spec =
     element-copy-out-first
     station-requires
     choice-of-requires
-    index-requires
-    index-requires-2
     one-of-requires
     one-of-requires-2
+    index-requires
+    index-requires-2
     state-obeyed-requires
-    both-requires
-    both-requires-2
-    returns)
+    returns
+    returns-2
+    returns-3)

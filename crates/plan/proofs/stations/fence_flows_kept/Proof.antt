@@ -1,86 +1,138 @@
+use mathlib.Core.Path.{_≡_, refl, sym, ap, ap₂, _∙_}
+use mathlib.Core.Bool.{true, false}
+use Prim.Native.Nat.{ℕ, _≤_, _<_, _-_}
+use native.Mathlib.Omega.{arith}
+use borrow.Author.Needs.{needs}
+use borrow.Author.Tests.{not-true, not-false}
+use denote.Ref.{now}
+use Rattle.numbers.specs.SignedParts.{posPart}
+use Rattle.case.specs.CountLaws.{every-more, every-not}
+use Rattle.case.specs.Layout.{nodesOf}
+use Rattle.case.specs.Records.{directionRow, directionOf}
+use Rattle.case.specs.StationArcs.{every}
+use Rattle.case.proofs.Reading.{kept}
+use Rattle.plan.specs.declared.rows.Choice.{Choice}
+use Rattle.plan.specs.PlanRecords.{directionIn}
+use Rattle.plan.specs.StationRules.{fenceKept, fenceFlowsKept}
+use Rattle.plan.specs.CaseFacts.{counted}
+use Rattle.plan.proofs.StationParts.{fence-node}
 use Rattle.plan.proofs.stations.fence_flows_kept.Statement.{statement}
 use Rattle.plan.proofs.stations.fence_flows_kept.Tie as tie
-use Rattle.plan.proofs.stations.fence_flows_kept.Reads as reads
-use Rattle.plan.proofs.stations.fence_flows_kept.Lts as lts
-use Rattle.case.proofs.read.direction.Reads as direction-reads
-use Rattle.numbers.proofs.compare.index.Reads as index-reads
-use Rattle.plan.proofs.rows.choice_of.Reads as choice-of-reads
-use Rattle.plan.proofs.stations.fence_kept.Reads as fence-kept-reads
-use Rattle.plan.proofs.stations.station_flows.Reads as station-flows-reads
 
 abbrev Inv-loop : tie.InvT-loop
-Inv-loop case row i s net chosen inside plain nodes v₀ v = ?
+Inv-loop case row i s net chosen inside plain nodes v₀ v = (v ≤ nodes) × (every v (fenceKept case row s (directionIn case row s)) ≡ true)
 
 abbrev μ-loop : tie.MeasureT-loop
-μ-loop case row i s net chosen inside plain nodes v₀ v = ?
+μ-loop case row i s net chosen inside plain nodes v₀ v = nodes - v
 
--- src/stations.rt:159:15
 station-flows-requires : tie.Need-station-flows-requires Inv-loop μ-loop
-station-flows-requires c κs = ?
+station-flows-requires c κs = (c .pre .at .accepted, c .pre .at .laid .arcs, c .pre .flows)
 
--- src/stations.rt:160:34
 mul-direction : tie.Need-mul-direction Inv-loop μ-loop
-mul-direction c = ?
+mul-direction c = let s = c .before in omega (arith, s .pre .station, counted (s .pre .at .accepted) .stations)
 
--- src/stations.rt:160:34
 element-copy-out-direction : tie.Need-element-copy-out-direction Inv-loop μ-loop
-element-copy-out-direction c = ?
+element-copy-out-direction c = let s = c .before in omega (arith, s .pre .station, counted (s .pre .at .accepted) .stations)
 
--- src/stations.rt:160:56
 choice-of-requires : tie.Need-choice-of-requires Inv-loop μ-loop
-choice-of-requires c κs = ?
+choice-of-requires c κs = let s = c .before .before in (counted (s .pre .at .accepted), s .pre .station)
 
--- src/stations.rt:160:50
 index-requires : tie.Need-index-requires Inv-loop μ-loop
-index-requires c κs = ?
+index-requires c κs = search needs
 
--- src/stations.rt:160:9
 direction-requires : tie.Need-direction-requires Inv-loop μ-loop
-direction-requires c κs = ?
+direction-requires c κs = search needs
 
--- src/stations.rt:161:18
 mul-inside : tie.Need-mul-inside Inv-loop μ-loop
-mul-inside c = ?
+mul-inside c = let s = c .before .before .before .before .before .before in omega (arith, s .pre .station, counted (s .pre .at .accepted) .stations)
 
--- src/stations.rt:161:18
 element-copy-out-inside : tie.Need-element-copy-out-inside Inv-loop μ-loop
-element-copy-out-inside c = ?
+element-copy-out-inside c = let s = c .before .before .before .before .before .before in omega (arith, s .pre .station, counted (s .pre .at .accepted) .stations)
 
--- src/stations.rt:165:5
+-- the chosen direction
+chosen-is : (c : tie.After-direction Inv-loop μ-loop) →
+    c .direction .result ≡ directionOf (now (c .before .before .before .before .before .before .args .case)) (c .before .before .before .before .before .before .args .s)
+    (directionIn (now (c .before .before .before .before .before .before .args .case)) (now (c .before .before .before .before .before .before .args .row)) (c .before .before .before .before .before .before .args .s))
+chosen-is c =
+    let x = c .before in
+    let t = x .before in
+    let s = t .before .before .before .before in
+    c .direction .ensures
+    ∙ ap₂ (directionRow (now (s .args .case))) (s .pre .at .laid .rows .each (s .args .s) (s .pre .station)) (x .index .ensures ∙ ap posPart (kept _ (t .struct-told .given .0 .1) ∙ ap (λ (y : Choice). y .direction) (t .before .choice-of .ensures)))
+
+node-in : (c : tie.In-loop Inv-loop μ-loop) → c .before .loop .v < nodesOf (now (c .before .before .before .before .before .before .before .before .before .before .args .case))
+node-in c = rw (← (c .before .before .before .before .before .before .before .before .before .before .pre .at .laid .nodes)) (c .loop-test .taken)
+
+-- what was found of the node
+found : (c : tie.After-fence-kept Inv-loop μ-loop) →
+    c .fence-kept .result ≡ fenceKept (now (c .before .before .before .before .before .before .before .before .before .before .before .before .args .case)) (now (c .before .before .before .before .before .before .before .before .before .before .before .before .args .row)) (c .before .before .before .before .before .before .before .before .before .before .before .before .args .s)
+    (directionIn (now (c .before .before .before .before .before .before .before .before .before .before .before .before .args .case)) (now (c .before .before .before .before .before .before .before .before .before .before .before .before .args .row)) (c .before .before .before .before .before .before .before .before .before .before .before .before .args .s)) (c .before .before .before .loop .v)
+found c =
+    let a = c .before in
+    let t = a .before in
+    let h = t .before in
+    let p = h .before in
+    let n = p .before in
+    let d = n .before in
+    let f = d .before .before .before .before .before in
+    let s = f .before in
+    let l = now (s .args .case) in
+    let r = now (s .args .row) in
+    let k = s .args .s in
+    let y = s .pre .at .laid in
+    fence-node l r k (directionIn l r k) (h .loop .v) (chosen-is d)
+    (kept _ (n .inside .given) ∙ y .inside .each k (s .pre .station))
+    (kept _ (p .struct-told2 .given .1 .1 .1 .1 .1 .1 .0 .1) ∙ y .plain)
+    (kept _ (a .fence-kept-arg .given) ∙ f .station-flows .ensures .each (h .loop .v) (node-in t))
+    (c .fence-kept .ensures)
+
 loop-holds : tie.Need-loop-holds Inv-loop μ-loop
-loop-holds c = ?
+loop-holds c = (omega arith, refl)
 
--- src/stations.rt:166:50
 mul-fence-kept : tie.Need-mul-fence-kept Inv-loop μ-loop
-mul-fence-kept c = ?
+mul-fence-kept c = omega (arith, node-in c, counted (c .before .before .before .before .before .before .before .before .before .before .pre .at .accepted) .nodes)
 
--- src/stations.rt:166:50
 element-copy-out-fence-kept : tie.Need-element-copy-out-fence-kept Inv-loop μ-loop
-element-copy-out-fence-kept c = ?
+element-copy-out-fence-kept c = omega (arith, node-in c, counted (c .before .before .before .before .before .before .before .before .before .before .pre .at .accepted) .nodes)
 
--- src/stations.rt:166:13
 fence-kept-requires : tie.Need-fence-kept-requires Inv-loop μ-loop
-fence-kept-requires c κs = ?
+fence-kept-requires c κs = search needs
 
--- src/stations.rt:167:13
 returns : tie.Need-returns Inv-loop μ-loop
-returns c = ?
+unfolding fenceFlowsKept
+returns c =
+    let b = c .before in
+    let t = b .before .before in
+    let h = t .before in
+    let s = h .before .before .before .before .before .before .before .before .before in
+    let l = now (s .args .case) in
+    let r = now (s .args .row) in
+    let k = s .args .s in
+    sym (every-not (nodesOf l) (fenceKept l r k (directionIn l r k)) (h .loop .v) (node-in t) (sym (found b) ∙ not-true _ (c .if1 .taken)))
 
--- src/stations.rt:169:9
 add-v : tie.Need-add-v Inv-loop μ-loop
-add-v c = ?
+add-v c = omega arith
 
--- src/stations.rt:165:5
 loop-less : tie.Need-loop-less Inv-loop μ-loop
-loop-less c = ?
+loop-less c = omega arith
 
--- src/stations.rt:165:5
 loop-again : tie.Need-loop-again Inv-loop μ-loop
-loop-again c = ?
+loop-again c =
+    let b = c .before in
+    let h = b .before .before .before in
+    let s = h .before .before .before .before .before .before .before .before .before in
+    let l = now (s .args .case) in
+    let r = now (s .args .row) in
+    let k = s .args .s in
+    (omega arith, every-more (h .loop .v) (fenceKept l r k (directionIn l r k)) (h .loop .inv .1) (sym (found b) ∙ not-false _ (c .if1 .left)))
 
--- src/stations.rt:155:1
 returns-2 : tie.Need-returns-2 Inv-loop μ-loop
-returns-2 c = ?
+unfolding fenceFlowsKept
+returns-2 c =
+    let h = c .before in
+    let s = h .before .before .before .before .before .before .before .before .before in
+    let e : h .loop .v ≡ nodesOf (now (s .args .case)) = omega (arith, s .pre .at .laid .nodes, h .loop .inv .0, c .loop-test .left) in
+    sym (rw e at (h .loop .inv .1))
 
 pub fence-flows-kept-spec : {M : Type 1} → statement M
 fence-flows-kept-spec =

@@ -1,42 +1,56 @@
+use mathlib.Core.Path.{_≡_, sym, ap, _∙_}
 use borrow.Author.Needs.{needs}
+use lib.IntN.{ℤ}
+use mir.Facts.{toZ-ofZ}
+use Rattle.numbers.specs.Sets.{memberOf}
+use Rattle.case.proofs.Reading.{kept}
+use Rattle.plan.specs.StationRules.{fenceFlowKept, fenceNodeKept}
 use Rattle.plan.proofs.stations.fence_kept.Statement.{statement}
 use Rattle.plan.proofs.stations.fence_kept.Tie as tie
-use Rattle.plan.proofs.stations.fence_kept.Reads as reads
-use Rattle.plan.proofs.stations.fence_kept.Lts as lts
-use Rattle.numbers.proofs.sets.member.Reads as member-reads
-use Rattle.plan.proofs.stations.fence_flow_kept.Reads as fence-flow-kept-reads
 
--- src/stations.rt:145:8
+in-station : (c : tie.After-member) → c .member .result ≡ memberOf (c .before .args .inside) (c .before .args .v)
+in-station c = let s = c .before in c .member .ensures ∙ ap (λ (z : ℤ). memberOf z (s .args .v)) (toZ-ofZ (s .fits .inside))
+
+in-plain : (c : tie.After-member2) → c .member2 .result ≡ memberOf (c .before .before .before .args .plain) (c .before .before .before .args .v)
+in-plain c = let s = c .before .before .before in c .member2 .ensures ∙ ap (λ (z : ℤ). memberOf z (s .args .v)) (toZ-ofZ (s .fits .plain))
+
 member-requires : tie.Need-member-requires
 member-requires c κs = search needs
 
--- src/stations.rt:146:12
 member-requires-2 : tie.Need-member-requires-2
 member-requires-2 c κs = search needs
 
--- src/stations.rt:147:36
 member-requires-3 : tie.Need-member-requires-3
 member-requires-3 c κs = search needs
 
--- src/stations.rt:147:61
 member-requires-4 : tie.Need-member-requires-4
 member-requires-4 c κs = search needs
 
--- src/stations.rt:147:13
 fence-flow-kept-requires : tie.Need-fence-flow-kept-requires
 fence-flow-kept-requires c κs = search needs
 
--- src/stations.rt:147:13
 returns : tie.Need-returns
-returns c = ?
+unfolding fenceNodeKept
+returns c =
+    let x = c .before in
+    let n = x .before .before in
+    let p = n .before .before .before in
+    let q = p .before .before in
+    let s = q .before in
+    let entry : n .member3 .result ≡ memberOf (s .args .chosen .entry) (s .args .v) = n .member3 .ensures ∙ ap (λ (z : ℤ). memberOf z (s .args .v)) (kept (s .args .chosen .entry) (n .before .struct-told .given .0 .1)) in
+    let exit : x .member4 .result ≡ memberOf (s .args .chosen .exit) (s .args .v) = x .member4 .ensures ∙ ap (λ (z : ℤ). memberOf z (s .args .v)) (kept (s .args .chosen .exit) (x .before .struct-told2 .given .1 .0 .1)) in
+    rw (sym (in-station q) ∙ p .before .if1 .taken, sym (in-plain p) ∙ n .before .before .if2 .taken, ← entry, ← exit)
+    (c .fence-flow-kept .ensures ∙ ap (fenceFlowKept (n .member3 .result) (x .member4 .result)) (toZ-ofZ (s .fits .flow)))
 
--- src/stations.rt:142:1
 returns-2 : tie.Need-returns-2
-returns-2 c = ?
+unfolding fenceNodeKept
+returns-2 c =
+    let p = c .before in
+    rw (sym (in-station (p .before .before)) ∙ p .before .if1 .taken, sym (in-plain p) ∙ c .if2 .left)
 
--- src/stations.rt:142:1
 returns-3 : tie.Need-returns-3
-returns-3 c = ?
+unfolding fenceNodeKept
+returns-3 c = rw (sym (in-station (c .before)) ∙ c .if1 .left)
 
 pub fence-kept-spec : {M : Type 1} → statement M
 fence-kept-spec =

@@ -1,27 +1,31 @@
+use mathlib.Core.Path.{_≡_, sym, ap, _∙_}
+use mathlib.Core.Bool.{Bool, true, false}
 use borrow.Author.Needs.{needs}
+use lib.IntN.{ℤ, pos}
+use lib.Signed.{leZ}
+use mir.Facts.{toZ-ofZ}
+use Rattle.numbers.specs.SignedParts.{posPart}
 use Rattle.plan.proofs.stations.one_of.Statement.{statement}
 use Rattle.plan.proofs.stations.one_of.Tie as tie
-use Rattle.plan.proofs.stations.one_of.Reads as reads
-use Rattle.plan.proofs.stations.one_of.Lts as lts
-use Rattle.numbers.proofs.compare.at_most.Reads as at-most-reads
-use Rattle.numbers.proofs.compare.index.Reads as index-reads
-use Rattle.plan.proofs.bools.both.Reads as both-reads
 
--- src/stations.rt:40:10
+-- the test, of the number itself
+tested : (c : tie.After-at-most) → c .at-most .result ≡ leZ (pos 0) (c .before .args .x)
+tested c = c .at-most .ensures ∙ ap (leZ (pos 0)) (toZ-ofZ (c .before .fits .x))
+
 at-most-requires : tie.Need-at-most-requires
 at-most-requires c κs = search needs
 
--- src/stations.rt:40:25
 index-requires : tie.Need-index-requires
 index-requires c κs = search needs
 
--- src/stations.rt:40:5
-both-requires : tie.Need-both-requires
-both-requires c κs = search needs
-
--- src/stations.rt:37:1
 returns : tie.Need-returns
-returns c = ?
+returns c =
+    let t = c .before .before in
+    let e = c .index .ensures ∙ ap posPart (toZ-ofZ (t .before .fits .x)) in
+    rw (sym (tested t) ∙ c .before .if1 .taken, e)
+
+returns-2 : tie.Need-returns-2
+returns-2 c = rw (sym (tested (c .before)) ∙ c .if1 .left)
 
 pub one-of-spec : {M : Type 1} → statement M
-one-of-spec = tie.close (tie.spec at-most-requires index-requires both-requires returns)
+one-of-spec = tie.close (tie.spec at-most-requires index-requires returns returns-2)

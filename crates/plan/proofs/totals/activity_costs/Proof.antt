@@ -1,46 +1,63 @@
+-- The sum so far is that over the arcs passed. Assumes nothing.
+use mathlib.Core.Path.{ap, _∙_}
+use Prim.Native.Nat.{ℕ, _-_, _<_, _≤_}
+use native.Mathlib.Omega.{arith}
+use denote.Ref.{now}
+use Rattle.numbers.specs.Sum.{sum, sumN}
+use Rattle.case.specs.Layout.{arcsOf}
+use Rattle.plan.specs.Carried.{activeOf}
+use Rattle.plan.specs.CaseFacts.{counted}
+use Rattle.plan.specs.Totals.{activityPart, activityCosts}
+use Rattle.plan.proofs.Adding.{Counting, startN, turnN, endN}
+use Rattle.plan.proofs.StepSizes.{activity-le}
 use Rattle.plan.proofs.totals.activity_costs.Statement.{statement}
 use Rattle.plan.proofs.totals.activity_costs.Tie as tie
-use Rattle.plan.proofs.totals.activity_costs.Reads as reads
-use Rattle.plan.proofs.totals.activity_costs.Lts as lts
-use Rattle.plan.proofs.totals.activity_cost.Reads as activity-cost-reads
 
 abbrev Inv-loop : tie.InvT-loop
-Inv-loop case row arcs active sum₀ e₀ sum e = ?
+Inv-loop case row arcs active sum₀ e₀ sum e = (arcs ≤ 120) × Counting sum (activityPart case (activeOf active) row) 1000000 arcs e
 
 abbrev μ-loop : tie.MeasureT-loop
-μ-loop case row arcs active sum₀ e₀ sum e = ?
+μ-loop case row arcs active sum₀ e₀ sum e = arcs - e
 
--- src/totals.rt:130:5
 loop-holds : tie.Need-loop-holds Inv-loop μ-loop
-loop-holds c = ?
+loop-holds c = (omega (arith, counted (c .pre .0) .arcs, c .pre .1), startN)
 
--- src/totals.rt:131:44
 array-read-activity-cost : tie.Need-array-read-activity-cost Inv-loop μ-loop
-array-read-activity-cost c = ?
+array-read-activity-cost c = omega arith
 
--- src/totals.rt:131:16
 activity-cost-requires : tie.Need-activity-cost-requires Inv-loop μ-loop
-activity-cost-requires c κs = ?
+activity-cost-requires c κs = let s = c .before .before in (s .pre .0, omega (arith, c .loop-test .taken, s .pre .1))
 
--- src/totals.rt:131:9
 add-sum : tie.Need-add-sum Inv-loop μ-loop
-add-sum c = ?
+add-sum c =
+    let h = c .before .before in
+    let s = h .before in
+    let i = h .loop .e in
+    let p : i < arcsOf (now (s .args .case)) = omega (arith, c .before .loop-test .taken, s .pre .1) in
+    let b : c .activity-cost .result ≤ 1000000 = omega (arith, c .activity-cost .ensures, activity-le (s .pre .0) (activeOf (s .args .t2) i) (now (s .args .row)) i p) in
+    omega (arith, h .loop .inv .1 .small)
 
--- src/totals.rt:132:9
 add-e : tie.Need-add-e Inv-loop μ-loop
-add-e c = ?
+add-e c = omega arith
 
--- src/totals.rt:130:5
 loop-less : tie.Need-loop-less Inv-loop μ-loop
-loop-less c = ?
+loop-less c = omega arith
 
--- src/totals.rt:130:5
 loop-again : tie.Need-loop-again Inv-loop μ-loop
-loop-again c = ?
+loop-again c =
+    let h = c .before .before in
+    let s = h .before in
+    let i = h .loop .e in
+    let p : i < arcsOf (now (s .args .case)) = omega (arith, c .before .loop-test .taken, s .pre .1) in
+    let b : c .activity-cost .result ≤ 1000000 = omega (arith, c .activity-cost .ensures, activity-le (s .pre .0) (activeOf (s .args .t2) i) (now (s .args .row)) i p) in
+    (h .loop .inv .0, turnN (h .loop .inv .1) (c .activity-cost .ensures) b (c .before .loop-test .taken))
 
--- src/totals.rt:124:1
 returns : tie.Need-returns Inv-loop μ-loop
-returns c = ?
+unfolding activityCosts
+returns c =
+    let h = c .before in
+    let s = h .before in
+    endN (h .loop .inv .1) (c .loop-test .left) ∙ ap (λ (n : ℕ). sumN n (activityPart (now (s .args .case)) (activeOf (s .args .t2)) (now (s .args .row)))) (s .pre .1)
 
 pub activity-costs-spec : {M : Type 1} → statement M
 activity-costs-spec =

@@ -1,69 +1,171 @@
+-- Each total with what the step adds, by the sizes of a step that was kept.
+-- The pressures are an array of 60, as `good` of `previous` says. Assumes nothing.
+use mathlib.Core.Path.{refl, sym, ap, _∙_}
+use Prim.Native.Nat.{ℕ, _+_, _-_}
+use native.Mathlib.Omega.{arith}
 use borrow.Author.Needs.{needs}
+use denote.Ref.{now}
+use lib.ListN.{length-map}
+use Rattle.numbers.specs.SignedLocals.{held, held-fits, _+ʳ_}
+use Rattle.case.specs.Layout.{numberAt}
+use Rattle.plan.proofs.Values.{kept}
+use Rattle.plan.specs.Carried.{activeOf, indexOf}
+use Rattle.plan.specs.Totals.{choiceCosts, pipeResiduals}
+use Rattle.plan.proofs.Adding.{got}
+use Rattle.plan.proofs.StepSizes.{pressure-slack-sized, demand-slack-sized, choice-costs-le, activity-costs-le, pipe-residuals-le, node-residuals-le}
 use Rattle.plan.proofs.totals.added.Statement.{statement}
 use Rattle.plan.proofs.totals.added.Tie as tie
-use Rattle.plan.proofs.totals.added.Reads as reads
-use Rattle.plan.proofs.totals.added.Lts as lts
-use Rattle.plan.proofs.totals.activity_costs.Reads as activity-costs-reads
-use Rattle.plan.proofs.totals.choice_costs.Reads as choice-costs-reads
-use Rattle.plan.proofs.totals.node_residuals.Reads as node-residuals-reads
-use Rattle.plan.proofs.totals.pipe_residuals.Reads as pipe-residuals-reads
-use Rattle.plan.proofs.totals.slacks_of.Reads as slacks-of-reads
 
--- src/totals.rt:200:9
 slacks-of-requires : tie.Need-slacks-of-requires
 slacks-of-requires c κs = search needs
 
--- src/totals.rt:204:9
 choice-costs-requires : tie.Need-choice-costs-requires
 choice-costs-requires c κs = search needs
 
--- src/totals.rt:205:9
 activity-costs-requires : tie.Need-activity-costs-requires
 activity-costs-requires c κs = search needs
 
--- src/totals.rt:206:38
 slice-aggregate-pipe-residuals : tie.Need-slice-aggregate-pipe-residuals
-slice-aggregate-pipe-residuals c = ?
+slice-aggregate-pipe-residuals c = let s = c .before .before .before .before .before .before .before .before in sym (simp length-map at (s .good .1 .1 .1 .0 .1 .1 .0 .1 .0 .1))
 
--- src/totals.rt:206:9
 pipe-residuals-requires : tie.Need-pipe-residuals-requires
 pipe-residuals-requires c κs = search needs
 
--- src/totals.rt:207:38
 slice-aggregate-node-residuals : tie.Need-slice-aggregate-node-residuals
-slice-aggregate-node-residuals c = ?
+slice-aggregate-node-residuals c = let s = c .before .before .before .before .before .before .before .before .before .before in sym (simp length-map at (s .good .1 .1 .1 .0 .1 .1 .0 .1 .0 .1))
 
--- src/totals.rt:207:9
 node-residuals-requires : tie.Need-node-residuals-requires
 node-residuals-requires c κs = search needs
 
--- src/totals.rt:209:19
 add-t20 : tie.Need-add-t20
-add-t20 c = ?
+add-t20 c =
+    let w = c .before .before .before .before in
+    let p = w .before .before in
+    let a = p .before .before in
+    let d = a .before in
+    let g = d .before .before .before .before in
+    let s = g .before .before in
+    let l = now (s .args .case) in
+    let r = now (s .args .row) in
+    let x = s .args .previous in
+    let t = s .args .totals in
+    let y = s .pre .0 .accepted in
+    let k = s .pre .1 in
+    let m = got refl (s .pre .2 .pressure) tt +ʳ got (g .slacks-of .ensures .pressure) (pressure-slack-sized r y (k .rows)) tt in
+    held-fits m tt
 
--- src/totals.rt:210:17
 add-t21 : tie.Need-add-t21
-add-t21 c = ?
+add-t21 c =
+    let w = c .before .before .before .before .before .before .before .before in
+    let p = w .before .before in
+    let a = p .before .before in
+    let d = a .before in
+    let g = d .before .before .before .before in
+    let s = g .before .before in
+    let l = now (s .args .case) in
+    let r = now (s .args .row) in
+    let x = s .args .previous in
+    let t = s .args .totals in
+    let y = s .pre .0 .accepted in
+    let k = s .pre .1 in
+    let m = got refl (s .pre .2 .demand) tt +ʳ got (g .slacks-of .ensures .demand) (demand-slack-sized r y (k .rows)) tt in
+    held-fits m tt
 
--- src/totals.rt:211:40
 add-t22 : tie.Need-add-t22
-add-t22 c = ?
+add-t22 c =
+    let w = c .before .before .before .before .before .before .before .before in
+    let p = w .before .before in
+    let a = p .before .before in
+    let d = a .before in
+    let g = d .before .before .before .before in
+    let s = g .before .before in
+    let l = now (s .args .case) in
+    let r = now (s .args .row) in
+    let x = s .args .previous in
+    let t = s .args .totals in
+    let y = s .pre .0 .accepted in
+    let k = s .pre .1 in
+    let u = choice-costs-le r y (k .choices) (indexOf (x .directions)) (indexOf (x .states)) in
+    let v = activity-costs-le r y (activeOf (x .active)) in
+    omega (arith, d .choice-costs .ensures, a .activity-costs .ensures, u, v)
 
--- src/totals.rt:211:20
 add-t23 : tie.Need-add-t23
-add-t23 c = ?
+add-t23 c =
+    let w = c .before .before .before .before .before .before .before .before .before in
+    let p = w .before .before in
+    let a = p .before .before in
+    let d = a .before in
+    let g = d .before .before .before .before in
+    let s = g .before .before in
+    let l = now (s .args .case) in
+    let r = now (s .args .row) in
+    let x = s .args .previous in
+    let t = s .args .totals in
+    let y = s .pre .0 .accepted in
+    let k = s .pre .1 in
+    let u = choice-costs-le r y (k .choices) (indexOf (x .directions)) (indexOf (x .states)) in
+    let v = activity-costs-le r y (activeOf (x .active)) in
+    omega (arith, d .choice-costs .ensures, a .activity-costs .ensures, u, v, s .pre .2 .switching)
 
--- src/totals.rt:212:38
 add-t24 : tie.Need-add-t24
-add-t24 c = ?
+add-t24 c =
+    let w = c .before .before .before .before .before .before .before .before .before in
+    let p = w .before .before in
+    let a = p .before .before in
+    let d = a .before in
+    let g = d .before .before .before .before in
+    let s = g .before .before in
+    let l = now (s .args .case) in
+    let r = now (s .args .row) in
+    let x = s .args .previous in
+    let t = s .args .totals in
+    let y = s .pre .0 .accepted in
+    let k = s .pre .1 in
+    let u = pipe-residuals-le r y k in
+    let v = node-residuals-le r y k in
+    omega (arith, p .pipe-residuals .ensures, w .node-residuals .ensures, u, v)
 
--- src/totals.rt:212:19
 add-t25 : tie.Need-add-t25
-add-t25 c = ?
+add-t25 c =
+    let w = c .before .before .before .before .before .before .before .before .before .before in
+    let p = w .before .before in
+    let a = p .before .before in
+    let d = a .before in
+    let g = d .before .before .before .before in
+    let s = g .before .before in
+    let l = now (s .args .case) in
+    let r = now (s .args .row) in
+    let x = s .args .previous in
+    let t = s .args .totals in
+    let y = s .pre .0 .accepted in
+    let k = s .pre .1 in
+    let u = pipe-residuals-le r y k in
+    let v = node-residuals-le r y k in
+    omega (arith, p .pipe-residuals .ensures, w .node-residuals .ensures, u, v, s .pre .2 .residual)
 
--- src/totals.rt:195:1
 returns : tie.Need-returns
-returns c = ?
+returns c =
+    let w = c .before .before .before .before .before .before .before .before .before .before .before in
+    let p = w .before .before in
+    let a = p .before .before in
+    let d = a .before in
+    let g = d .before .before .before .before in
+    let s = g .before .before in
+    let l = now (s .args .case) in
+    let r = now (s .args .row) in
+    let x = s .args .previous in
+    let t = s .args .totals in
+    let y = s .pre .0 .accepted in
+    let k = s .pre .1 in
+    let m = got refl (s .pre .2 .pressure) tt +ʳ got (g .slacks-of .ensures .pressure) (pressure-slack-sized r y (k .rows)) tt in
+    let n = got refl (s .pre .2 .demand) tt +ʳ got (g .slacks-of .ensures .demand) (demand-slack-sized r y (k .rows)) tt in
+    record {
+      pressure = held m tt .val;
+      demand = held n tt .val;
+      switching = ap (λ (z : ℕ). t .switching + (z + a .activity-costs .result)) (d .choice-costs .ensures) ∙ ap (λ (z : ℕ). t .switching + (choiceCosts l (indexOf (x .directions)) (indexOf (x .states)) r + z)) (a .activity-costs .ensures);
+      residual = ap (λ (z : ℕ). t .residual + (z + w .node-residuals .result)) (p .pipe-residuals .ensures) ∙ ap (λ (z : ℕ). t .residual + (pipeResiduals l (numberAt (x .pressures)) r (s .args .i) + z)) (w .node-residuals .ensures);
+      opening = kept _ (c .struct-told5 .given .1 .1 .1 .1 .0 .1);
+    }
 
 pub added-spec : {M : Type 1} → statement M
 added-spec =

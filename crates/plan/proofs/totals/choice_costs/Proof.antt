@@ -1,75 +1,110 @@
+-- The sum so far is that over the stations passed. Assumes nothing.
+use mathlib.Core.Path.{_≡_, ap, _∙_}
+use Prim.Native.Nat.{ℕ, _+_, _-_, _<_, _≤_}
+use native.Mathlib.Omega.{arith}
+use denote.Ref.{now}
+use Rattle.numbers.specs.Sum.{sum, sumN}
+use Rattle.case.specs.Layout.{stationsOf}
+use Rattle.plan.specs.Carried.{indexOf}
+use Rattle.plan.specs.CaseFacts.{counted}
+use Rattle.plan.specs.Totals.{directionCost, choiceCost, choiceCosts}
+use Rattle.plan.proofs.Adding.{Counting, startN, turnN, endN}
+use Rattle.plan.proofs.StepSizes.{direction-le, state-le}
 use Rattle.plan.proofs.totals.choice_costs.Statement.{statement}
 use Rattle.plan.proofs.totals.choice_costs.Tie as tie
-use Rattle.plan.proofs.totals.choice_costs.Reads as reads
-use Rattle.plan.proofs.totals.choice_costs.Lts as lts
-use Rattle.plan.proofs.totals.direction_cost.Reads as direction-cost-reads
-use Rattle.plan.proofs.totals.state_cost.Reads as state-cost-reads
 
 abbrev Inv-loop : tie.InvT-loop
-Inv-loop case row directions states layout stations sum₀ s₀ sum s = ?
+Inv-loop case row directions states layout stations sum₀ s₀ sum s = (stations ≤ 8) × Counting sum (choiceCost case (indexOf directions) (indexOf states) row) 2000000 stations s
 
 abbrev μ-loop : tie.MeasureT-loop
-μ-loop case row directions states layout stations sum₀ s₀ sum s = ?
+μ-loop case row directions states layout stations sum₀ s₀ sum s = stations - s
 
--- src/totals.rt:95:5
 loop-holds : tie.Need-loop-holds Inv-loop μ-loop
-loop-holds c = ?
+loop-holds c = (omega (arith, counted (c .pre .0) .stations, c .pre .1 .stations), startN)
 
--- src/totals.rt:96:21
 mul-first : tie.Need-mul-first Inv-loop μ-loop
-mul-first c = ?
+mul-first c = omega arith
 
--- src/totals.rt:96:21
 element-copy-out-first : tie.Need-element-copy-out-first Inv-loop μ-loop
-element-copy-out-first c = ?
+element-copy-out-first c = omega arith
 
--- src/totals.rt:97:53
 mul-direction-cost : tie.Need-mul-direction-cost Inv-loop μ-loop
-mul-direction-cost c = ?
+mul-direction-cost c = omega arith
 
--- src/totals.rt:97:53
 array-read-direction-cost : tie.Need-array-read-direction-cost Inv-loop μ-loop
-array-read-direction-cost c = ?
+array-read-direction-cost c = omega arith
 
--- src/totals.rt:97:13
 direction-cost-requires : tie.Need-direction-cost-requires Inv-loop μ-loop
-direction-cost-requires c κs = ?
+direction-cost-requires c κs =
+    let h = c .before .before in
+    let s = h .before in
+    let p : h .loop .s < stationsOf (now (s .args .case)) = omega (arith, c .before .loop-test .taken, s .pre .1 .stations) in
+    (s .pre .0, p, s .pre .1 .rows .each (h .loop .s) p)
 
--- src/totals.rt:98:49
 mul-state-cost : tie.Need-mul-state-cost Inv-loop μ-loop
-mul-state-cost c = ?
+mul-state-cost c = omega arith
 
--- src/totals.rt:98:49
 array-read-state-cost : tie.Need-array-read-state-cost Inv-loop μ-loop
-array-read-state-cost c = ?
+array-read-state-cost c = omega arith
 
--- src/totals.rt:98:13
 state-cost-requires : tie.Need-state-cost-requires Inv-loop μ-loop
-state-cost-requires c κs = ?
+state-cost-requires c κs =
+    let h = c .before .before .before in
+    let s = h .before in
+    let p : h .loop .s < stationsOf (now (s .args .case)) = omega (arith, c .before .before .loop-test .taken, s .pre .1 .stations) in
+    (s .pre .0, p, s .pre .1 .rows .each (h .loop .s) p)
 
--- src/totals.rt:99:16
 add-sum : tie.Need-add-sum Inv-loop μ-loop
-add-sum c = ?
+add-sum c =
+    let g = c .before .before .before in
+    let h = g .before in
+    let s = h .before in
+    let l = now (s .args .case) in
+    let i = h .loop .s in
+    let p : i < stationsOf l = omega (arith, g .loop-test .taken, s .pre .1 .stations) in
+    let a : c .before .direction-cost .result ≤ 1000000 = omega (arith, c .before .direction-cost .ensures, direction-le (s .pre .0) (s .pre .2) i p (indexOf (s .args .t2) i)) in
+    let b : c .state-cost .result ≤ 1000000 = omega (arith, c .state-cost .ensures, state-le (s .pre .0) (s .pre .2) i p (indexOf (s .args .t3) i)) in
+    omega arith
 
--- src/totals.rt:99:9
 add-sum-2 : tie.Need-add-sum-2 Inv-loop μ-loop
-add-sum-2 c = ?
+add-sum-2 c =
+    let g = c .before .before .before in
+    let h = g .before in
+    let s = h .before in
+    let l = now (s .args .case) in
+    let i = h .loop .s in
+    let p : i < stationsOf l = omega (arith, g .loop-test .taken, s .pre .1 .stations) in
+    let a : c .before .direction-cost .result ≤ 1000000 = omega (arith, c .before .direction-cost .ensures, direction-le (s .pre .0) (s .pre .2) i p (indexOf (s .args .t2) i)) in
+    let b : c .state-cost .result ≤ 1000000 = omega (arith, c .state-cost .ensures, state-le (s .pre .0) (s .pre .2) i p (indexOf (s .args .t3) i)) in
+    omega (arith, h .loop .inv .1 .small)
 
--- src/totals.rt:100:9
 add-s : tie.Need-add-s Inv-loop μ-loop
-add-s c = ?
+add-s c = omega arith
 
--- src/totals.rt:95:5
 loop-less : tie.Need-loop-less Inv-loop μ-loop
-loop-less c = ?
+loop-less c = omega arith
 
--- src/totals.rt:95:5
 loop-again : tie.Need-loop-again Inv-loop μ-loop
-loop-again c = ?
+unfolding choiceCost
+loop-again c =
+    let g = c .before .before .before in
+    let h = g .before in
+    let s = h .before in
+    let l = now (s .args .case) in
+    let i = h .loop .s in
+    let p : i < stationsOf l = omega (arith, g .loop-test .taken, s .pre .1 .stations) in
+    let a : c .before .direction-cost .result ≤ 1000000 = omega (arith, c .before .direction-cost .ensures, direction-le (s .pre .0) (s .pre .2) i p (indexOf (s .args .t2) i)) in
+    let b : c .state-cost .result ≤ 1000000 = omega (arith, c .state-cost .ensures, state-le (s .pre .0) (s .pre .2) i p (indexOf (s .args .t3) i)) in
+    let e : c .before .direction-cost .result + c .state-cost .result ≡ choiceCost l (indexOf (s .args .t2)) (indexOf (s .args .t3)) (now (s .args .row)) i = ap (λ (x : ℕ). x + c .state-cost .result) (c .before .direction-cost .ensures) ∙ ap (λ (x : ℕ). directionCost l (indexOf (s .args .t2) i) (now (s .args .row)) i + x) (c .state-cost .ensures) in
+    (h .loop .inv .0, turnN (h .loop .inv .1) e (omega arith) (g .loop-test .taken))
 
--- src/totals.rt:88:1
 returns : tie.Need-returns Inv-loop μ-loop
-returns c = ?
+unfolding choiceCosts
+returns c =
+    let h = c .before in
+    let s = h .before in
+    endN (h .loop .inv .1) (c .loop-test .left)
+    ∙ ap (λ (n : ℕ). sumN n (choiceCost (now (s .args .case)) (indexOf (s .args .t2)) (indexOf (s .args .t3)) (now (s .args .row)))) (s .pre .1 .stations)
 
 pub choice-costs-spec : {M : Type 1} → statement M
 choice-costs-spec =

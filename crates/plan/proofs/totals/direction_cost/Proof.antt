@@ -1,31 +1,51 @@
+-- The weight counts where the direction is another one. Assumes nothing.
+use mathlib.Core.Path.{_≡_, sym, ap, _∙_}
+use Prim.Native.Nat.{ℕ, _-_}
 use borrow.Author.Needs.{needs}
+use denote.Ref.{now}
+use Rattle.numbers.specs.SignedParts.{posPart}
+use Rattle.case.specs.declared.records.Direction.{Direction}
+use Rattle.case.specs.Records.{directionRow, directionOf}
+use Rattle.plan.proofs.Values.{kept}
+use Rattle.plan.specs.declared.rows.Choice.{Choice}
+use Rattle.plan.specs.PlanRecords.{directionIn}
+use Rattle.plan.specs.CaseFacts.{counted}
+use Rattle.plan.specs.Totals.{directionCost}
+use Rattle.plan.proofs.StepSizes.{cost-same, cost-new}
 use Rattle.plan.proofs.totals.direction_cost.Statement.{statement}
 use Rattle.plan.proofs.totals.direction_cost.Tie as tie
-use Rattle.plan.proofs.totals.direction_cost.Reads as reads
-use Rattle.plan.proofs.totals.direction_cost.Lts as lts
-use Rattle.case.proofs.read.direction.Reads as direction-reads
-use Rattle.numbers.proofs.compare.index.Reads as index-reads
-use Rattle.plan.proofs.rows.choice_of.Reads as choice-of-reads
 
--- src/totals.rt:67:19
 choice-of-requires : tie.Need-choice-of-requires
-choice-of-requires c κs = ?
+choice-of-requires c κs = (counted (c .pre .0), c .pre .1)
 
--- src/totals.rt:67:9
 index-requires : tie.Need-index-requires
 index-requires c κs = search needs
 
--- src/totals.rt:71:9
 direction-requires : tie.Need-direction-requires
 direction-requires c κs = search needs
 
--- src/totals.rt:63:1
 returns : tie.Need-returns
-returns c = ?
+unfolding directionCost
+returns c =
+    let b = c .before in
+    let d = b .before .before in
+    let s = d .before in
+    let e : b .index .result ≡ directionIn (now (s .args .case)) (now (s .args .row)) (s .args .s) = b .index .ensures ∙ ap posPart (kept _ (b .before .struct-told .given .0 .1) ∙ ap (λ (x : Choice). x .direction) (d .choice-of .ensures)) in
+    cost-same _ (sym e ∙ c .if1 .taken)
 
--- src/totals.rt:63:1
 returns-2 : tie.Need-returns-2
-returns-2 c = ?
+unfolding directionCost
+returns-2 c =
+    let b = c .before .before in
+    let d = b .before .before in
+    let s = d .before in
+    let l = now (s .args .case) in
+    let f = directionIn l (now (s .args .row)) (s .args .s) in
+    let e : b .index .result ≡ f = b .index .ensures ∙ ap posPart (kept _ (b .before .struct-told .given .0 .1) ∙ ap (λ (x : Choice). x .direction) (d .choice-of .ensures)) in
+    ap (λ (x : Direction). x .weight) (c .direction .ensures)
+    ∙ ap (λ (k : ℕ). directionRow l k (b .index .result) .weight) (s .pre .2)
+    ∙ ap (λ (k : ℕ). directionOf l (s .args .s) k .weight) e
+    ∙ cost-new (directionOf l (s .args .s) f .weight) (λ (q : f ≡ s .args .was). c .before .if1 .left (e ∙ q))
 
 pub direction-cost-spec : {M : Type 1} → statement M
 direction-cost-spec =

@@ -1,26 +1,48 @@
+-- The arc is a pipe, or it is not. Assumes nothing.
+use mathlib.Core.Path.{_≡_, sym, ap, _∙_}
+use Prim.Native.Nat.{_-_}
 use borrow.Author.Needs.{needs}
+use borrow.Author.Tests.{eq-eqb, ne-eqb}
+use denote.Ref.{now}
+use Rattle.case.specs.declared.records.Arc.{Arc}
+use Rattle.case.specs.Records.{arcOf}
+use Rattle.plan.specs.Totals.{pipePart}
+use Rattle.plan.proofs.Adding.{takenN, leftN}
 use Rattle.plan.proofs.totals.pipe_part.Statement.{statement}
 use Rattle.plan.proofs.totals.pipe_part.Tie as tie
-use Rattle.plan.proofs.totals.pipe_part.Reads as reads
-use Rattle.plan.proofs.totals.pipe_part.Lts as lts
-use Rattle.case.proofs.read.arc.Reads as arc-reads
-use Rattle.plan.proofs.pipes.pipe_residual.Reads as pipe-residual-reads
 
--- src/totals.rt:142:8
 arc-requires : tie.Need-arc-requires
 arc-requires c κs = search needs
 
--- src/totals.rt:143:9
 pipe-residual-requires : tie.Need-pipe-residual-requires
-pipe-residual-requires c κs = ?
+pipe-residual-requires c κs =
+    let b = c .before .before in
+    let s = b .before in
+    let y = s .pre in
+    record {
+      at = record {
+        accepted = y .0;
+        step = y .1;
+        arc = y .2;
+        before = y .3 .before;
+        pressures = record { each = λ v q. y .3 .rows .each v q .p };
+        flows = y .3 .flows .each (s .args .e) (y .2);
+      };
+      pipe = sym (ap (λ (x : Arc). x .kind) (b .arc .ensures)) ∙ c .if1 .taken;
+    }
 
--- src/totals.rt:138:1
 returns : tie.Need-returns
-returns c = ?
+unfolding pipePart
+returns c =
+    let b = c .before .before .before in
+    c .pipe-residual .ensures ∙ takenN _ (eq-eqb _ 2 (sym (ap (λ (x : Arc). x .kind) (b .arc .ensures)) ∙ c .before .if1 .taken))
 
--- src/totals.rt:138:1
 returns-2 : tie.Need-returns-2
-returns-2 c = ?
+unfolding pipePart
+returns-2 c =
+    let b = c .before .before in
+    let s = b .before in
+    sym (leftN _ (ne-eqb _ 2 (λ (k : arcOf (now (s .args .case)) (s .args .e) .kind ≡ 2). c .if1 .left (ap (λ (x : Arc). x .kind) (b .arc .ensures) ∙ k))))
 
 pub pipe-part-spec : {M : Type 1} → statement M
 pipe-part-spec = tie.close (tie.spec arc-requires pipe-residual-requires returns returns-2)

@@ -1,54 +1,101 @@
+-- The sums so far are those over the nodes passed. Assumes nothing.
+use mathlib.Core.Path.{refl, ap, _∙_}
+use Prim.Native.Nat.{ℕ, _+_, _-_, _≤_}
+use native.Mathlib.Omega.{arith}
+use denote.Ref.{now}
+use Rattle.numbers.specs.SignedLocals.{held, held-fits, _+ʳ_}
+use Rattle.numbers.specs.Sum.{sum}
+use Rattle.plan.specs.declared.rows.NodeRow.{NodeRow}
+use Rattle.plan.specs.CaseFacts.{counted}
+use Rattle.plan.specs.Totals.{pressureSlackAt, demandSlackAt, pressureSlackIn, demandSlackIn}
+use Rattle.plan.proofs.Adding.{Adding, start, fits, turn, end, got}
 use Rattle.plan.proofs.totals.slacks_of.Statement.{statement}
 use Rattle.plan.proofs.totals.slacks_of.Tie as tie
-use Rattle.plan.proofs.totals.slacks_of.Reads as reads
-use Rattle.plan.proofs.totals.slacks_of.Lts as lts
-use Rattle.plan.proofs.rows.node_row.Reads as node-row-reads
 
 abbrev Inv-loop : tie.InvT-loop
-Inv-loop case row nodes sum₀ v₀ sum v = ?
+Inv-loop case row nodes sum₀ v₀ sum v = (nodes ≤ 60) × Adding (sum .pressure) (pressureSlackAt row) 800000 nodes v × Adding (sum .demand) (demandSlackAt row) 20000000 nodes v
 
 abbrev μ-loop : tie.MeasureT-loop
-μ-loop case row nodes sum₀ v₀ sum v = ?
+μ-loop case row nodes sum₀ v₀ sum v = nodes - v
 
--- src/totals.rt:53:5
 loop-holds : tie.Need-loop-holds Inv-loop μ-loop
-loop-holds c = ?
+loop-holds c = (omega (arith, counted (c .pre .0) .nodes, c .pre .1), start, start)
 
--- src/totals.rt:54:13
 node-row-requires : tie.Need-node-row-requires Inv-loop μ-loop
-node-row-requires c κs = ?
+node-row-requires c κs = omega arith
 
--- src/totals.rt:55:40
 add-sum : tie.Need-add-sum Inv-loop μ-loop
-add-sum c = ?
+add-sum c =
+    let r = c .before .before in
+    let h = r .before .before in
+    let s = h .before in
+    let t = r .before .loop-test .taken in
+    let z = s .pre .2 .each (h .loop .v) (omega (arith, t, s .pre .1)) in
+    let k = got (ap (λ (x : NodeRow). x .uplus) (r .node-row .ensures)) (z .uplus) tt +ʳ got (ap (λ (x : NodeRow). x .uminus) (r .node-row .ensures)) (z .uminus) tt in
+    held-fits k tt
 
--- src/totals.rt:55:24
 add-sum-2 : tie.Need-add-sum-2 Inv-loop μ-loop
-add-sum-2 c = ?
+unfolding pressureSlackAt
+add-sum-2 c =
+    let r = c .before .before .before .before in
+    let h = r .before .before in
+    let s = h .before in
+    let t = r .before .loop-test .taken in
+    let z = s .pre .2 .each (h .loop .v) (omega (arith, t, s .pre .1)) in
+    let k = got (ap (λ (x : NodeRow). x .uplus) (r .node-row .ensures)) (z .uplus) tt +ʳ got (ap (λ (x : NodeRow). x .uminus) (r .node-row .ensures)) (z .uminus) tt in
+    fits (h .loop .inv .1) (held k tt) t (omega (arith, h .loop .inv .0))
 
--- src/totals.rt:56:36
 add-sum-3 : tie.Need-add-sum-3 Inv-loop μ-loop
-add-sum-3 c = ?
+add-sum-3 c =
+    let r = c .before .before .before .before .before .before in
+    let h = r .before .before in
+    let s = h .before in
+    let t = r .before .loop-test .taken in
+    let z = s .pre .2 .each (h .loop .v) (omega (arith, t, s .pre .1)) in
+    let k = got (ap (λ (x : NodeRow). x .splus) (r .node-row .ensures)) (z .splus) tt +ʳ got (ap (λ (x : NodeRow). x .sminus) (r .node-row .ensures)) (z .sminus) tt in
+    held-fits k tt
 
--- src/totals.rt:56:22
 add-sum-4 : tie.Need-add-sum-4 Inv-loop μ-loop
-add-sum-4 c = ?
+unfolding demandSlackAt
+add-sum-4 c =
+    let r = c .before .before .before .before .before .before .before .before in
+    let h = r .before .before in
+    let s = h .before in
+    let t = r .before .loop-test .taken in
+    let z = s .pre .2 .each (h .loop .v) (omega (arith, t, s .pre .1)) in
+    let k = got (ap (λ (x : NodeRow). x .splus) (r .node-row .ensures)) (z .splus) tt +ʳ got (ap (λ (x : NodeRow). x .sminus) (r .node-row .ensures)) (z .sminus) tt in
+    fits (h .loop .inv .2) (held k tt) t (omega (arith, h .loop .inv .0))
 
--- src/totals.rt:57:9
 add-v : tie.Need-add-v Inv-loop μ-loop
-add-v c = ?
+add-v c = omega arith
 
--- src/totals.rt:53:5
 loop-less : tie.Need-loop-less Inv-loop μ-loop
-loop-less c = ?
+loop-less c = omega arith
 
--- src/totals.rt:53:5
 loop-again : tie.Need-loop-again Inv-loop μ-loop
-loop-again c = ?
+unfolding pressureSlackAt demandSlackAt
+loop-again c =
+    let r = c .before .before .before .before .before .before .before .before in
+    let h = r .before .before in
+    let s = h .before in
+    let t = r .before .loop-test .taken in
+    let z = s .pre .2 .each (h .loop .v) (omega (arith, t, s .pre .1)) in
+    let k = got (ap (λ (x : NodeRow). x .uplus) (r .node-row .ensures)) (z .uplus) tt +ʳ got (ap (λ (x : NodeRow). x .uminus) (r .node-row .ensures)) (z .uminus) tt in
+    let m = got (ap (λ (x : NodeRow). x .splus) (r .node-row .ensures)) (z .splus) tt +ʳ got (ap (λ (x : NodeRow). x .sminus) (r .node-row .ensures)) (z .sminus) tt in (
+      h .loop .inv .0,
+      turn (h .loop .inv .1) refl (held k tt) t (omega (arith, h .loop .inv .0)),
+      turn (h .loop .inv .2) refl (held m tt) t (omega (arith, h .loop .inv .0)),
+    )
 
--- src/totals.rt:44:1
 returns : tie.Need-returns Inv-loop μ-loop
-returns c = ?
+unfolding pressureSlackIn demandSlackIn
+returns c =
+    let h = c .before in
+    let s = h .before in
+    record {
+      pressure = end (h .loop .inv .1) (c .loop-test .left) ∙ ap (λ (n : ℕ). sum n (pressureSlackAt (now (s .args .row)))) (s .pre .1);
+      demand = end (h .loop .inv .2) (c .loop-test .left) ∙ ap (λ (n : ℕ). sum n (demandSlackAt (now (s .args .row)))) (s .pre .1);
+    }
 
 pub slacks-of-spec : {M : Type 1} → statement M
 slacks-of-spec =

@@ -1,31 +1,51 @@
+-- The weight counts where the state is another one. Assumes nothing.
+use mathlib.Core.Path.{_≡_, sym, ap, _∙_}
+use Prim.Native.Nat.{ℕ, _-_}
 use borrow.Author.Needs.{needs}
+use denote.Ref.{now}
+use Rattle.numbers.specs.SignedParts.{posPart}
+use Rattle.case.specs.declared.records.State.{State}
+use Rattle.case.specs.Records.{stateRow, stateOf}
+use Rattle.plan.proofs.Values.{kept}
+use Rattle.plan.specs.declared.rows.Choice.{Choice}
+use Rattle.plan.specs.PlanRecords.{stateIn}
+use Rattle.plan.specs.CaseFacts.{counted}
+use Rattle.plan.specs.Totals.{stateCost}
+use Rattle.plan.proofs.StepSizes.{cost-same, cost-new}
 use Rattle.plan.proofs.totals.state_cost.Statement.{statement}
 use Rattle.plan.proofs.totals.state_cost.Tie as tie
-use Rattle.plan.proofs.totals.state_cost.Reads as reads
-use Rattle.plan.proofs.totals.state_cost.Lts as lts
-use Rattle.case.proofs.read.state.Reads as state-reads
-use Rattle.numbers.proofs.compare.index.Reads as index-reads
-use Rattle.plan.proofs.rows.choice_of.Reads as choice-of-reads
 
--- src/totals.rt:80:19
 choice-of-requires : tie.Need-choice-of-requires
-choice-of-requires c κs = ?
+choice-of-requires c κs = (counted (c .pre .0), c .pre .1)
 
--- src/totals.rt:80:9
 index-requires : tie.Need-index-requires
 index-requires c κs = search needs
 
--- src/totals.rt:84:9
 state-requires : tie.Need-state-requires
 state-requires c κs = search needs
 
--- src/totals.rt:76:1
 returns : tie.Need-returns
-returns c = ?
+unfolding stateCost
+returns c =
+    let b = c .before in
+    let d = b .before .before in
+    let s = d .before in
+    let e : b .index .result ≡ stateIn (now (s .args .case)) (now (s .args .row)) (s .args .s) = b .index .ensures ∙ ap posPart (kept _ (b .before .struct-told .given .1 .0 .1) ∙ ap (λ (x : Choice). x .state) (d .choice-of .ensures)) in
+    cost-same _ (sym e ∙ c .if1 .taken)
 
--- src/totals.rt:76:1
 returns-2 : tie.Need-returns-2
-returns-2 c = ?
+unfolding stateCost
+returns-2 c =
+    let b = c .before .before in
+    let d = b .before .before in
+    let s = d .before in
+    let l = now (s .args .case) in
+    let f = stateIn l (now (s .args .row)) (s .args .s) in
+    let e : b .index .result ≡ f = b .index .ensures ∙ ap posPart (kept _ (b .before .struct-told .given .1 .0 .1) ∙ ap (λ (x : Choice). x .state) (d .choice-of .ensures)) in
+    ap (λ (x : State). x .weight) (c .state .ensures)
+    ∙ ap (λ (k : ℕ). stateRow l k (b .index .result) .weight) (s .pre .2)
+    ∙ ap (λ (k : ℕ). stateOf l (s .args .s) k .weight) e
+    ∙ cost-new (stateOf l (s .args .s) f .weight) (λ (q : f ≡ s .args .was). c .before .if1 .left (e ∙ q))
 
 pub state-cost-spec : {M : Type 1} → statement M
 state-cost-spec =

@@ -1,0 +1,97 @@
+-- Net flows in an array, gathered arc by arc: what the array holds after one arc more.
+-- Assumes nothing.
+use mathlib.Core.Path.{_≡_, refl, sym, ap, _∙_}
+use mathlib.Core.Bool.{Bool, true, false}
+use mathlib.Core.List.{List}
+use Prim.Native.Nat.{ℕ, zero, suc, _+_, _*_, _<_, _≤_, _^_}
+use native.Mathlib.Nat.{mul-le-mul-left}
+use native.Mathlib.Numerals.{add-one}
+use native.Mathlib.Omega.{arith}
+use borrow.Author.Tests.{eqb-true, eqb-false}
+use lib.Dec.{T, eqb, ltb}
+use lib.IntN.{ℤ, pos, natAbs, negℤ, _+ℤ_, _-ℤ_, +ℤ-idr}
+use lib.ListN.{length, getD, set, replicate}
+use lib.Seq.{getD-set-same, getD-set-other}
+use mir.Syntax.{w64}
+use mir.Val.{toZ, ofZ}
+use Rattle.numbers.specs.SignedLocals.{Held, held}
+use Rattle.numbers.specs.SignedLinear.{v, _⊞_, _⊟_, eq! }
+use Rattle.numbers.specs.SignedBounds.{Bounded, abs-add, abs-neg}
+use Rattle.numbers.specs.Sum.{sum, only, abs-sum-le, abs-only-le}
+use Rattle.case.specs.Layout.{numberAt}
+use Rattle.case.specs.Laid.{Holds}
+use Rattle.plan.specs.Moved.{movedAt, NetSized}
+
+-- ---- one store
+
+module _ (net : List ℤ) (from : ℕ) (z x : ℤ) (l : from < length net) where
+  -- a store that adds x at one node
+  pub put-add : z ≡ numberAt net from +ℤ x → (i : ℕ) → numberAt (set net from z) i ≡ numberAt net i +ℤ only (eqb from i) x
+  put-add e i = go (eqb from i) refl
+    where
+      go : (b : Bool) → eqb from i ≡ b → numberAt (set net from z) i ≡ numberAt net i +ℤ only b x
+      go true p = let q = eqb-true from i p in rw (← q) (getD-set-same net from z (pos 0) l ∙ e)
+      go false p = getD-set-other net from i z (pos 0) (λ q. eqb-false from i p (sym q)) ∙ sym (+ℤ-idr (numberAt net i))
+
+  -- a store that takes x off at one node
+  pub put-sub : z ≡ numberAt net from -ℤ x → (i : ℕ) → numberAt (set net from z) i ≡ numberAt net i -ℤ only (eqb from i) x
+  put-sub e i = go (eqb from i) refl
+    where
+      go : (b : Bool) → eqb from i ≡ b → numberAt (set net from z) i ≡ numberAt net i -ℤ only b x
+      go true p = let q = eqb-true from i p in rw (← q) (getD-set-same net from z (pos 0) l ∙ e)
+      go false p = getD-set-other net from i z (pos 0) (λ q. eqb-false from i p (sym q)) ∙ sym (+ℤ-idr (numberAt net i))
+
+-- what is added stays within the room
+pub room : (net : List ℤ) (from to : ℕ) (out : ℤ) → Bounded (numberAt net to) 1000000000000 → Bounded out 20000000 → Bounded (numberAt net to +ℤ only (eqb from to) out) 1000020000000
+room net from to out n o = record {
+  bound = omega (arith, abs-add (numberAt net to) (only (eqb from to) out), abs-only-le (eqb from to) out (o .bound), n .bound);
+}
+
+-- ---- arc by arc
+
+-- node i's flow is the sum of what the first e arcs put to it
+pub record Gathers (net : List ℤ) (f : ℕ → ℕ → ℤ) (e : ℕ) : Type 0 where
+  pub each : (i : ℕ) → i < 60 → numberAt net i ≡ sum e (f i)
+
+zeros : (n i : ℕ) → getD (replicate n (pos 0)) i (pos 0) ≡ pos 0
+zeros zero i = refl
+zeros (suc n) zero = refl
+zeros (suc n) (suc i) = zeros n i
+
+pub gathers-none : (f : ℕ → ℕ → ℤ) → Gathers (replicate 60 (pos 0)) f 0
+unfolding sum
+gathers-none f = record { each = λ i p. zeros 60 i }
+
+module _ {net : List ℤ} {f : ℕ → ℕ → ℤ} {e : ℕ} (g : Gathers net f e) where
+  -- an arc that puts nothing
+  pub gathers-same : ((i : ℕ) → f i e ≡ pos 0) → Gathers net f (e + 1)
+  unfolding sum
+  gathers-same z = record { each = λ i p. rw (add-one e, z i) (g .each i p ∙ sym (+ℤ-idr (sum e (f i)))) }
+
+  -- an arc from one node to another
+  pub gathers-more : {next : List ℤ} (from to : ℕ) (out into : ℤ) → Holds (pos 0) next (movedAt net from to out into) 60
+      → ((i : ℕ) → f i e ≡ only (eqb from i) out -ℤ only (eqb to i) into) → Gathers next f (e + 1)
+  unfolding sum movedAt
+  gathers-more from to out into h z = record {
+    each = λ i p.
+        let x = only (eqb from i) out in
+        let y = only (eqb to i) into in
+        let s = sum e (f i) in
+        rw (add-one e, z i) (h .each i p ∙ ap (λ (n : ℤ). n +ℤ x -ℤ y) (g .each i p) ∙ eq! (v s ⊞ v x ⊟ v y) (v s ⊞ (v x ⊟ v y)) (omega arith));
+  }
+
+  -- no node's flow is too large for one arc more
+  pub gathers-sized : e ≤ 120 → ((i k : ℕ) → k < e → natAbs (f i k) ≤ 40000000) → NetSized net
+  gathers-sized l b = record {
+    each = λ i p. record { bound = rw (g .each i p) (omega (arith, abs-sum-le e 40000000 (f i) (b i))) };
+  }
+
+-- what one arc puts to a node is at most twice its flow
+pub put-sized : (b d : Bool) {x y : ℤ} → Bounded x 20000000 → Bounded y 20000000 → natAbs (only b x -ℤ only d y) ≤ 40000000
+put-sized b d {x} {y} h k = omega (arith, abs-add (only b x) (negℤ (only d y)), abs-neg (only d y), abs-only-le b x (h .bound), abs-only-le d y (k .bound))
+
+-- ---- values that are read back
+
+-- a value that is known, read out of a local or a record
+pub read : {r z : ℤ} {n : ℕ} → r ≡ z → Bounded z n → T (ltb n (2 ^ 63)) → Held (toZ w64 (ofZ w64 r)) z n
+read e b t = held (record { val = e; bound = b .bound }) t

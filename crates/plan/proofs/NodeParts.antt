@@ -1,0 +1,86 @@
+-- A node's net flow by what each arc puts to it.
+-- Assumes nothing.
+use mathlib.Core.Path.{_≡_, refl, sym, _∙_}
+use mathlib.Core.Bool.{Bool, true, false, cond}
+use mathlib.Core.List.{List, [], _∷_}
+use Prim.Native.Nat.{ℕ, _+_, _*_, _<_, _≤_}
+use native.Mathlib.Nat.{mul-le-mul}
+use native.Mathlib.Omega.{arith}
+use lib.Dec.{eqb}
+use lib.IntN.{ℤ, pos, natAbs, negℤ, _-ℤ_}
+use lib.Signed.{leZ}
+use Rattle.numbers.specs.Question.{answer, firstNo}
+use Rattle.numbers.specs.SignedBounds.{Bounded, abs-add, abs-neg}
+use Rattle.numbers.specs.Sum.{sum, only, sum-sub, abs-sum-le}
+use Rattle.case.specs.Layout.{arcsOf, massTolerance}
+use Rattle.case.specs.Records.{arcOf}
+use Rattle.plan.specs.Compared.{asked}
+use Rattle.plan.specs.PlanRecords.{nodeRow}
+use Rattle.plan.specs.Pipes.{isPipe}
+use Rattle.plan.specs.Balance.{flowAtFrom, flowAtTo, outPart, inPart, outflow, inflow, netFlow, nodeImbalance, nodeResidual, balanceKept, balanceQuestions}
+use Rattle.plan.specs.Sizes.{FlowsSized}
+use Rattle.plan.specs.Handed.{AcceptedCase, AtBalance}
+use Rattle.plan.specs.CaseFacts.{counted, duration-sized}
+use Rattle.plan.proofs.NetFlows.{put-sized}
+
+-- the flow at an end: one of the row's two, or their difference
+pub difference : {a b : ℤ} → Bounded a 10000000 → Bounded b 10000000 → Bounded (a -ℤ b) 20000000
+difference {a} {b} h k = record { bound = omega (arith, abs-add a (negℤ b), abs-neg b, h .bound, k .bound) }
+
+end-sized : (p : Bool) {a b x : ℤ} → Bounded a 10000000 → Bounded b 10000000 → Bounded x 10000000 → Bounded (cond p x (a -ℤ b)) 20000000
+end-sized true h k l = record { bound = omega (arith, l .bound) }
+end-sized false h k l = difference h k
+
+-- what arc e takes out of node i less what it brings
+unfoldable pub nodePart : List ℤ → List ℤ → ℕ → ℕ → ℤ
+nodePart case row i e = outPart case row i e -ℤ inPart case row i e
+
+pub net-flow : (case row : List ℤ) (i : ℕ) → sum (arcsOf case) (nodePart case row i) ≡ netFlow case row i
+unfolding nodePart outflow inflow netFlow
+net-flow case row i = sum-sub (arcsOf case) (outPart case row i) (inPart case row i)
+
+pub node-part : (case row : List ℤ) (e i : ℕ) {from to : ℕ} {out into : ℤ} → from ≡ arcOf case e .from → to ≡ arcOf case e .to → out ≡ flowAtFrom case row e → into ≡ flowAtTo case row e
+    → nodePart case row i e ≡ only (eqb from i) out -ℤ only (eqb to i) into
+unfolding nodePart outPart inPart
+node-part case row e i p q r s = rw (p, q, r, s)
+
+module _ {case row : List ℤ} (z : FlowsSized case row) where
+  pub from-sized : (e : ℕ) → e < arcsOf case → Bounded (flowAtFrom case row e) 20000000
+  unfolding flowAtFrom
+  from-sized e p = end-sized (isPipe case e) (z .each e p .a) (z .each e p .b) (z .each e p .a)
+
+  pub to-sized : (e : ℕ) → e < arcsOf case → Bounded (flowAtTo case row e) 20000000
+  unfolding flowAtTo
+  to-sized e p = end-sized (isPipe case e) (z .each e p .a) (z .each e p .b) (z .each e p .b)
+
+  pub part-sized : (i e : ℕ) → e < arcsOf case → natAbs (nodePart case row i e) ≤ 40000000
+  unfolding nodePart outPart inPart
+  part-sized i e p = put-sized (eqb (arcOf case e .from) i) (eqb (arcOf case e .to) i) (from-sized e p) (to-sized e p)
+
+  pub net-sized : AcceptedCase case → (i : ℕ) → Bounded (netFlow case row i) 4800000000
+  net-sized c i = record {
+    bound = rw (← net-flow case row i) (omega (arith, abs-sum-le (arcsOf case) 40000000 (nodePart case row i) (part-sized i), counted c .arcs));
+  }
+
+-- ---- 33 of one node
+
+module _ {case row : List ℤ} {i n : ℕ} {net : ℤ} (at : AtBalance case row i n net) where
+  imbalance-sized : natAbs (nodeImbalance case row n) ≤ 4810000000
+  unfolding nodeImbalance
+  imbalance-sized =
+      let d = nodeRow row n .d in
+      omega (arith, abs-add (netFlow case row n) (negℤ d), abs-neg d, net-sized (at .flows) (at .accepted) n .bound, at .rows .each n (at .node) .d .bound)
+
+  pub residual-sized : nodeResidual case row i n ≤ 415584000000000
+  unfolding nodeResidual
+  residual-sized = omega (arith, mul-le-mul (duration-sized (at .accepted) i (at .step) .bound) imbalance-sized)
+
+-- the answer by what was found of the residual
+pub balance-asked : (case row : List ℤ) (i n : ℕ) {x y : ℤ} {b w : Bool} → x ≡ pos (nodeResidual case row i n) → y ≡ massTolerance case → b ≡ leZ x y → b ≡ w
+    → answer w 33 (i + 1) n ≡ firstNo (balanceQuestions case row i n)
+unfolding balanceQuestions balanceKept
+balance-asked case row i n {w = w} p q e k = rw (← p, ← q, sym e ∙ k) (single w)
+  where
+    single : (w : Bool) → answer w 33 (i + 1) n ≡ firstNo (asked 33 i n w ∷ [])
+    single true = refl
+    single false = refl

@@ -1,0 +1,104 @@
+-- The machines that a station's arcs have taken, as a set, arc by arc.
+-- Assumes nothing.
+use mathlib.Core.Path.{_≡_, refl, sym, ap, _∙_}
+use mathlib.Core.Bool.{Bool, true, false, cond, _&&_}
+use mathlib.Core.List.{List}
+use Prim.Native.Nat.{ℕ, _+_, _-_, _*_, _/_, _%_, _^_, _<_, _≤_, min, max}
+use native.Mathlib.Omega.{arith}
+use borrow.Author.Tests.{eqb-true, eqb-false, leb-true, leb-false, le-leb, ltb-true, ltb-false}
+use lib.Bits.{bitAnd, bitOr, or-step, or-shr}
+use lib.Dec.{eqb, leb, ltb}
+use lib.IntN.{ℤ, pos}
+use lib.Pow.{pow-pos}
+use lib.Signed.{leZ}
+use Rattle.numbers.specs.SignedParts.{posPart, ints, size}
+use Rattle.numbers.specs.Sets.{bit, memberOf, subsetOf, bit-zero, bit-high, subset-is, disjoint-is, is-disjoint}
+use Rattle.numbers.specs.Sum.{count}
+use Rattle.case.specs.Layout.{arcsOf, stationsOf}
+use Rattle.case.specs.Records.{arcOf, artificialOf, stationOf}
+use Rattle.case.specs.InRange.{and-first, and-second}
+use Rattle.case.specs.StationFields.{firstItems}
+use Rattle.case.specs.StationArcs.{belongs, every}
+use Rattle.case.specs.CountLaws.{count-none, count-yes, count-no, count-grows, every-at, at-every}
+use Rattle.plan.specs.Compared.{isZero}
+use Rattle.plan.specs.PlanRecords.{arcRow}
+use Rattle.plan.specs.ArcFlows.{machinesWithin}
+use Rattle.plan.specs.StationRules.{onArc, machineOnce, machinesOnce}
+use Rattle.plan.specs.Handed.{AcceptedCase, MachinesKept}
+use Rattle.plan.specs.CaseFacts.{own-machines}
+
+bit-or : (a b i : ℕ) → bit (bitOr a b) i ≡ max (bit a i) (bit b i)
+bit-or a b i = rw or-shr (let k = or-step (a / 2 ^ i) (b / 2 ^ i) in omega arith)
+
+-- a machine is in `taken` as often as the first e arcs have it
+pub record Taken (case row : List ℤ) (s taken e : ℕ) : Type 0 where
+  pub each : (m : ℕ) → bit taken m ≡ count e (onArc case row s m)
+
+pub taken-none : (case row : List ℤ) (s : ℕ) → Taken case row s 0 0
+taken-none case row s = record { each = λ m. bit-zero m ∙ sym (count-none (onArc case row s m)) }
+
+-- ---- the machines of an arc are the station's own
+
+own-within : (kind : ℕ) (own x : ℤ) {n : ℕ} → machinesWithin kind own x ≡ true → subsetOf own (firstItems n) ≡ true → (m : ℕ) → n ≤ m → bit (posPart x) m ≡ 0
+unfolding machinesWithin
+own-within kind own x {n} k o m p = go (leb kind 4) k
+  where
+    go : (b : Bool) → cond b (isZero x) (leZ (pos 0) x && subsetOf x own) ≡ true → bit (posPart x) m ≡ 0
+    go true e =
+        let a : leZ x (pos 0) ≡ true = and-first (leZ x (pos 0)) (leZ (pos 0) x) e in
+        let z : posPart x ≡ 0 = omega (ints, size x) in
+        rw z (bit-zero m)
+    go false e =
+        let a = eqb-true _ _ (and-second (leZ (pos 0) x) (subsetOf x own) e) in
+        let h : 2 ^ n - 1 < 2 ^ n = omega (arith, pow-pos n) in
+        omega (arith, subset-is (posPart x) (posPart own) a m, subset-is (posPart own) (posPart (firstItems n)) (eqb-true _ _ o) m, bit-high n (2 ^ n - 1) m h p)
+
+pub own-bits : {case row : List ℤ} {s e : ℕ} → AcceptedCase case → MachinesKept case row → s < stationsOf case → e < arcsOf case → belongs case s e ≡ true
+    → (m : ℕ) → stationOf case s .machines ≤ m → bit (posPart (arcRow case row e .machines)) m ≡ 0
+own-bits {case} {row} {s} {e} a k p q b = own-within (arcOf case e .kind) (artificialOf case e .machines) (arcRow case row e .machines) (k .each e q) (own-machines a s p e q b)
+
+-- ---- one arc more
+
+module _ {case row : List ℤ} {s t e : ℕ} (g : Taken case row s t e) where
+  pub taken-same : belongs case s e ≡ false → Taken case row s t (e + 1)
+  taken-same b = record { each = λ m. g .each m ∙ sym (count-no (onArc case row s m) e (rw b)) }
+
+  module _ (b : belongs case s e ≡ true) {x : ℕ} (w : x ≡ posPart (arcRow case row e .machines)) where
+    -- by whether the arc has the machine
+    has : (m : ℕ) → eqb (bit x m) 1 ≡ true → count (e + 1) (onArc case row s m) ≡ count e (onArc case row s m) + 1
+    has m h = count-yes (onArc case row s m) e (rw (b, ← w, h))
+
+    lacks : (m : ℕ) → eqb (bit x m) 1 ≡ false → count (e + 1) (onArc case row s m) ≡ count e (onArc case row s m)
+    lacks m h = count-no (onArc case row s m) e (rw (b, ← w, h))
+
+    pub taken-more : bitAnd x t ≡ 0 → Taken case row s (bitOr t x) (e + 1)
+    taken-more d = record { each = λ m. go m (eqb (bit x m) 1) refl }
+      where
+        go : (m : ℕ) (v : Bool) → eqb (bit x m) 1 ≡ v → bit (bitOr t x) m ≡ count (e + 1) (onArc case row s m)
+        go m true h = omega (arith, has m h, g .each m, bit-or t x m, disjoint-is x t d m, eqb-true (bit x m) 1 h)
+        go m false h = let n = eqb-false (bit x m) 1 h in omega (arith, lacks m h, g .each m, bit-or t x m, n)
+
+    -- a machine that an arc before it has
+    pub taken-twice : e < arcsOf case → ((m : ℕ) → stationOf case s .machines ≤ m → bit x m ≡ 0) → x < 2 ^ 64 → (bitAnd x t ≡ 0 → ⊥) → false ≡ machinesOnce case row s
+    unfolding machinesOnce
+    taken-twice p own l n = go (every (stationOf case s .machines) (machineOnce case row s)) refl
+      where
+        clear : every (stationOf case s .machines) (machineOnce case row s) ≡ true → (m : ℕ) → min (bit x m) (bit t m) ≡ 0
+        clear y m = at (ltb m (stationOf case s .machines)) refl (eqb (bit x m) 1) refl
+          where
+            at : (i : Bool) → ltb m (stationOf case s .machines) ≡ i → (v : Bool) → eqb (bit x m) 1 ≡ v → min (bit x m) (bit t m) ≡ 0
+            at false i v h = omega (arith, own m (ltb-false m (stationOf case s .machines) i))
+            at true i false h = let n = eqb-false (bit x m) 1 h in omega (arith, n)
+            at true i true h =
+                let o = leb-true (count (arcsOf case) (onArc case row s m)) 1 (every-at (stationOf case s .machines) (machineOnce case row s) y m (ltb-true m (stationOf case s .machines) i)) in
+                let z : (e + 1) + (arcsOf case - (e + 1)) ≡ arcsOf case = omega (arith, p) in
+                let k = rw z at (count-grows (onArc case row s m) (e + 1) (arcsOf case - (e + 1))) in
+                omega (arith, has m h, g .each m, o, k)
+
+        go : (v : Bool) → every (stationOf case s .machines) (machineOnce case row s) ≡ v → false ≡ v
+        go false y = refl
+        go true y = absurd (n (is-disjoint 64 x t l (clear y)))
+
+pub taken-once : {case row : List ℤ} {s t : ℕ} → Taken case row s t (arcsOf case) → true ≡ machinesOnce case row s
+unfolding machinesOnce
+taken-once {case} {row} {s} {t} g = sym (at-every (stationOf case s .machines) (machineOnce case row s) (λ m p. le-leb (count (arcsOf case) (onArc case row s m)) 1 (omega (arith, g .each m))))

@@ -1,0 +1,111 @@
+use mathlib.Core.Path.{_≡_, sym, ap, _∙_}
+use Prim.Native.Nat.{ℕ, _≤_, _<_, _-_}
+use native.Mathlib.Omega.{arith}
+use borrow.Author.Needs.{needs}
+use denote.Ref.{now}
+use lib.IntN.{ℤ}
+use mir.Syntax.{w64}
+use mir.Val.{toZ, ofZ}
+use Rattle.numbers.specs.SignedBounds.{Bounded}
+use Rattle.numbers.specs.SignedLocals.{Held}
+use Rattle.numbers.specs.Sum.{sum}
+use Rattle.case.specs.Layout.{arcsOf}
+use Rattle.case.specs.Records.{arcOf}
+use Rattle.case.specs.declared.records.Arc.{Arc}
+use Rattle.plan.specs.Balance.{flowAtFrom, flowAtTo, netFlow}
+use Rattle.plan.specs.CaseFacts.{counted, from-node, to-node}
+use Rattle.plan.proofs.NetFlows.{Gathers, gathers-none, gathers-more, gathers-sized, read}
+use Rattle.plan.proofs.NodeParts.{nodePart, node-part, net-flow, from-sized, to-sized, part-sized}
+use Rattle.plan.proofs.balance.net_flows.Statement.{statement}
+use Rattle.plan.proofs.balance.net_flows.Tie as tie
+
+abbrev Inv-loop : tie.InvT-loop
+Inv-loop case row arcs net₀ e₀ net e = (e ≤ arcs) × Gathers (net .flows) (nodePart case row) e
+
+abbrev μ-loop : tie.MeasureT-loop
+μ-loop case row arcs net₀ e₀ net e = arcs - e
+
+-- an arc of the case
+arc-in : (c : tie.In-loop Inv-loop μ-loop) → c .before .loop .e < arcsOf (now (c .before .before .args .case))
+arc-in c = rw (← (c .before .before .pre .1)) (c .loop-test .taken)
+
+from-is : (c : tie.After-end-flows Inv-loop μ-loop) → Held (toZ w64 (ofZ w64 (c .end-flows .result .from))) (flowAtFrom (now (c .before .before .before .before .args .case)) (now (c .before .before .before .before .args .row)) (c .before .before .before .loop .e)) 20000000
+from-is c = let t = c .before .before in read (c .end-flows .ensures .0) (from-sized (t .before .before .pre .2) (t .before .loop .e) (arc-in t)) tt
+
+to-is : (c : tie.After-end-flows Inv-loop μ-loop) → Held (toZ w64 (ofZ w64 (c .end-flows .result .to))) (flowAtTo (now (c .before .before .before .before .args .case)) (now (c .before .before .before .before .args .row)) (c .before .before .before .loop .e)) 20000000
+to-is c = let t = c .before .before in read (c .end-flows .ensures .1) (to-sized (t .before .before .pre .2) (t .before .loop .e) (arc-in t)) tt
+
+loop-holds : tie.Need-loop-holds Inv-loop μ-loop
+loop-holds c = (omega arith, gathers-none (nodePart (now (c .args .case)) (now (c .args .row))))
+
+arc-requires : tie.Need-arc-requires Inv-loop μ-loop
+arc-requires c κs = search needs
+
+end-flows-requires : tie.Need-end-flows-requires Inv-loop μ-loop
+end-flows-requires c κs = let s = c .before .before .before in (s .pre .0, arc-in (c .before), s .pre .2)
+
+moved-requires : tie.Need-moved-requires Inv-loop μ-loop
+moved-requires c κs =
+    let f = c .before .before in
+    let a = f .before in
+    let t = a .before in
+    let h = t .before in
+    let s = h .before in
+    let e = h .loop .e in
+    let l = now (s .args .case) in
+    let n = counted (s .pre .0) in
+    let p = arc-in t in
+    let from : a .arc .result .from ≡ arcOf l e .from = ap (λ (x : Arc). x .from) (a .arc .ensures) in
+    let to : a .arc .result .to ≡ arcOf l e .to = ap (λ (x : Arc). x .to) (a .arc .ensures) in (
+      omega (arith, from, from-node (s .pre .0) e p, n .nodes),
+      omega (arith, to, to-node (s .pre .0) e p, n .nodes),
+      rw (from-is f .val) (record { bound = from-is f .bound }),
+      rw (to-is f .val) (record { bound = to-is f .bound }),
+      gathers-sized (h .loop .inv .1) (omega (arith, h .loop .inv .0, s .pre .1, n .arcs)) (λ i k q. part-sized (s .pre .2) i k (omega (arith, q, p))),
+    )
+
+add-e : tie.Need-add-e Inv-loop μ-loop
+add-e c = omega arith
+
+loop-less : tie.Need-loop-less Inv-loop μ-loop
+loop-less c = omega arith
+
+loop-again : tie.Need-loop-again Inv-loop μ-loop
+loop-again c =
+    let f = c .before .before .before in
+    let a = f .before in
+    let h = a .before .before in
+    let s = h .before in
+    let e = h .loop .e in
+    let l = now (s .args .case) in
+    let r = now (s .args .row) in
+    let from = ap (λ (x : Arc). x .from) (a .arc .ensures) in
+    let to = ap (λ (x : Arc). x .to) (a .arc .ensures) in (
+      omega arith,
+      gathers-more (h .loop .inv .1) (a .arc .result .from) (a .arc .result .to) (toZ w64 (ofZ w64 (f .end-flows .result .from))) (toZ w64 (ofZ w64 (f .end-flows .result .to))) (c .moved .ensures)
+          (λ i. node-part l r e i from to (from-is f .val) (to-is f .val)),
+    )
+
+returns : tie.Need-returns Inv-loop μ-loop
+returns c =
+    let h = c .before in
+    let s = h .before in
+    let l = now (s .args .case) in
+    let r = now (s .args .row) in
+    let e : h .loop .e ≡ arcsOf l = omega (arith, s .pre .1, h .loop .inv .0, c .loop-test .left) in
+    record { each = λ i p. h .loop .inv .1 .each i (omega (arith, p, counted (s .pre .0) .nodes)) ∙ ap (λ (n : ℕ). sum n (nodePart l r i)) e ∙ net-flow l r i }
+
+pub net-flows-spec : {M : Type 1} → statement M
+net-flows-spec =
+    tie.close
+    (tie.spec
+    Inv-loop
+    μ-loop
+    loop-holds
+    arc-requires
+    end-flows-requires
+    moved-requires
+    add-e
+    loop-less
+    loop-again
+    returns)

@@ -1,0 +1,104 @@
+use mathlib.Core.Path.{_≡_, ap, sym, _∙_}
+use Prim.Native.Nat.{ℕ, _≤_}
+use native.Mathlib.Omega.{arith}
+use borrow.Author.Needs.{needs}
+use denote.Ref.{now}
+use lib.ListN.{length}
+use lib.Seq.{length-take-le}
+use Rattle.numbers.specs.Reported.{readingTold}
+use Rattle.numbers.specs.ReadingBounds.{count-within}
+use Rattle.plan.proofs.Verdicts.{ReadAll, read-all, read-no, read-front, case-read, list-of, case-unread}
+use Rattle.plan.proofs.judge.judge_bytes.Statement.{statement}
+use Rattle.plan.proofs.judge.judge_bytes.Tie as tie
+
+-- the case bytes were read to the end
+front : (g : tie.After-got) → let d = g .before .before .before in let s = d .before .before .before .before in
+    ReadAll (now (s .args .casebytes)) (length (now (s .args .caselist))) (g .got .given .0 .0)
+front g =
+    let d = g .before .before .before in
+    let s = d .before .before .before .before in
+    read-all (now (s .args .casebytes)) (length (now (s .args .caselist))) (ap readingTold (sym (g .got .given .1)) ∙ d .read .ensures .0)
+
+within : (g : tie.After-got) → g .got .given .0 .0 ≤ length (g .before .before .before .read .last .1 .0)
+within g =
+    let d = g .before .before .before in
+    let s = d .before .before .before .before in
+    let h = count-within (now (s .args .casebytes)) (length (now (s .args .caselist))) (g .got .given .0 .0) (ap readingTold (sym (g .got .given .1)) ∙ d .read .ensures .0) in
+    omega (arith, h, d .read .kept .1 .0)
+
+-- src/judge.rt:128:9
+read-requires : tie.Need-read-requires
+read-requires c κs = search needs
+
+-- src/judge.rt:130:24
+enum-known-got : tie.Need-enum-known-got
+enum-known-got c = search needs
+
+-- src/judge.rt:130:50
+slice-reshare-prefix-judge-case-list : tie.Need-slice-reshare-prefix-judge-case-list
+slice-reshare-prefix-judge-case-list c = within (c .before)
+
+-- src/judge.rt:130:50
+slice-aggregate-judge-case-list : tie.Need-slice-aggregate-judge-case-list
+slice-aggregate-judge-case-list c = sym (length-take-le _ _ (within (c .before .before)))
+
+-- src/judge.rt:130:34
+judge-case-list-requires : tie.Need-judge-case-list-requires
+judge-case-list-requires c κs = search needs
+
+-- src/judge.rt:131:28
+enum-known-got-2 : tie.Need-enum-known-got-2
+enum-known-got-2 c = search needs
+
+-- src/judge.rt:123:1
+same-length : tie.Need-same-length
+same-length c = search needs
+
+-- src/judge.rt:123:1
+same-length-2 : tie.Need-same-length-2
+same-length-2 c = search needs
+
+-- src/judge.rt:123:1
+returns : tie.Need-returns
+returns c =
+    let b = c .before in
+    let g = c .before .before .before .before .before in
+    let d = g .before .before .before in
+    let a = d .before .before .before .before .args in
+    let bytes = now (a .casebytes) in
+    let room = length (now (a .caselist)) in
+    let f = read-front bytes room (now (a .caselist)) (d .read .last .1 .0) (front g) (d .read .ensures .1) in (
+      case-read bytes (now (a .planbytes)) room (now (a .planlist)) (front g .ended) f (b .judge-case-list .ensures .0),
+      (d .read .ensures .1, list-of bytes (now (a .planbytes)) room (now (a .planlist)) (front g .ended) f (b .judge-case-list .ensures .1)),
+    )
+
+-- src/judge.rt:123:1
+same-length-3 : tie.Need-same-length-3
+same-length-3 c = search needs
+
+-- src/judge.rt:123:1
+returns-2 : tie.Need-returns-2
+returns-2 c =
+    let g = c .before in
+    let d = g .before .before .before in
+    let a = d .before .before .before .before .args in
+    let bytes = now (a .casebytes) in
+    let room = length (now (a .caselist)) in
+    let u = case-unread bytes (now (a .planbytes)) room (now (a .planlist)) (read-no bytes room (ap readingTold (sym (g .got2 .given .1)) ∙ d .read .ensures .0)) in
+    (u .0, (d .read .ensures .1, u .1))
+
+pub judge-bytes-spec : {M : Type 1} → statement M
+judge-bytes-spec =
+    tie.close
+    (tie.spec
+    read-requires
+    enum-known-got
+    slice-reshare-prefix-judge-case-list
+    slice-aggregate-judge-case-list
+    judge-case-list-requires
+    enum-known-got-2
+    same-length
+    same-length-2
+    returns
+    same-length-3
+    returns-2)

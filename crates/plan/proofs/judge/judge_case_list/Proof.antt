@@ -1,0 +1,61 @@
+use mathlib.Core.Path.{_≡_, refl, ap, sym, _∙_}
+use borrow.Author.Needs.{needs}
+use denote.Ref.{now}
+use Rattle.plan.proofs.Verdicts.{case-answer, case-passed, list-reached, case-stopped}
+use Rattle.plan.proofs.judge.judge_case_list.Statement.{statement}
+use Rattle.plan.proofs.judge.judge_case_list.Tie as tie
+
+-- src/judge.rt:107:9
+judge-case-requires : tie.Need-judge-case-requires
+judge-case-requires c κs = search needs
+
+-- src/judge.rt:109:58
+enum-told : tie.Need-enum-told
+enum-told c = search needs
+
+-- src/judge.rt:109:24
+judge-plan-bytes-requires : tie.Need-judge-plan-bytes-requires
+judge-plan-bytes-requires c κs =
+    let e = c .before in
+    let j = e .before .before in
+    record { yes = case-answer (now (j .before .before .args .case)) (j .judge-case .result) (j .judge-case .ensures) ∙ e .enum-told .given .1 }
+
+-- src/judge.rt:111:13
+enum-known-a : tie.Need-enum-known-a
+enum-known-a c = search needs
+
+-- src/judge.rt:103:1
+same-length : tie.Need-same-length
+same-length c = search needs
+
+-- src/judge.rt:103:1
+returns : tie.Need-returns
+returns c =
+    let b = c .before in
+    let e = b .before .before in
+    let j = e .before .before in
+    let a = j .before .before .args in
+    let y = case-answer (now (a .case)) (j .judge-case .result) (j .judge-case .ensures) ∙ e .enum-told .given .1 in (
+      case-passed (now (a .case)) (now (a .planbytes)) (now (a .planlist)) y (b .judge-plan-bytes .ensures .0),
+      list-reached (now (a .case)) (now (a .planbytes)) (now (a .planlist)) y (b .judge-plan-bytes .ensures .1),
+    )
+
+-- src/judge.rt:103:1
+returns-2 : tie.Need-returns-2
+returns-2 c =
+    let k = c .before in
+    let j = k .before .before in
+    let a = j .before .before .args in
+    case-stopped (now (a .case)) (now (a .planbytes)) (now (a .planlist)) (case-answer (now (a .case)) (j .judge-case .result) (j .judge-case .ensures) ∙ k .a .given .1)
+
+pub judge-case-list-spec : {M : Type 1} → statement M
+judge-case-list-spec =
+    tie.close
+    (tie.spec
+    judge-case-requires
+    enum-told
+    judge-plan-bytes-requires
+    enum-known-a
+    same-length
+    returns
+    returns-2)

@@ -1,0 +1,99 @@
+use mathlib.Core.Path.{_≡_, refl, ap, sym, _∙_}
+use Prim.Native.Nat.{ℕ, _≤_}
+use native.Mathlib.Omega.{arith}
+use borrow.Author.Needs.{needs}
+use denote.Ref.{now}
+use lib.ListN.{length, take}
+use lib.Seq.{length-take-le}
+use Rattle.numbers.specs.Reported.{readingTold}
+use Rattle.numbers.specs.ReadingBounds.{count-within}
+use Rattle.plan.proofs.Verdicts.{ReadAll, read-all, read-no, read-front, plan-read, plan-unread}
+use Rattle.plan.proofs.judge.judge_plan_bytes.Statement.{statement}
+use Rattle.plan.proofs.judge.judge_plan_bytes.Tie as tie
+
+-- the plan bytes were read to the end
+front : (g : tie.After-got) → let d = g .before .before .before in let s = d .before .before .before in
+    ReadAll (now (s .args .planbytes)) (length (now (s .args .planlist))) (g .got .given .0 .0)
+front g =
+    let d = g .before .before .before in
+    let s = d .before .before .before in
+    read-all (now (s .args .planbytes)) (length (now (s .args .planlist))) (ap readingTold (sym (g .got .given .1)) ∙ d .read .ensures .0)
+
+within : (g : tie.After-got) → g .got .given .0 .0 ≤ length (g .before .before .before .read .last .1 .0)
+within g =
+    let d = g .before .before .before in
+    let s = d .before .before .before in
+    let h = count-within (now (s .args .planbytes)) (length (now (s .args .planlist))) (g .got .given .0 .0) (ap readingTold (sym (g .got .given .1)) ∙ d .read .ensures .0) in
+    omega (arith, h, d .read .kept .1 .0)
+
+-- src/judge.rt:91:9
+read-requires : tie.Need-read-requires
+read-requires c κs = search needs
+
+-- src/judge.rt:93:24
+enum-known-got : tie.Need-enum-known-got
+enum-known-got c = search needs
+
+-- src/judge.rt:93:51
+slice-reshare-prefix-judge-plan : tie.Need-slice-reshare-prefix-judge-plan
+slice-reshare-prefix-judge-plan c = within (c .before)
+
+-- src/judge.rt:93:51
+slice-aggregate-judge-plan : tie.Need-slice-aggregate-judge-plan
+slice-aggregate-judge-plan c = sym (length-take-le _ _ (within (c .before .before)))
+
+-- src/judge.rt:93:34
+judge-plan-requires : tie.Need-judge-plan-requires
+judge-plan-requires c κs = search needs
+
+-- src/judge.rt:94:28
+enum-known-got-2 : tie.Need-enum-known-got-2
+enum-known-got-2 c = search needs
+
+-- src/judge.rt:95:21
+plan-number-requires : tie.Need-plan-number-requires
+plan-number-requires c κs = search needs
+
+-- src/judge.rt:86:1
+same-length : tie.Need-same-length
+same-length c = search needs
+
+-- src/judge.rt:86:1
+returns : tie.Need-returns
+returns c =
+    let g = c .before .before .before in
+    let d = g .before .before .before in
+    let s = d .before .before .before in
+    let bytes = now (s .args .planbytes) in
+    let old = now (s .args .planlist) in
+    (plan-read (now (s .args .case)) bytes (length old) (d .read .last .1 .0) (s .pre .yes) (front g) (read-front bytes (length old) old (d .read .last .1 .0) (front g) (d .read .ensures .1)) (c .judge-plan .ensures), d .read .ensures .1)
+
+-- src/judge.rt:86:1
+same-length-2 : tie.Need-same-length-2
+same-length-2 c = search needs
+
+-- src/judge.rt:86:1
+returns-2 : tie.Need-returns-2
+returns-2 c =
+    let g = c .before .before in
+    let d = g .before .before .before in
+    let s = d .before .before .before in
+    let bytes = now (s .args .planbytes) in
+    let room = length (now (s .args .planlist)) in
+    (plan-unread (now (s .args .case)) bytes room (read-no bytes room (ap readingTold (sym (g .got2 .given .1)) ∙ d .read .ensures .0)) (c .plan-number .ensures), d .read .ensures .1)
+
+pub judge-plan-bytes-spec : {M : Type 1} → statement M
+judge-plan-bytes-spec =
+    tie.close
+    (tie.spec
+    read-requires
+    enum-known-got
+    slice-reshare-prefix-judge-plan
+    slice-aggregate-judge-plan
+    judge-plan-requires
+    enum-known-got-2
+    plan-number-requires
+    same-length
+    returns
+    same-length-2
+    returns-2)

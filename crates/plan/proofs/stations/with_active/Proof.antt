@@ -1,0 +1,45 @@
+use mathlib.Core.Path.{_≡_, sym, ap, _∙_}
+use Prim.Native.Nat.{_<_, _^_}
+use native.Mathlib.Omega.{arith}
+use borrow.Author.Needs.{needs}
+use denote.Ref.{now}
+use lib.IntN.{pos}
+use lib.Pow.{pow-lt}
+use lib.Signed.{leZ}
+use Rattle.case.proofs.Counting.{shifted}
+use Rattle.case.proofs.Reading.{kept}
+use Rattle.plan.specs.declared.rows.ArcRow.{ArcRow}
+use Rattle.plan.specs.PlanRecords.{activeIn}
+use Rattle.plan.proofs.stations.with_active.Statement.{statement}
+use Rattle.plan.proofs.stations.with_active.Tie as tie
+
+active : (c : tie.After-at-most) → c .at-most .result ≡ activeIn (now (c .before .before .before .args .case)) (now (c .before .before .before .args .row)) (c .before .before .before .args .e)
+active c =
+    c .at-most .ensures
+    ∙ ap (leZ (pos 1)) (kept _ (c .before .struct-told .given .1 .1 .0 .1) ∙ ap (λ (r : ArcRow). r .setting) (c .before .before .arc-row .ensures))
+
+arc-row-requires : tie.Need-arc-row-requires
+arc-row-requires c κs = (c .pre .0, c .pre .1)
+
+at-most-requires : tie.Need-at-most-requires
+at-most-requires c κs = search needs
+
+shl-result : tie.Need-shl-result
+shl-result c = omega arith
+
+add-result : tie.Need-add-result
+add-result c =
+    let s = c .before .before .before .before in
+    let p : 2 ^ s .args .n < 2 ^ 62 = pow-lt (s .pre .2) in
+    rw (shifted (s .args .n) (omega arith)) (record { fits = omega (arith, s .pre .3) })
+
+returns : tie.Need-returns
+returns c =
+    let s = c .before .before .before .before in
+    rw (shifted (s .args .n) (omega arith), sym (active (c .before)) ∙ c .if1 .taken)
+
+returns-2 : tie.Need-returns-2
+returns-2 c = rw (sym (active (c .before)) ∙ c .if1 .left) (omega arith)
+
+pub with-active-spec : {M : Type 1} → statement M
+with-active-spec = tie.close (tie.spec arc-row-requires at-most-requires shl-result add-result returns returns-2)
