@@ -8,4 +8,7 @@ pub mod NetFlows
 pub mod NodeParts
 pub mod StationParts
 pub mod Taken
+pub mod Alike
+pub mod Going
+pub mod Stepped
 pub mod Verdicts

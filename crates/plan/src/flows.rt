@@ -11,6 +11,16 @@ ghost use Rattle.plan.specs.Compared.{within};
 ghost use Rattle.plan.specs.ArcFlows.{flowsKept, machinesWithin, settingAllowed, arcNumbersKept, noFlowAgainst, flowAllowed};
 ghost use Rattle.plan.specs.ArcRules.{flowQuestions};
 ghost use Rattle.plan.specs.Handed.{AcceptedCase};
+use super::bools::both;
+use super::rows::ArcRow;
+use super::rows::arc_row;
+use super::setting::Setting;
+use super::setting::Way;
+use super::setting::setting_of;
+use case::read::arc;
+use case::read::artificial;
+use case::records::Arc;
+use case::records::Artificial;
 use numbers::answer::Answer;
 use numbers::answer::ask;
 use numbers::answer::or_else;
@@ -18,16 +28,6 @@ use numbers::compare::at_most;
 use numbers::compare::same;
 use numbers::compare::within;
 use numbers::sets::subset;
-use case::read::arc;
-use case::read::artificial;
-use case::records::Arc;
-use case::records::Artificial;
-use super::bools::both;
-use super::rows::ArcRow;
-use super::rows::arc_row;
-use super::setting::Setting;
-use super::setting::Way;
-use super::setting::setting_of;
 
 fn both_within(least: i64, a: i64, most: i64, b: i64, back: i64) -> bool
     ensures { λ x. ⌜ x ≡ (within least a most && within least b back) ⌝ }

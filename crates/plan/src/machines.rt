@@ -4,9 +4,9 @@ ghost use Prim.Native.Nat.{_<_};
 ghost use Rattle.case.specs.Layout.{machinesAt};
 ghost use Rattle.plan.specs.Machines.{flowPart, machineFlow, gainPart, machineGain};
 ghost use Rattle.plan.specs.Sizes.{MachinesSized};
-use numbers::sets::member;
 use case::read::machine;
 use case::read::station;
+use numbers::sets::member;
 
 // A sum in the making.
 pub struct Sum {

@@ -6,17 +6,17 @@ ghost use Rattle.case.specs.Layout.{nodesOf, stepsOf};
 ghost use Rattle.plan.specs.NodeRules.{slackLimit, slacksKept, boundaryFlowKept, nodeNumbersKept, demandMet, activeBoundsKept, nodeQuestions, allNodeQuestions};
 ghost use Rattle.plan.specs.Sizes.{NodeSized, NodeRowSized};
 ghost use Rattle.plan.specs.Handed.{AcceptedCase};
+use super::bools::both;
+use super::rows::NodeRow;
+use super::rows::node_row;
+use case::read::node;
+use case::records::Node;
 use numbers::answer::Answer;
 use numbers::answer::ask;
 use numbers::answer::or_else;
 use numbers::compare::at_most;
 use numbers::compare::same;
 use numbers::compare::within;
-use case::read::node;
-use case::records::Node;
-use super::bools::both;
-use super::rows::NodeRow;
-use super::rows::node_row;
 
 // The upper limit of a slack, 0 at an inner node.
 fn slack_limit(kind: usize, limit: i64) -> i64

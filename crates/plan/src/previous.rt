@@ -10,15 +10,15 @@ ghost use Rattle.case.specs.Laid.{Holds, Laid};
 ghost use Rattle.plan.specs.PlanRecords.{pressureIn, activeIn, directionIn, stateIn};
 ghost use Rattle.plan.specs.Before.{startPressure, startDirection, startState};
 ghost use Rattle.plan.specs.Carried.{Carried};
-use numbers::compare::at_most;
-use numbers::compare::index;
+use super::rows::arc_row;
+use super::rows::choice_of;
+use super::rows::pressure;
 use case::members::active;
 use case::read::node;
 use case::read::station;
 use case::records::Layout;
-use super::rows::arc_row;
-use super::rows::choice_of;
-use super::rows::pressure;
+use numbers::compare::at_most;
+use numbers::compare::index;
 
 pub struct Previous {
     pub pressures: [i64; 60],

@@ -80,7 +80,11 @@ pub fn setting_of(kind: usize, number: i64) -> Setting
 {
     if at_most(0, number) {
         let n = index(number);
-        if n == 0 { Setting::Off } else { active(kind, n) }
+        if n == 0 {
+            Setting::Off
+        } else {
+            active(kind, n)
+        }
     } else {
         Setting::Unknown
     }

@@ -1,5 +1,7 @@
 // One step, and every step of a plan, one after the other.
 ghost use mathlib.Core.Path.{_≡_};
+ghost use Prim.Native.Nat.{_+_, _*_, _≤_};
+ghost use lib.ListN.{length, take, drop};
 ghost use Rattle.numbers.specs.Question.{firstNo};
 ghost use Rattle.numbers.specs.Items.{over};
 ghost use Rattle.case.specs.Layout.{numberAt, nodesOf, arcsOf, stepsOf};
@@ -10,9 +12,6 @@ ghost use Rattle.plan.specs.Totals.{totalsOf};
 ghost use Rattle.plan.specs.Sizes.{PressuresSized};
 ghost use Rattle.plan.specs.Summed.{Opened, Closed};
 ghost use Rattle.plan.specs.Handed.{AcceptedCase, AtStep, PlanLaid};
-use numbers::answer::Answer;
-use numbers::answer::or_else;
-use case::records::Layout;
 use super::arcs::arc_answers;
 use super::balance::balance_answers;
 use super::nodes::node_answers;
@@ -24,6 +23,9 @@ use super::totals::Totals;
 use super::totals::added;
 use super::totals::gas;
 use super::verdict::Verdict;
+use case::records::Layout;
+use numbers::answer::Answer;
+use numbers::answer::or_else;
 
 // Every question of a step, whose part of the plan is `row`.
 fn step(case: &[i64], row: &[i64], previous: Previous, layout: Layout, i: usize) -> Answer
@@ -88,18 +90,37 @@ fn closed(totals: Totals, case: &[i64], previous: Previous, arcs: usize) -> Tota
     }
 }
 
+// How many numbers a step has.
+pub(crate) fn step_width(nodes: usize, arcs: usize, stations: usize) -> usize
+    requires { ⌜ (nodes ≤ 60) × (arcs ≤ 120) × (stations ≤ 8) ⌝ }
+    ensures { λ r. ⌜ r ≡ nodes * 6 + arcs * 4 + stations * 2 ⌝ }
+{
+    nodes * 6 + arcs * 4 + stations * 2
+}
+
+// The plan's part for the step with index `i`.
+fn part_of(plan: &[i64], i: usize, width: usize) -> &[i64]
+    requires { ⌜ (i ≤ 48) × (width ≤ 1000) × (2 + i * width + width ≤ length (now plan)) ⌝ }
+    ensures { λ r. ⌜ now r ≡ take width (drop (2 + i * width) (now (plan .entry))) ⌝ }
+{
+    let first = 2 + i * width;
+    let end = first + width;
+    &plan[first..end]
+}
+
 // A step judge that waves a step through falls to the promise, as does one that looks at the first step's part alone.
 pub(crate) fn steps(case: &[i64], plan: &[i64], layout: Layout) -> Verdict
     requires { ⌜ (AcceptedCase (now case)) × (Laid (now case) layout) × (PlanLaid (now case) (now plan)) ⌝ }
     ensures { λ r. ⌜ r ≡ verdictOf (firstNo (over (planStep (now (case .entry)) (now (plan .entry))) 0 (stepsOf (now (case .entry))))) (totalsOf (now (case .entry)) (now (plan .entry))) ⌝ }
 {
-    let width = layout.nodes * 6 + layout.arcs * 4 + layout.stations * 2;
+    let count = layout.steps;
+    let arcs = layout.arcs;
+    let width = step_width(layout.nodes, arcs, layout.stations);
     let mut previous = start(case, layout);
-    let mut totals = opened(case, previous, layout.arcs);
+    let mut totals = opened(case, previous, arcs);
     let mut i: usize = 0;
-    while i < layout.steps {
-        let first = 2 + i * width;
-        let row = &plan[first..first + width];
+    while i < count {
+        let row = part_of(plan, i, width);
         let a = step(case, row, previous, layout, i);
         match a {
             Answer::Yes => {}
@@ -119,5 +140,5 @@ pub(crate) fn steps(case: &[i64], plan: &[i64], layout: Layout) -> Verdict
         previous = after(previous, case, row, layout);
         i += 1;
     }
-    Verdict::Accepted(closed(totals, case, previous, layout.arcs))
+    Verdict::Accepted(closed(totals, case, previous, arcs))
 }

@@ -8,15 +8,6 @@ ghost use Rattle.plan.specs.Carried.{activeOf, indexOf};
 ghost use Rattle.plan.specs.Sizes.{NodesSized, PressuresSized};
 ghost use Rattle.plan.specs.Summed.{Slacked, TotalsSized, Added};
 ghost use Rattle.plan.specs.Handed.{AcceptedCase, AtStep, ChoicesKept, StepKept};
-use numbers::compare::at;
-use numbers::compare::at_most;
-use numbers::compare::index;
-use case::read::arc;
-use case::read::artificial;
-use case::read::direction;
-use case::read::pipe;
-use case::read::state;
-use case::records::Layout;
 use super::balance::net_flows;
 use super::balance::node_residual;
 use super::machines::Sum;
@@ -25,10 +16,19 @@ use super::previous::Previous;
 use super::rows::arc_row;
 use super::rows::choice_of;
 use super::rows::node_row;
+use case::read::arc;
+use case::read::artificial;
+use case::read::direction;
+use case::read::pipe;
+use case::read::state;
+use case::records::Layout;
+use numbers::compare::at;
+use numbers::compare::at_most;
+use numbers::compare::index;
 
 pub struct Totals {
-    pub pressure: i64,    // pressure slack
-    pub demand: i64,      // demand slack
+    pub pressure: i64, // pressure slack
+    pub demand: i64, // demand slack
     pub switching: usize, // switching cost
     pub residual: usize,
     pub opening: i64, // gas in all pipes at 0
@@ -85,7 +85,13 @@ fn state_cost(case: &[i64], row: &[i64], first: usize, s: usize, was: usize) -> 
     }
 }
 
-pub(crate) fn choice_costs(case: &[i64], directions: [usize; 8], states: [usize; 8], row: &[i64], layout: Layout) -> usize
+pub(crate) fn choice_costs(
+    case: &[i64],
+    directions: [usize; 8],
+    states: [usize; 8],
+    row: &[i64],
+    layout: Layout,
+) -> usize
     requires { ⌜ (AcceptedCase (now case)) × (Laid (now case) layout) × (ChoicesKept (now case) (now row)) ⌝ }
     ensures { λ r. ⌜ r ≡ choiceCosts (now (case .entry)) (indexOf directions) (indexOf states) (now (row .entry)) ⌝ }
 {
@@ -159,7 +165,13 @@ pub(crate) fn pipe_residuals(case: &[i64], old: &[i64], row: &[i64], i: usize, a
     sum
 }
 
-pub(crate) fn node_residuals(case: &[i64], old: &[i64], row: &[i64], i: usize, layout: Layout) -> usize
+pub(crate) fn node_residuals(
+    case: &[i64],
+    old: &[i64],
+    row: &[i64],
+    i: usize,
+    layout: Layout,
+) -> usize
     requires { ⌜ (AtStep (now case) layout i) × (StepKept (now case) (now old) (now row) i) ⌝ }
     ensures { λ r. ⌜ r ≡ nodeResiduals (now (case .entry)) (now (row .entry)) i ⌝ }
 {
@@ -202,7 +214,14 @@ pub(crate) fn gas(case: &[i64], pressures: &[i64], arcs: usize) -> i64
 }
 
 // The totals with one step more.
-pub(crate) fn added(totals: Totals, case: &[i64], row: &[i64], previous: Previous, layout: Layout, i: usize) -> Totals
+pub(crate) fn added(
+    totals: Totals,
+    case: &[i64],
+    row: &[i64],
+    previous: Previous,
+    layout: Layout,
+    i: usize,
+) -> Totals
     requires { ⌜ (AtStep (now case) layout i) × (StepKept (now case) (previous .pressures) (now row) i) × (TotalsSized totals) ⌝ }
     ensures { λ r. ⌜ Added (now (case .entry)) (now (row .entry)) previous i totals r ⌝ }
 {

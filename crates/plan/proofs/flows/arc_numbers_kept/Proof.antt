@@ -45,7 +45,7 @@ both-requires-2 c κs = search needs
 -- src/flows.rt:75:1
 returns : tie.Need-returns
 unfolding arcNumbersKept
-returns c = 
+returns c =
     let a = c .before .before .before .before .before .before .before .before .before .args in
     let t : c .before .before .before .before .before .before .setting-of .result ≡ settingOf (a .c .kind) (a .r .setting) = simp (kept (a .r .setting) (c .before .before .before .before .before .before .before .struct-told .given .1 .1 .0 .1)) at (c .before .before .before .before .before .before .setting-of .ensures) in
     let w2 = c .before .before .before .before .before .setting-allowed .ensures ∙ ap (settingAllowed (leb 1 (a .x .bothways))) t in

@@ -25,7 +25,7 @@ both-requires c κs = search needs
 
 -- src/flows.rt:32:1
 returns : tie.Need-returns
-returns c = 
+returns c =
     let f = c .before .before .before .fits in
     c .both .ensures ∙ ap₂ _&&_ (simp (toZ-ofZ (f .least), toZ-ofZ (f .a), toZ-ofZ (f .most)) at (c .before .before .within .ensures)) (simp (toZ-ofZ (f .least), toZ-ofZ (f .b), toZ-ofZ (f .back)) at (c .before .within2 .ensures))
 

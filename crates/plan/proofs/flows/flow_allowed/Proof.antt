@@ -30,7 +30,7 @@ no-flow-against-requires c κs = search needs
 -- src/flows.rt:119:1
 returns : tie.Need-returns
 unfolding flowAllowed
-returns c = 
+returns c =
     let k = c .before .before .args .c .kind in
     let a : 1 ≤ k = omega arith in
     let b : k ≤ 2 = omega arith in
@@ -39,11 +39,11 @@ returns c =
 -- src/flows.rt:119:1
 returns-2 : tie.Need-returns-2
 unfolding flowAllowed
-returns-2 c = 
+returns-2 c =
     let s = c .before .before .before .before in
     let k = s .args .c .kind in
     let e : (leb 1 k && leb k 2) ≡ false =
-        ⊎-elim (λ w. let n : k < 1 = omega arith in rw (lt-leb 1 k n)) (λ w. let n : 1 ≤ k = omega arith in let m : 2 < k = omega arith in rw (le-leb 1 k n, lt-leb k 2 m)) (c .before .before .before .if1 .came) in
+    ⊎-elim (λ w. let n : k < 1 = omega arith in rw (lt-leb 1 k n)) (λ w. let n : 1 ≤ k = omega arith in let m : 2 < k = omega arith in rw (le-leb 1 k n, lt-leb k 2 m)) (c .before .before .before .if1 .came) in
     let t : c .before .setting-of .result ≡ settingOf k (s .args .r .setting) = simp (kept (s .args .r .setting) (c .before .before .struct-told .given .1 .1 .0 .1)) at (c .before .setting-of .ensures) in
     rw e (c .no-flow-against .ensures ∙ ap (λ (x : Setting). noFlowAgainst (leb 3 k) x (s .args .r)) t)
 

@@ -31,6 +31,7 @@ use Rattle.plan.proofs.rows.arc_row.Reads as arc-row-reads
 -- [pre]
 three : {c d : Arc} {x y : Artificial} {r s : ArcRow} → c ≡ d → x ≡ y → r ≡ s → arcNumbersKept c x r ≡ arcNumbersKept d y s
 three p q e = rw (p, q, e)
+
 -- [/pre]
 
 -- src/flows.rt:133:9
@@ -76,7 +77,7 @@ or-else-requires c κs = search needs
 -- src/flows.rt:129:1
 returns : tie.Need-returns
 unfolding flowQuestions
-returns c = 
+returns c =
     let a = c .before .before .before .before .before .before .before .before .args in
     let k1 = c .before .before .before .before .arc-numbers-kept .ensures ∙ three (c .before .before .before .before .before .before .before .arc .ensures) (c .before .before .before .before .before .before .artificial .ensures) (c .before .before .before .before .before .arc-row .ensures) in
     let k2 = c .before .before .flow-allowed .ensures ∙ ap₂ flowAllowed (c .before .before .before .before .before .before .before .arc .ensures) (c .before .before .before .before .before .arc-row .ensures) in

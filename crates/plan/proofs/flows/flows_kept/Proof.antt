@@ -18,6 +18,7 @@ use Rattle.plan.proofs.flows.both_within.Reads as both-within-reads
 -- [pre]
 ranges : {l l' a a' m m' b b' : ℤ} → l ≡ l' → a ≡ a' → m ≡ m' → b ≡ b' → (within l a m && within l b m) ≡ (within l' a' m' && within l' b' m')
 ranges p q r s = rw (p, q, r, s)
+
 -- [/pre]
 
 -- src/flows.rt:47:14
@@ -39,7 +40,7 @@ both-within-requires-3 c κs = search needs
 -- src/flows.rt:41:1
 returns : tie.Need-returns
 unfolding flowsKept
-returns c = 
+returns c =
     let a = c .before .before .before .before .before .args in
     let t = c .before .before .before .struct-told .given in
     let u = c .before .before .struct-told2 .given in
@@ -48,7 +49,7 @@ returns c =
 -- src/flows.rt:41:1
 returns-2 : tie.Need-returns-2
 unfolding flowsKept
-returns-2 c = 
+returns-2 c =
     let a = c .before .before .before .before .before .before .before .before .args in
     let t = c .before .before .before .before .struct-told5 .given in
     let q = (held (literal (pos 0) -ʳ param (c .before .before .before .before .before .before .before .before .pre) tt) tt) .val in
@@ -57,7 +58,7 @@ returns-2 c =
 -- src/flows.rt:41:1
 returns-3 : tie.Need-returns-3
 unfolding flowsKept
-returns-3 c = 
+returns-3 c =
     let a = c .before .before .before .before .before .before .args in
     let t = c .before .before .before .before .struct-told9 .given in
     let u = c .before .before .before .struct-told10 .given in

@@ -42,7 +42,7 @@ returns c = rw (le-leb _ _ (c .before .if1 .taken)) (simp (toZ-ofZ (c .before .b
 -- src/flows.rt:50:1
 returns-2 : tie.Need-returns-2
 unfolding machinesWithin
-returns-2 c = 
+returns-2 c =
     let s = c .before .before .before .before in
     let w1 : c .before .before .at-most .result ≡ leZ (pos 0) (s .args .machines) = simp (toZ-ofZ (s .fits .machines)) at (c .before .before .at-most .ensures) in
     let w2 : c .before .subset .result ≡ subsetOf (s .args .machines) (s .args .own) = simp (toZ-ofZ (s .fits .machines), toZ-ofZ (s .fits .own)) at (c .before .subset .ensures) in

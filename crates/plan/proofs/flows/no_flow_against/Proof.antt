@@ -23,6 +23,7 @@ use Rattle.plan.proofs.bools.both.Reads as both-reads
 open-valve : (way : Way) (mode : Mode) (r : ArcRow) → true ≡ noFlowAgainst false (Active way mode) r
 open-valve Forward mode r = refl
 open-valve Backward mode r = refl
+
 -- [/pre]
 
 -- src/flows.rt:92:29
@@ -71,7 +72,7 @@ returns c = search needs
 
 -- src/flows.rt:88:1
 returns-2 : tie.Need-returns-2
-returns-2 c = 
+returns-2 c =
     let a = c .before .before .before .before .before .before .before .args in
     let t = c .before .before .before .before .struct-told .given in
     let w1 : c .before .before .before .same .result ≡ isZero (a .r .a) = simp (kept (a .r .a) (t .0 .1)) at (c .before .before .before .same .ensures) in

@@ -45,7 +45,7 @@ both-requires c κs = search needs
 -- src/nodes.rt:79:1
 returns : tie.Need-returns
 unfolding activeBoundsKept
-returns c = 
+returns c =
     let n = c .before .before .before .args .n in
     let e : isZero (n .demand) ≡ true = simp (kept (n .demand) (c .before .before .struct-told .given .1 .1 .1 .1 .1 .1 .0 .1)) at (sym (c .before .same .ensures) ∙ c .if1 .taken) in
     rw e
@@ -53,7 +53,7 @@ returns c =
 -- src/nodes.rt:79:1
 returns-2 : tie.Need-returns-2
 unfolding activeBoundsKept
-returns-2 c = 
+returns-2 c =
     let s = c .before .before .before .before .before .before .before .before .before .before .before .before in
     let n = s .args .n in
     let r = s .args .r in

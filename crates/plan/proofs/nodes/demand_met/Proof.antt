@@ -35,7 +35,7 @@ returns c = rw (eq-eqb _ _ (c .if1 .taken))
 -- src/nodes.rt:67:1
 returns-2 : tie.Need-returns-2
 unfolding demandMet
-returns-2 c = 
+returns-2 c =
     let s = c .before .before .before .before .before .before .before .before in
     let v = (held (held (param (s .pre .d) tt +ʳ param (s .pre .splus) tt) tt -ʳ param (s .pre .sminus) tt) tt) .val in
     rw (ne-eqb _ _ (c .before .before .before .before .before .before .if1 .left)) (simp (v, kept (s .args .n .demand) (c .before .struct-told3 .given .1 .1 .1 .1 .1 .1 .0 .1)) at (c .same .ensures))

@@ -36,6 +36,7 @@ row-sized c =
     let p = c .before .before .before .before .pre in
     let n : NodeSized (c .before .before .before .node .result) = rw (c .before .before .before .node .ensures) (node-sized (p .0) _ (p .2) _ (p .1)) in
     numbers-sized (c .before .before .before .node .result) (c .before .before .node-row .result) n (sym (c .before .numbers-kept .ensures) ∙ c .if1 .taken)
+
 -- [/pre]
 
 -- src/nodes.rt:97:9
@@ -85,7 +86,7 @@ add-t15 c = let p = c .before .before .before .before .pre in omega (arith, coun
 -- src/nodes.rt:93:1
 returns : tie.Need-returns
 unfolding nodeQuestions
-returns c = 
+returns c =
     let a = c .before .before .before .before .before .before .before .before .before .args in
     let n = c .before .before .before .before .before .before .before .before .node .ensures in
     let r = c .before .before .before .before .before .before .before .node-row .ensures in
@@ -99,7 +100,7 @@ returns c =
 -- src/nodes.rt:93:1
 returns-2 : tie.Need-returns-2
 unfolding nodeQuestions
-returns-2 c = 
+returns-2 c =
     let a = c .before .before .before .before .args in
     let k1 : nodeNumbersKept (nodeOf (now (a .case)) (a .v) (a .i)) (nodeRow (now (a .row)) (a .v)) ≡ false = rw (c .before .before .before .node .ensures, c .before .before .node-row .ensures) at (sym (c .before .numbers-kept .ensures) ∙ c .if1 .left) in
     rw k1

@@ -40,7 +40,7 @@ enum-told-2 c = search needs
 -- src/nodes.rt:127:17
 returns : tie.Need-returns Inv-loop μ-loop
 unfolding allNodeQuestions
-returns c = 
+returns c =
     let h = c .before .before .before .before in
     let a = h .before .args in
     let f = nodeQuestions (now (a .case)) (now (a .row)) (a .i) in
@@ -56,7 +56,7 @@ loop-less c = omega arith
 
 -- src/nodes.rt:118:5
 loop-again : tie.Need-loop-again Inv-loop μ-loop
-loop-again c = 
+loop-again c =
     let h = c .before .before .before .before in
     let a = h .before .args in
     let f = nodeQuestions (now (a .case)) (now (a .row)) (a .i) in
@@ -65,7 +65,7 @@ loop-again c =
 -- src/nodes.rt:113:1
 returns-2 : tie.Need-returns-2 Inv-loop μ-loop
 unfolding allNodeQuestions
-returns-2 c = 
+returns-2 c =
     let h = c .before in
     let a = h .before .args in
     let f = nodeQuestions (now (a .case)) (now (a .row)) (a .i) in

@@ -38,7 +38,7 @@ both-requires-2 c κs = search needs
 -- src/nodes.rt:56:1
 returns : tie.Need-returns
 unfolding nodeNumbersKept
-returns c = 
+returns c =
     let s = c .before .before .before .before .before .before .before .before .before in
     let n = s .args .n in
     let r = s .args .r in

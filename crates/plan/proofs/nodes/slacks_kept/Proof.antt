@@ -69,7 +69,7 @@ both-requires-3 c κs = search needs
 -- src/nodes.rt:28:1
 returns : tie.Need-returns
 unfolding slacksKept
-returns c = 
+returns c =
     let s = c .before .before .before .before .before .before .before .before .before .before .before .before .before .before .before .before .before .before in
     let n = s .args .n in
     let r = s .args .r in

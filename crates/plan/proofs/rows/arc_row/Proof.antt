@@ -20,6 +20,7 @@ use Rattle.numbers.proofs.compare.index.Reads as index-reads
 -- the case's count of nodes
 nodes-is : (c : tie.After-index) → c .index .result ≡ nodesOf (now (c .before .before .args .case))
 nodes-is c = c .index .ensures ∙ ap posPart (kept _ (c .before .at .ok) ∙ c .before .at .ensures)
+
 -- [/pre]
 
 -- src/rows.rt:59:23
@@ -72,7 +73,7 @@ at-requires-5 c κs = search needs
 
 -- src/rows.rt:55:1
 returns : tie.Need-returns
-returns c = 
+returns c =
     let n = nodes-is (c .before .before .before .before) in
     let k0 = kept _ (c .before .before .before .at2 .ok) ∙ rw n at (c .before .before .before .at2 .ensures) in
     let k1 = kept _ (c .before .before .at3 .ok) ∙ rw n at (c .before .before .at3 .ensures) in

@@ -23,6 +23,7 @@ nodes-is c = c .index .ensures ∙ ap posPart (kept _ (c .before .at .ok) ∙ c 
 
 arcs-is : (c : tie.After-index2) → c .index2 .result ≡ arcsOf (now (c .before .before .before .before .args .case))
 arcs-is c = c .index2 .ensures ∙ ap posPart (kept _ (c .before .at2 .ok) ∙ c .before .at2 .ensures)
+
 -- [/pre]
 
 -- src/rows.rt:73:23
@@ -75,7 +76,7 @@ at-requires-4 c κs = search needs
 
 -- src/rows.rt:69:1
 returns : tie.Need-returns
-returns c = 
+returns c =
     let n = nodes-is (c .before .before .before .before) in
     let m = arcs-is (c .before .before) in
     let k0 = kept _ (c .before .at3 .ok) ∙ rw (n, m) at (c .before .at3 .ensures) in

@@ -60,7 +60,7 @@ at-requires-6 c κs = search needs
 
 -- src/rows.rt:32:1
 returns : tie.Need-returns
-returns c = 
+returns c =
     let a = c .before .before .before .before .before .before .args in
     let k0 = kept _ (c .before .before .before .before .before .at .ok) ∙ c .before .before .before .before .before .at .ensures in
     let k1 = kept _ (c .before .before .before .before .at2 .ok) ∙ c .before .before .before .before .at2 .ensures in

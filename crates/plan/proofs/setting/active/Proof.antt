@@ -57,7 +57,7 @@ returns-4 c = rw (c .before .match .keys4) (c .directed3 .ensures)
 -- src/setting.rt:65:1
 returns-5 : tie.Need-returns-5
 unfolding activeOf
-returns-5 c = 
+returns-5 c =
     let k = c .before .before .args .kind in
     let n : k ≤ 2 = omega arith in
     rw (ne-eqb _ _ (c .before .match .rest .0 .0 .0 .1), le-leb _ _ n)
@@ -65,7 +65,7 @@ returns-5 c =
 -- src/setting.rt:65:1
 returns-6 : tie.Need-returns-6
 unfolding activeOf
-returns-6 c = 
+returns-6 c =
     let k = c .before .before .before .args .kind in
     let r = c .before .before .match .rest in
     let n : 2 < k = omega arith in

@@ -34,7 +34,7 @@ active-requires c κs = search needs
 -- src/setting.rt:78:1
 returns : tie.Need-returns
 unfolding settingOf
-returns c = 
+returns c =
     let a = c .before .before .before .before .args in
     let k = toZ-ofZ (c .before .before .before .before .fits .number) in
     let e : leZ (pos 0) (a .number) ≡ true = simp k at (sym (c .before .before .before .at-most .ensures) ∙ c .before .before .if1 .taken) in
@@ -45,7 +45,7 @@ returns c =
 -- src/setting.rt:78:1
 returns-2 : tie.Need-returns-2
 unfolding settingOf
-returns-2 c = 
+returns-2 c =
     let a = c .before .before .before .before .before .args in
     let k = toZ-ofZ (c .before .before .before .before .before .fits .number) in
     let e : leZ (pos 0) (a .number) ≡ true = simp k at (sym (c .before .before .before .before .at-most .ensures) ∙ c .before .before .before .if1 .taken) in
@@ -56,7 +56,7 @@ returns-2 c =
 -- src/setting.rt:78:1
 returns-3 : tie.Need-returns-3
 unfolding settingOf
-returns-3 c = 
+returns-3 c =
     let a = c .before .before .args in
     let k = toZ-ofZ (c .before .before .fits .number) in
     let e : leZ (pos 0) (a .number) ≡ false = simp k at (sym (c .before .at-most .ensures) ∙ c .if1 .left) in

@@ -1,13 +1,36 @@
+use mathlib.Core.Path.{_≡_, sym, _∙_}
 use borrow.Author.Needs.{needs}
+use denote.Ref.{now}
+use Rattle.numbers.specs.Question.{firstNo}
+use Rattle.numbers.specs.declared.answer.Answer.the-variants.{Yes}
+use Rattle.case.specs.Layout.{numberAt}
+use Rattle.plan.specs.NodeRules.{allNodeQuestions}
+use Rattle.plan.specs.ArcRules.{allArcQuestions}
+use Rattle.plan.specs.Sizes.{NodesSized, FlowsSized}
+use Rattle.plan.specs.Kept.{nodes-sized, pressures-sized, flows-sized, machines-kept}
+use Rattle.plan.proofs.Stepped.{nodes-stop, arcs-stop, both-asked}
 use Rattle.plan.proofs.steps.step.Statement.{statement}
 use Rattle.plan.proofs.steps.step.Tie as tie
-use Rattle.plan.proofs.steps.step.Reads as reads
-use Rattle.plan.proofs.steps.step.Lts as lts
-use Rattle.numbers.proofs.answer.or_else.Reads as or-else-reads
-use Rattle.plan.proofs.arcs.arc_answers.Reads as arc-answers-reads
-use Rattle.plan.proofs.balance.balance_answers.Reads as balance-answers-reads
-use Rattle.plan.proofs.nodes.node_answers.Reads as node-answers-reads
-use Rattle.plan.proofs.stations.station_answers.Reads as station-answers-reads
+
+-- past the nodes
+nodes-yes : (c : tie.After-enum-told) → let s = c .before .before .before .before in firstNo (allNodeQuestions (now (s .args .case)) (now (s .args .row)) (s .args .i)) ≡ Yes
+nodes-yes c = sym (c .before .before .node-answers .ensures) ∙ c .enum-told .given .1
+
+nodes-are : (c : tie.After-enum-told) → let s = c .before .before .before .before in NodesSized (now (s .args .case)) (now (s .args .row))
+nodes-are c =
+    let s = c .before .before .before .before in
+    let p = s .pre .0 in
+    nodes-sized (now (s .args .case)) (now (s .args .row)) (s .args .i) (p .accepted) (p .step) (nodes-yes c)
+
+-- past the arcs
+arcs-yes : (c : tie.After-enum-told3) → let s = c .before .before .before .before .before .before .before .before in
+    firstNo (allArcQuestions (now (s .args .case)) (numberAt (s .args .previous .pressures)) (now (s .args .row)) (s .args .i)) ≡ Yes
+arcs-yes c = sym (c .before .before .arc-answers .ensures) ∙ c .enum-told3 .given .1
+
+flows-are : (c : tie.After-enum-told3) → let s = c .before .before .before .before .before .before .before .before in FlowsSized (now (s .args .case)) (now (s .args .row))
+flows-are c =
+    let s = c .before .before .before .before .before .before .before .before in
+    flows-sized (now (s .args .case)) (numberAt (s .args .previous .pressures)) (now (s .args .row)) (s .args .i) (s .pre .0 .accepted) (arcs-yes c)
 
 -- src/steps.rt:34:9
 node-answers-requires : tie.Need-node-answers-requires
@@ -22,7 +45,10 @@ enum-told-2 c = search needs
 
 -- src/steps.rt:42:13
 returns : tie.Need-returns
-returns c = ?
+returns c =
+    let n = c .before .before in
+    let a = n .before .before .args in
+    nodes-stop (now (a .case)) (numberAt (a .previous .pressures)) (now (a .row)) (a .i) (n .node-answers .ensures) (c .enum-told2 .given .1)
 
 -- src/steps.rt:45:34
 slice-aggregate-arc-answers : tie.Need-slice-aggregate-arc-answers
@@ -30,7 +56,10 @@ slice-aggregate-arc-answers c = search needs
 
 -- src/steps.rt:45:9
 arc-answers-requires : tie.Need-arc-answers-requires
-arc-answers-requires c κs = ?
+arc-answers-requires c κs =
+    let t = c .before in
+    let s = t .before .before .before .before in
+    (s .pre .0, s .pre .1, pressures-sized (nodes-are t))
 
 -- src/steps.rt:48:13
 enum-told-3 : tie.Need-enum-told-3
@@ -38,11 +67,17 @@ enum-told-3 c = search needs
 
 -- src/steps.rt:48:13
 station-answers-requires : tie.Need-station-answers-requires
-station-answers-requires c κs = ?
+station-answers-requires c κs =
+    let s = c .before .before .before .before .before .before .before .before in
+    (s .pre .0, flows-are c, machines-kept (now (s .args .case)) (numberAt (s .args .previous .pressures)) (now (s .args .row)) (s .args .i) (arcs-yes c))
 
 -- src/steps.rt:49:13
 balance-answers-requires : tie.Need-balance-answers-requires
-balance-answers-requires c κs = ?
+balance-answers-requires c κs =
+    let e = c .before in
+    let t = e .before .before .before .before in
+    let s = t .before .before .before .before in
+    (s .pre .0, flows-are e, nodes-are t)
 
 -- src/steps.rt:47:24
 or-else-requires : tie.Need-or-else-requires
@@ -54,11 +89,20 @@ enum-told-4 c = search needs
 
 -- src/steps.rt:29:1
 returns-2 : tie.Need-returns-2
-returns-2 c = ?
+returns-2 c =
+    let b = c .before in
+    let e = b .before .before in
+    let t = e .before .before .before .before in
+    let a = t .before .before .before .before .args in
+    both-asked (now (a .case)) (numberAt (a .previous .pressures)) (now (a .row)) (a .i) (nodes-yes t) (arcs-yes e) (c .or-else .ensures) (b .before .station-answers .ensures) (b .balance-answers .ensures)
 
 -- src/steps.rt:29:1
 returns-3 : tie.Need-returns-3
-returns-3 c = ?
+returns-3 c =
+    let r = c .before .before in
+    let t = r .before .before in
+    let a = t .before .before .before .before .args in
+    arcs-stop (now (a .case)) (numberAt (a .previous .pressures)) (now (a .row)) (a .i) (nodes-yes t) (r .arc-answers .ensures) (c .enum-told4 .given .1)
 
 pub step-spec : {M : Type 1} → statement M
 step-spec =

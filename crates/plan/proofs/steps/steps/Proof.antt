@@ -1,122 +1,152 @@
+-- What was before step `i`, and the totals of the steps before it. Each turn and both ways out cite the laws of `Going`.
+use mathlib.Core.Path.{_≡_, sym, ap, _∙_}
+use Prim.Native.Nat.{ℕ, _-_, _+_, _*_, _≤_, _<_}
+use native.Mathlib.Omega.{arith}
+use borrow.Author.Needs.{needs}
+use denote.Ref.{now}
+use lib.IntN.{ℤ}
+use lib.ListN.{length}
+use mathlib.Core.List.{List}
+use Rattle.numbers.specs.Question.{firstNo}
+use Rattle.numbers.specs.declared.answer.Answer.the-variants.{Yes}
+use Rattle.case.specs.Layout.{numberAt, stepsOf}
+use Rattle.plan.specs.Handed.{AtStep}
+use Rattle.plan.specs.PlanLayout.{stepAt, stepWidth, stepRow}
+use Rattle.plan.specs.CaseFacts.{counted}
+use Rattle.plan.specs.Step.{stepQuestions}
+use Rattle.plan.proofs.Going.{Going, going, held-sized, start-sized, part-within, part-is, width-is, kept, room, refused, went-on, finished}
 use Rattle.plan.proofs.steps.steps.Statement.{statement}
 use Rattle.plan.proofs.steps.steps.Tie as tie
-use Rattle.plan.proofs.steps.steps.Reads as reads
-use Rattle.plan.proofs.steps.steps.Lts as lts
-use Rattle.plan.proofs.previous.after.Reads as after-reads
-use Rattle.plan.proofs.previous.start.Reads as start-reads
-use Rattle.plan.proofs.steps.closed.Reads as closed-reads
-use Rattle.plan.proofs.steps.opened.Reads as opened-reads
-use Rattle.plan.proofs.steps.step.Reads as step-reads
-use Rattle.plan.proofs.totals.added.Reads as added-reads
 
 abbrev Inv-loop : tie.InvT-loop
-Inv-loop case plan layout width previous₀ totals₀ i₀ previous totals i = ?
+Inv-loop case plan layout count arcs width previous₀ totals₀ i₀ previous totals i = Going case plan previous totals i
 
 abbrev μ-loop : tie.MeasureT-loop
-μ-loop case plan layout width previous₀ totals₀ i₀ previous totals i = ?
+μ-loop case plan layout count arcs width previous₀ totals₀ i₀ previous totals i = count - i
 
--- src/steps.rt:96:17
-mul-width : tie.Need-mul-width Inv-loop μ-loop
-mul-width c = ?
+within : (t : tie.In-loop Inv-loop μ-loop) → t .before .loop .i < stepsOf (now (t .before .before .before .before .before .args .case))
+within t = let s = t .before .before .before .before .before in omega (arith, t .loop-test .taken, s .pre .1 .steps)
 
--- src/steps.rt:96:36
-mul-width-2 : tie.Need-mul-width-2 Inv-loop μ-loop
-mul-width-2 c = ?
+at-step : (t : tie.In-loop Inv-loop μ-loop) → let s = t .before .before .before .before .before in AtStep (now (s .args .case)) (s .args .layout) (t .before .loop .i)
+at-step t = let s = t .before .before .before .before .before in record { accepted = s .pre .0; laid = s .pre .1; step = within t }
 
--- src/steps.rt:96:17
-add-width : tie.Need-add-width Inv-loop μ-loop
-add-width c = ?
+width : (w : tie.After-step-width Inv-loop μ-loop) → w .step-width .result ≡ stepWidth (now (w .before .args .case))
+width w = width-is (w .before .pre .1) (w .step-width .ensures)
 
--- src/steps.rt:96:54
-mul-width-3 : tie.Need-mul-width-3 Inv-loop μ-loop
-mul-width-3 c = ?
+row-is : (p : tie.After-part-of Inv-loop μ-loop) → let s = p .before .before .before .before .before .before in
+    now (p .part-of .result) ≡ stepRow (now (s .args .case)) (now (s .args .plan)) (p .before .before .loop .i)
+row-is p =
+    let l = p .before .before in
+    let w = l .before .before .before in
+    part-is (now (w .before .args .case)) (now (w .before .args .plan)) (l .loop .i) (w .step-width .result) (width w) (p .part-of .ensures)
 
--- src/steps.rt:96:17
-add-width-2 : tie.Need-add-width-2 Inv-loop μ-loop
-add-width-2 c = ?
+step-length : (case : List ℤ) {n : ℕ} → n ≡ stepWidth case → 2 + stepsOf case * n ≡ stepAt case (stepsOf case)
+unfolding stepAt
+step-length case e = rw e
 
--- src/steps.rt:97:9
-start-requires : tie.Need-start-requires Inv-loop μ-loop
-start-requires c κs = ?
-
--- src/steps.rt:98:9
-opened-requires : tie.Need-opened-requires Inv-loop μ-loop
-opened-requires c κs = ?
-
--- src/steps.rt:100:5
-loop-holds : tie.Need-loop-holds Inv-loop μ-loop
-loop-holds c = ?
-
--- src/steps.rt:101:25
-mul-first : tie.Need-mul-first Inv-loop μ-loop
-mul-first c = ?
-
--- src/steps.rt:101:21
-add-first : tie.Need-add-first Inv-loop μ-loop
-add-first c = ?
-
--- src/steps.rt:102:32
-add-row : tie.Need-add-row Inv-loop μ-loop
-add-row c = ?
-
--- src/steps.rt:102:19
-mul-row : tie.Need-mul-row Inv-loop μ-loop
-mul-row c = ?
-
--- src/steps.rt:102:19
-sub-row : tie.Need-sub-row Inv-loop μ-loop
-sub-row c = ?
-
--- src/steps.rt:102:19
-part-row-start : tie.Need-part-row-start Inv-loop μ-loop
-part-row-start c = ?
-
--- src/steps.rt:102:19
-part-row-end : tie.Need-part-row-end Inv-loop μ-loop
-part-row-end c = ?
-
--- src/steps.rt:103:13
-step-requires : tie.Need-step-requires Inv-loop μ-loop
-step-requires c κs = ?
-
-enum-told : tie.Need-enum-told Inv-loop μ-loop
-enum-told c = ?
-
--- src/steps.rt:107:17
-enum-known-a : tie.Need-enum-known-a Inv-loop μ-loop
-enum-known-a c = ?
-
--- src/steps.rt:111:17
-returns : tie.Need-returns Inv-loop μ-loop
-returns c = ?
+-- every question of the step is answered yes
+step-yes : (e : tie.After-enum-told Inv-loop μ-loop) → let p = e .before .before .before in let l = p .before .before in
+    firstNo (stepQuestions (now (l .before .before .before .before .args .case)) (numberAt (l .loop .previous .pressures)) (now (p .part-of .result)) (l .loop .i)) ≡ Yes
+step-yes e = sym (e .before .before .step .ensures) ∙ e .enum-told .given .1
 
 -- src/steps.rt:118:9
-added-requires : tie.Need-added-requires Inv-loop μ-loop
-added-requires c κs = ?
+step-width-requires : tie.Need-step-width-requires Inv-loop μ-loop
+step-width-requires c κs = let d = c .pre .1 in let k = counted (c .pre .0) in (omega (arith, d .nodes, k .nodes), omega (arith, d .arcs, k .arcs), omega (arith, d .stations, k .stations))
 
 -- src/steps.rt:119:9
-after-requires : tie.Need-after-requires Inv-loop μ-loop
-after-requires c κs = ?
+start-requires : tie.Need-start-requires Inv-loop μ-loop
+start-requires c κs = (counted (c .before .pre .0), c .before .pre .1)
 
 -- src/steps.rt:120:9
+opened-requires : tie.Need-opened-requires Inv-loop μ-loop
+opened-requires c κs =
+    let s = c .before .before in
+    (s .pre .0, s .pre .1 .arcs, held-sized (c .start .ensures .pressures) (start-sized (s .pre .0)))
+
+-- src/steps.rt:122:5
+loop-holds : tie.Need-loop-holds Inv-loop μ-loop
+loop-holds c = going (c .before .before .before .pre .0) (c .before .start .ensures) (c .opened .ensures)
+
+-- src/steps.rt:123:13
+part-of-requires : tie.Need-part-of-requires Inv-loop μ-loop
+part-of-requires c κs =
+    let w = c .before .before .before .before in
+    let s = w .before in
+    let k = counted (s .pre .0) in
+    let d = s .pre .1 in
+    let i = c .before .loop .i in
+    let n = w .step-width .result in
+    let e : length (now (s .args .plan)) ≡ 2 + stepsOf (now (s .args .case)) * n = s .pre .2 .long ∙ sym (step-length (now (s .args .case)) (width w)) in (
+      omega (arith, within c, k .steps),
+      omega (arith, w .step-width .ensures, d .nodes, k .nodes, d .arcs, k .arcs, d .stations, k .stations),
+      omega (arith, e, part-within i (stepsOf (now (s .args .case))) n (within c)),
+    )
+
+-- src/steps.rt:124:13
+step-requires : tie.Need-step-requires Inv-loop μ-loop
+step-requires c κs = (at-step (c .before), c .before .before .loop .inv .pressures)
+
+enum-told : tie.Need-enum-told Inv-loop μ-loop
+enum-told c = search needs
+
+-- src/steps.rt:128:17
+enum-known-a : tie.Need-enum-known-a Inv-loop μ-loop
+enum-known-a c = search needs
+
+-- src/steps.rt:132:17
+returns : tie.Need-returns Inv-loop μ-loop
+returns c =
+    let p = c .before .before .before .before in
+    let t = p .before in
+    let s = t .before .before .before .before .before in
+    refused (s .pre .0) (t .before .loop .inv) (within t) (row-is p) (c .before .before .before .step .ensures) (c .before .a .given .1)
+
+-- src/steps.rt:139:9
+added-requires : tie.Need-added-requires Inv-loop μ-loop
+added-requires c κs =
+    let p = c .before .before .before in
+    let t = p .before in
+    let s = t .before .before .before .before .before in
+    (at-step t, kept (s .pre .0) (t .before .loop .inv) (within t) (row-is p) (step-yes c), room (s .pre .0) (t .before .loop .inv) (within t) (row-is p))
+
+-- src/steps.rt:140:9
+after-requires : tie.Need-after-requires Inv-loop μ-loop
+after-requires c κs =
+    let s = c .before .before .before .before .before .before .before .before .before .before in
+    (counted (s .pre .0), s .pre .1)
+
+-- src/steps.rt:141:9
 add-i : tie.Need-add-i Inv-loop μ-loop
-add-i c = ?
+add-i c =
+    let t = c .before .before .before .before .before .before in
+    omega (arith, within t, counted (t .before .before .before .before .before .pre .0) .steps)
 
--- src/steps.rt:100:5
+-- src/steps.rt:122:5
 loop-less : tie.Need-loop-less Inv-loop μ-loop
-loop-less c = ?
+loop-less c = omega (arith, c .before .before .before .before .before .before .loop-test .taken)
 
--- src/steps.rt:100:5
+-- src/steps.rt:122:5
 loop-again : tie.Need-loop-again Inv-loop μ-loop
-loop-again c = ?
+loop-again c =
+    let b = c .before in
+    let e = b .before in
+    let p = e .before .before .before in
+    let t = p .before in
+    let s = t .before .before .before .before .before in
+    went-on (s .pre .0) (t .before .loop .inv) (within t) (row-is p) (step-yes e) (b .added .ensures) (c .after .ensures)
 
--- src/steps.rt:122:23
+-- src/steps.rt:143:23
 closed-requires : tie.Need-closed-requires Inv-loop μ-loop
-closed-requires c κs = ?
+closed-requires c κs =
+    let s = c .before .before .before .before .before in
+    (s .pre .0, s .pre .1 .arcs, c .before .loop .inv .pressures)
 
--- src/steps.rt:92:1
+-- src/steps.rt:112:1
 returns-2 : tie.Need-returns-2 Inv-loop μ-loop
-returns-2 c = ?
+returns-2 c =
+    let l = c .before in
+    let s = l .before .before .before .before .before in
+    finished (s .pre .0) (l .before .loop .inv) (omega (arith, l .loop-test .left, s .pre .1 .steps)) (c .closed .ensures)
 
 pub steps-spec : {M : Type 1} → statement M
 steps-spec =
@@ -124,21 +154,11 @@ steps-spec =
     (tie.spec
     Inv-loop
     μ-loop
-    mul-width
-    mul-width-2
-    add-width
-    mul-width-3
-    add-width-2
+    step-width-requires
     start-requires
     opened-requires
     loop-holds
-    mul-first
-    add-first
-    add-row
-    mul-row
-    sub-row
-    part-row-start
-    part-row-end
+    part-of-requires
     step-requires
     enum-told
     enum-known-a

@@ -1,0 +1,194 @@
+-- The loop over the steps, over plain lists: what holds before the step with index i, one turn, and both ways out.
+-- Assumes nothing.
+use mathlib.Core.Path.{_≡_, refl, sym, ap, ap₂, _∙_}
+use mathlib.Core.List.{List}
+use Prim.Native.Nat.{ℕ, zero, suc, _+_, _*_, _-_, _<_, _≤_}
+use native.Mathlib.Nat.{mul-le-mul-right}
+use native.Mathlib.Numerals.{add-one}
+use native.Mathlib.Omega.{arith}
+use lib.IntN.{ℤ, pos, natAbs, _+ℤ_}
+use lib.ListN.{length, take, drop}
+use Rattle.numbers.specs.SignedBounds.{Bounded, abs-add}
+use Rattle.numbers.specs.Question.{firstNo}
+use Rattle.numbers.specs.Items.{over, rest, rest-on, rest-no, rest-end}
+use Rattle.numbers.specs.Sum.{sum, sumN}
+use Rattle.numbers.specs.declared.answer.Answer.{Answer}
+use Rattle.numbers.specs.declared.answer.Answer.the-variants.{Yes, No}
+use Rattle.case.specs.Layout.{numberAt, nodesOf, arcsOf, stationsOf, stepsOf}
+use Rattle.case.specs.Laid.{Holds, Laid}
+use Rattle.case.specs.declared.records.Layout.{Layout}
+use Rattle.case.specs.States.{activeAtStart}
+use Rattle.plan.specs.declared.previous.Previous.{Previous}
+use Rattle.plan.specs.declared.totals.Totals.{Totals}
+use Rattle.plan.specs.declared.verdict.Verdict.{Verdict}
+use Rattle.plan.specs.declared.verdict.Verdict.the-variants.{Accepted, Refused}
+use Rattle.plan.specs.PlanLayout.{stepAt, stepWidth, stepRow}
+use Rattle.plan.specs.PlanRecords.{pressureIn, activeIn, directionIn, stateIn}
+use Rattle.plan.specs.Before.{startPressure, startDirection, startState, pressureAt, activeAt, directionAt, stateAt}
+use Rattle.plan.specs.Carried.{Carried, activeOf, indexOf}
+use Rattle.plan.specs.Handed.{AcceptedCase, StepKept, PlanLaid}
+use Rattle.plan.specs.Sizes.{PressuresSized}
+use Rattle.plan.specs.Summed.{Added, Opened, Closed, TotalsSized}
+use Rattle.plan.specs.CaseFacts.{counted, node-sized}
+use Rattle.plan.specs.Kept.{step-kept, pressures-sized}
+use Rattle.plan.specs.Step.{stepQuestions}
+use Rattle.plan.specs.Totals.{gasAt, stepPressureSlack, stepDemandSlack, stepSwitching, stepResidual, totalsTo, totalsOf, pressureSlackIn, demandSlackIn, choiceCosts, activityCosts, pipeResiduals, nodeResiduals}
+use Rattle.plan.specs.Judged.{planStep, verdictOf}
+use Rattle.plan.proofs.StepSizes.{pressure-slack-sized, demand-slack-sized, choice-costs-le, activity-costs-le, pipe-residuals-le, node-residuals-le}
+use Rattle.plan.proofs.Alike.{step-alike, pipes-alike, gas-alike, choices-alike, activities-alike}
+
+-- the totals of the first i steps
+pub record Summed (case plan : List ℤ) (t : Totals) (i : ℕ) : Type 0 where
+  pub pressure : t .pressure ≡ sum i (stepPressureSlack case plan)
+  pub demand : t .demand ≡ sum i (stepDemandSlack case plan)
+  pub switching : t .switching ≡ sumN i (stepSwitching case plan)
+  pub residual : t .residual ≡ sumN i (stepResidual case plan)
+  pub opening : t .opening ≡ gasAt case (pressureAt case plan 0)
+
+-- and their sizes
+pub record Sized (t : Totals) (i : ℕ) : Type 0 where
+  pub pressure : natAbs (t .pressure) ≤ i * 48000000
+  pub demand : natAbs (t .demand) ≤ i * 1200000000
+  pub switching : t .switching ≤ i * 136000000
+  pub residual : t .residual ≤ i * 180000000
+
+pub record Going (case plan : List ℤ) (x : Previous) (t : Totals) (i : ℕ) : Type 0 where
+  pub upto : i ≤ stepsOf case
+  pub asked : firstNo (over (planStep case plan) 0 (stepsOf case)) ≡ rest (planStep case plan) i (stepsOf case)
+  pub carried : Carried case x (pressureAt case plan i) (activeAt case plan i) (directionAt case plan i) (stateAt case plan i)
+  pub pressures : PressuresSized (numberAt (x .pressures)) (nodesOf case)
+  pub summed : Summed case plan t i
+  pub sized : Sized t i
+
+-- pressures in an array are as small as those that it holds
+pub held-sized : {n : ℕ} {xs : List ℤ} {p : ℕ → ℤ} → Holds (pos 0) xs p n → PressuresSized p n → PressuresSized (numberAt xs) n
+held-sized h s = record { each = λ v l. record { bound = rw (h .each v l) (s .each v l .bound) } }
+
+pub start-sized : {case : List ℤ} → AcceptedCase case → PressuresSized (startPressure case) (nodesOf case)
+start-sized a = record { each = λ v l. node-sized a v l 0 (counted a .some-step) .p0 }
+
+-- the step's part of the plan lies within it
+pub part-within : (i k w : ℕ) → i < k → 2 + i * w + w ≤ 2 + k * w
+part-within i k w p = let e : i * w + w ≡ suc i * w = omega arith in omega (arith, e, mul-le-mul-right w p)
+
+pub part-is : (case plan : List ℤ) (i w : ℕ) {row : List ℤ} → w ≡ stepWidth case → row ≡ take w (drop (2 + i * w) plan) → row ≡ stepRow case plan i
+unfolding stepRow stepAt
+part-is case plan i w e h = h ∙ rw e
+
+pub width-is : {case : List ℤ} {l : Layout} {w : ℕ} → Laid case l → w ≡ l .nodes * 6 + l .arcs * 4 + l .stations * 2 → w ≡ stepWidth case
+unfolding stepWidth
+width-is d e = e ∙ rw (d .nodes, d .arcs, d .stations)
+
+module _ {case plan : List ℤ} (a : AcceptedCase case) where
+  pub going : {x : Previous} {t : Totals} → Carried case x (startPressure case) (activeAtStart case) (startDirection case) (startState case) → Opened case (numberAt (x .pressures)) t → Going case plan x t 0
+  unfolding pressureAt activeAt directionAt stateAt sum sumN
+  going {x} {t} h o = record {
+    upto = omega arith;
+    asked = let e : stepsOf case - 0 ≡ stepsOf case = omega arith in rw e;
+    carried = h;
+    pressures = held-sized (h .pressures) (start-sized a);
+    summed = record {
+      pressure = o .pressure;
+      demand = o .demand;
+      switching = o .switching;
+      residual = o .residual;
+      opening = o .opening ∙ gas-alike a (numberAt (x .pressures)) (startPressure case) (h .pressures .each);
+    };
+    sized = record {
+      pressure = rw (o .pressure) (omega arith);
+      demand = rw (o .demand) (omega arith);
+      switching = omega (arith, o .switching);
+      residual = omega (arith, o .residual);
+    };
+  }
+
+-- one step whose questions are all answered yes
+module _ {case plan : List ℤ} (a : AcceptedCase case) {x : Previous} {t : Totals} {i : ℕ} (g : Going case plan x t i) (l : i < stepsOf case) {row : List ℤ} (r : row ≡ stepRow case plan i) where
+  -- the pressures of the array and of the plan ask the same
+  pub step-same : firstNo (stepQuestions case (numberAt (x .pressures)) row i) ≡ firstNo (planStep case plan i)
+  unfolding planStep
+  step-same =
+      step-alike a (numberAt (x .pressures)) (pressureAt case plan i) (g .carried .pressures .each) row i
+      ∙ ap (λ (w : List ℤ). firstNo (stepQuestions case (pressureAt case plan i) w i)) r
+
+  pub kept : firstNo (stepQuestions case (numberAt (x .pressures)) row i) ≡ Yes → StepKept case (x .pressures) row i
+  kept y = step-kept case (x .pressures) row i a l (g .pressures) y
+
+  pub room : TotalsSized t
+  room =
+      let s = g .sized in
+      let k = counted a .steps in
+      record {
+        pressure = record { bound = omega (arith, s .pressure) };
+        demand = record { bound = omega (arith, s .demand) };
+        switching = omega (arith, s .switching);
+        residual = omega (arith, s .residual);
+      }
+
+  pub refused : {n s p : ℕ} {b : Answer} → b ≡ firstNo (stepQuestions case (numberAt (x .pressures)) row i) → b ≡ No n s p
+      → Refused n s p ≡ verdictOf (firstNo (over (planStep case plan) 0 (stepsOf case))) (totalsOf case plan)
+  refused {n} {s} {p} {b} e h = ap (λ (w : Answer). verdictOf w (totalsOf case plan)) (sym (rest-no (planStep case plan) i (stepsOf case) (g .asked) l (e ∙ step-same) h ∙ h))
+
+  module _ {u : Totals} (yes : firstNo (stepQuestions case (numberAt (x .pressures)) row i) ≡ Yes) (d : Added case row x i t u) where
+    sums : Summed case plan u (i + 1)
+    unfolding sum sumN stepPressureSlack stepDemandSlack stepSwitching stepResidual
+    sums =
+        let s = g .summed in
+        let h = g .carried in
+        rw (add-one i) (record {
+          pressure = d .pressure ∙ ap₂ (λ (w z : ℤ). w +ℤ z) (s .pressure) (ap (pressureSlackIn case) r);
+          demand = d .demand ∙ ap₂ (λ (w z : ℤ). w +ℤ z) (s .demand) (ap (demandSlackIn case) r);
+          switching = d .switching ∙ ap₂ (λ (w z : ℕ). w + z) (s .switching)
+              (ap₂ (λ (w z : ℕ). w + z)
+              (choices-alike case row (indexOf (x .directions)) (directionAt case plan i) (indexOf (x .states)) (stateAt case plan i) (h .directions .each) (h .states .each)
+              ∙ ap (choiceCosts case (directionAt case plan i) (stateAt case plan i)) r)
+              (activities-alike case row (activeOf (x .active)) (activeAt case plan i) (h .active .each) ∙ ap (activityCosts case (activeAt case plan i)) r));
+          residual = d .residual ∙ ap₂ (λ (w z : ℕ). w + z) (s .residual)
+              (ap₂ (λ (w z : ℕ). w + z)
+              (pipes-alike a (numberAt (x .pressures)) (pressureAt case plan i) (h .pressures .each) row i ∙ ap (λ (w : List ℤ). pipeResiduals case (pressureAt case plan i) w i) r)
+              (ap (λ (w : List ℤ). nodeResiduals case w i) r));
+          opening = d .opening ∙ s .opening;
+        })
+
+    sizes : Sized u (i + 1)
+    sizes =
+        let s = g .sized in
+        let k = kept yes in
+        record {
+          pressure = rw (d .pressure) (omega (arith, abs-add (t .pressure) (pressureSlackIn case row), s .pressure, pressure-slack-sized row a (k .rows) .bound));
+          demand = rw (d .demand) (omega (arith, abs-add (t .demand) (demandSlackIn case row), s .demand, demand-slack-sized row a (k .rows) .bound));
+          switching = omega (arith, d .switching, s .switching, choice-costs-le row a (k .choices) (indexOf (x .directions)) (indexOf (x .states)), activity-costs-le row a (activeOf (x .active)));
+          residual = omega (arith, d .residual, s .residual, pipe-residuals-le row a k, node-residuals-le row a k);
+        }
+
+    pub went-on : {y : Previous} → Carried case y (pressureIn row) (activeIn case row) (directionIn case row) (stateIn case row) → Going case plan y u (i + 1)
+    unfolding pressureAt activeAt directionAt stateAt
+    went-on {y} h = record {
+      upto = omega (arith, l);
+      asked = rest-on (planStep case plan) i (stepsOf case) (g .asked) l refl (sym step-same ∙ yes);
+      carried = rw (add-one i) (record {
+        pressures = record { each = λ v q. h .pressures .each v q ∙ ap (λ (w : List ℤ). pressureIn w v) r };
+        active = record { each = λ e q. h .active .each e q ∙ ap (λ (w : List ℤ). activeIn case w e) r };
+        directions = record { each = λ z q. h .directions .each z q ∙ ap (λ (w : List ℤ). directionIn case w z) r };
+        states = record { each = λ z q. h .states .each z q ∙ ap (λ (w : List ℤ). stateIn case w z) r };
+      });
+      pressures = held-sized (h .pressures) (pressures-sized (kept yes .rows));
+      summed = sums;
+      sized = sizes;
+    }
+
+-- past the last step
+pub finished : {case plan : List ℤ} → AcceptedCase case → {x : Previous} {t u : Totals} {i : ℕ} → Going case plan x t i → stepsOf case ≤ i → Closed case (numberAt (x .pressures)) t u
+    → Accepted u ≡ verdictOf (firstNo (over (planStep case plan) 0 (stepsOf case))) (totalsOf case plan)
+unfolding totalsOf totalsTo
+finished {case} {plan} a {x} {t} {u} {i} g l d =
+    let s = g .summed in
+    let e : i ≡ stepsOf case = omega (arith, g .upto) in
+    let p : u .pressure ≡ sum (stepsOf case) (stepPressureSlack case plan) = d .pressure ∙ s .pressure ∙ ap (λ (n : ℕ). sum n (stepPressureSlack case plan)) e in
+    let q : u .demand ≡ sum (stepsOf case) (stepDemandSlack case plan) = d .demand ∙ s .demand ∙ ap (λ (n : ℕ). sum n (stepDemandSlack case plan)) e in
+    let w : u .switching ≡ sumN (stepsOf case) (stepSwitching case plan) = d .switching ∙ s .switching ∙ ap (λ (n : ℕ). sumN n (stepSwitching case plan)) e in
+    let v : u .residual ≡ sumN (stepsOf case) (stepResidual case plan) = d .residual ∙ s .residual ∙ ap (λ (n : ℕ). sumN n (stepResidual case plan)) e in
+    let o : u .opening ≡ gasAt case (pressureAt case plan 0) = d .opening ∙ s .opening in
+    let c : u .closing ≡ gasAt case (pressureAt case plan (stepsOf case)) =
+    d .closing ∙ gas-alike a (numberAt (x .pressures)) (pressureAt case plan i) (g .carried .pressures .each) ∙ ap (λ (n : ℕ). gasAt case (pressureAt case plan n)) e in
+    rw (rest-end (planStep case plan) i (stepsOf case) (g .asked) l, ← p, ← q, ← w, ← v, ← o, ← c)
