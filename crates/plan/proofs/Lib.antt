@@ -12,3 +12,5 @@ pub mod Alike
 pub mod Going
 pub mod Stepped
 pub mod Verdicts
+pub mod RegionSums
+pub mod RegionTests

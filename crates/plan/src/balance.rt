@@ -44,7 +44,7 @@ pub struct Ends {
     pub to: i64,
 }
 
-fn end_flows(case: &[i64], row: &[i64], e: usize) -> Ends
+pub(crate) fn end_flows(case: &[i64], row: &[i64], e: usize) -> Ends
     requires { ⌜ (AcceptedCase (now case)) × (e < arcsOf (now case)) × (FlowsSized (now case) (now row)) ⌝ }
     ensures { λ r. ⌜ (r .from ≡ flowAtFrom (now (case .entry)) (now (row .entry)) e) × (r .to ≡ flowAtTo (now (case .entry)) (now (row .entry)) e) ⌝ }
 {

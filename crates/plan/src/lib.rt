@@ -15,3 +15,6 @@ pub mod totals; // totals.rt: the six totals
 pub mod verdict; // verdict.rt: accepted with the totals, or refused
 pub mod steps; // steps.rt: one step, and every step
 pub mod judge; // judge.rt: the verdict on two lists, and on two byte strings
+pub mod figures; // figures.rt: the ledger's six figures, or its refusal
+pub mod region; // region.rt: what one step brings into a region and leaves over
+pub mod ledger; // ledger.rt: 40, 41 and the figures

@@ -27,7 +27,7 @@ pub struct Previous {
     pub states: [usize; 8],
 }
 
-fn start_pressures(case: &[i64], nodes: usize) -> [i64; 60]
+pub(crate) fn start_pressures(case: &[i64], nodes: usize) -> [i64; 60]
     requires { ⌜ nodes ≤ 60 ⌝ }
     ensures { λ r. ⌜ Holds (pos 0) r (startPressure (now (case .entry))) nodes ⌝ }
 {
@@ -99,7 +99,7 @@ pub(crate) fn start(case: &[i64], layout: Layout) -> Previous
     }
 }
 
-fn row_pressures(old: [i64; 60], row: &[i64], nodes: usize) -> [i64; 60]
+pub(crate) fn row_pressures(old: [i64; 60], row: &[i64], nodes: usize) -> [i64; 60]
     requires { ⌜ nodes ≤ 60 ⌝ }
     ensures { λ r. ⌜ Holds (pos 0) r (pressureIn (now (row .entry))) nodes ⌝ }
 {

@@ -187,7 +187,7 @@ pub(crate) fn node_residuals(
 }
 
 // A pipe's gas.
-fn pipe_gas(case: &[i64], pressures: &[i64], e: usize) -> i64
+pub(crate) fn pipe_gas(case: &[i64], pressures: &[i64], e: usize) -> i64
     requires { ⌜ (AcceptedCase (now case)) × (e < arcsOf (now case)) × (PressuresSized (numberAt (now pressures)) (nodesOf (now case))) ⌝ }
     ensures { λ r. ⌜ r ≡ gasPart (now (case .entry)) (numberAt (now (pressures .entry))) e ⌝ }
 {

@@ -1,0 +1,91 @@
+-- Tests and what they leave, one after the other; what is read back; the search for an item of a set.
+-- Assumes nothing.
+use mathlib.Core.Path.{_≡_, refl, ap₂}
+use mathlib.Core.Bool.{Bool, true, false, cond, _&&_}
+use mathlib.Core.List.{List}
+use lib.IntN.{ℤ, pos}
+use Prim.Native.Nat.{ℕ, suc, _+_, _*_, _-_, _%_, _^_, _<_, _≤_}
+use native.Mathlib.Nat.{one-mul, mod-eq-of-lt}
+use native.Mathlib.Numerals.{add-one}
+use lib.Pow.{pow-lt}
+use Rattle.numbers.specs.Sets.{memberOf}
+use Rattle.numbers.specs.SignedParts.{posPart}
+use Rattle.numbers.specs.Question.{firstNo}
+use Rattle.plan.specs.RegionFigures.{figuresOf}
+use Rattle.plan.specs.Ledger.{lowestOf, regionQuestions, ledgerBy}
+use native.Mathlib.Omega.{arith}
+use Rattle.numbers.specs.Sum.{only, onlyN}
+use Rattle.plan.specs.Region.{inward}
+
+pub all-three : {k f g r : Bool} → k ≡ true → f ≡ true → r ≡ g → r ≡ (k && (f && g))
+all-three p q e = rw (p, q) e
+
+pub not-first : {k : Bool} (x : Bool) → k ≡ false → false ≡ (k && x)
+not-first x p = rw p
+
+pub not-second : (k : Bool) {f : Bool} (g : Bool) → f ≡ false → false ≡ (k && (f && g))
+not-second true g p = rw p
+not-second false g p = refl
+
+pub inward-same : {f g h k : Bool} {x y u w : ℤ} → f ≡ h → g ≡ k → x ≡ u → y ≡ w → inward f g x y ≡ inward h k u w
+inward-same {h = h} {k} {x} {y} {u} {w} p q r s = rw (p, q) (ap₂ (inward h k) r s)
+
+-- what a test leaves of a number
+pub only-yes : {b : Bool} (x : ℤ) → b ≡ true → x ≡ only b x
+only-yes x e = rw e
+
+pub only-no : {b : Bool} (x : ℤ) → b ≡ false → pos 0 ≡ only b x
+only-no x e = rw e
+
+pub onlyN-yes : {b : Bool} (n : ℕ) → b ≡ true → n ≡ onlyN b n
+onlyN-yes n e = rw e
+
+pub onlyN-no : {b : Bool} (n : ℕ) → b ≡ false → 0 ≡ onlyN b n
+onlyN-no n e = rw e
+
+pub onlyN-most : (b : Bool) → onlyN b 1 ≤ 1
+onlyN-most true = omega arith
+onlyN-most false = omega arith
+
+pub and-yes : {a b r : Bool} → a ≡ true → r ≡ b → r ≡ (a && b)
+and-yes p e = rw p e
+
+pub cond-yes : {b : Bool} (m n : ℕ) → b ≡ true → m ≡ cond b m n
+cond-yes m n e = rw e
+
+pub cond-no : {b : Bool} (m n : ℕ) → b ≡ false → n ≡ cond b m n
+cond-no m n e = rw e
+
+-- ---- the sets of the first n nodes
+
+pub shifted : (n : ℕ) → n ≤ 60 → 1 * 2 ^ n % 18446744073709551616 ≡ 2 ^ n
+shifted n h = let k : n < 64 = omega arith in let p : 2 ^ n < 2 ^ 64 = pow-lt k in rw (one-mul, mod-eq-of-lt p)
+
+pub items-fit : (n : ℕ) → n ≤ 60 → 2 ^ n - 1 < 2 ^ 63
+items-fit n h = let k : n < 62 = omega arith in let p : 2 ^ n < 2 ^ 62 = pow-lt k in omega arith
+
+-- ---- a search for the lowest item of a set
+
+count-down : (v : ℕ) → v < 60 → 60 - v ≡ suc (60 - (v + 1))
+count-down v l = omega arith
+
+pub lowest-here : (set : ℤ) (v : ℕ) → v < 60 → memberOf set v ≡ true → v ≡ lowestOf set v (60 - v)
+lowest-here set v l e = rw (count-down v l, e)
+
+pub lowest-on : (set : ℤ) (v : ℕ) → v < 60 → memberOf set v ≡ false → lowestOf set v (60 - v) ≡ lowestOf set (v + 1) (60 - (v + 1))
+lowest-on set v l e = rw (count-down v l, e, ← add-one v)
+
+pub lowest-none : (set : ℤ) (v : ℕ) → 60 ≤ v → 0 ≡ lowestOf set v (60 - v)
+lowest-none set v l = let e : 60 - v ≡ 0 = omega arith in rw e
+
+-- ---- the same set and times, read back
+
+pub same-questions : (case : List ℤ) {x y a b u w : ℤ} → x ≡ y → a ≡ b → u ≡ w → firstNo (regionQuestions case x a u) ≡ firstNo (regionQuestions case y b w)
+same-questions case p q r = rw (p, q, r)
+
+pub same-figures : (case plan : List ℤ) {x y : ℤ} {a b u w : ℕ} → x ≡ y → a ≡ b → u ≡ w → figuresOf case plan x a u ≡ figuresOf case plan y b w
+same-figures case plan p q r = rw (p, q, r)
+
+pub same-answer : (case plan : List ℤ) {x y a b u w : ℤ} → x ≡ y → a ≡ b → u ≡ w
+    → ledgerBy (firstNo (regionQuestions case x a u)) (figuresOf case plan x (posPart a) (posPart u)) ≡ ledgerBy (firstNo (regionQuestions case y b w)) (figuresOf case plan y (posPart b) (posPart w))
+same-answer case plan p q r = rw (p, q, r)

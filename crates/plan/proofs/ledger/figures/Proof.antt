@@ -1,0 +1,79 @@
+use mathlib.Core.Path.{ap, _∙_, subst}
+use native.Mathlib.Omega.{arith}
+use borrow.Author.Needs.{needs}
+use mir.Facts.{toZ-ofZ}
+use lib.IntN.{ℤ}
+use denote.Ref.{now}
+use Rattle.case.specs.Layout.{numberAt}
+use Rattle.numbers.specs.Sets.{countOf}
+use Rattle.plan.specs.CaseFacts.{counted}
+use Rattle.plan.specs.Region.{innerPipes, regionGas}
+use Rattle.plan.specs.RegionGathering.{Gathering, pressures-held, gas-held}
+use Rattle.plan.specs.LedgerKept.{figures-are}
+use Rattle.plan.proofs.Values.{kept}
+use Rattle.plan.proofs.RegionSums.{read-back}
+use Rattle.plan.proofs.ledger.figures.Statement.{statement}
+use Rattle.plan.proofs.ledger.figures.Tie as tie
+
+-- what is gathered, for the set itself
+gathered : (c : tie.After-gather) → Gathering (now (c .before .before .before .before .args .case)) (now (c .before .before .before .before .args .plan)) (c .before .before .before .before .args .set) (c .before .before .before .before .args .s) (c .before .before .before .before .args .t) (c .gather .result)
+gathered c =
+    let s = c .before .before .before .before in
+    subst (λ (z : ℤ). Gathering (now (s .args .case)) (now (s .args .plan)) z (s .args .s) (s .args .t) (c .gather .result)) (toZ-ofZ (s .fits .set)) (c .gather .ensures)
+
+pressures-at-requires : tie.Need-pressures-at-requires
+pressures-at-requires c κs = search needs
+
+slice-aggregate-region-gas : tie.Need-slice-aggregate-region-gas
+slice-aggregate-region-gas c = search needs
+
+region-gas-requires : tie.Need-region-gas-requires
+region-gas-requires c κs = let s = c .before .before in (pressures-held (s .pre .laid .rules) (s .args .s) (omega (arith, s .pre .order, s .pre .last)) (c .before .pressures-at .ensures), s .pre .counted)
+
+gather-requires : tie.Need-gather-requires
+gather-requires c κs = search needs
+
+slice-aggregate-region-gas-2 : tie.Need-slice-aggregate-region-gas-2
+slice-aggregate-region-gas-2 c = search needs
+
+region-gas-requires-2 : tie.Need-region-gas-requires-2
+region-gas-requires-2 c κs = let s = c .before .before .before .before .before .before in (pressures-held (s .pre .laid .rules) (s .args .t) (s .pre .last) (gathered (c .before .before) .held), s .pre .counted)
+
+count-requires : tie.Need-count-requires
+count-requires c κs = search needs
+
+inner-pipes-requires : tie.Need-inner-pipes-requires
+inner-pipes-requires c κs = let s = c .before .before .before .before .before .before .before .before in let k = counted (record { yes = s .pre .laid .rules .case-yes }) in (s .pre .counted, omega (arith, s .pre .counted, k .arcs))
+
+returns : tie.Need-returns
+returns c =
+    let o = c .before .before .before .before .before .before .before in
+    let p = o .before .before in
+    let s = p .before in
+    let r = s .pre .laid .rules in
+    let z = s .fits .set in
+    let g = gathered (c .before .before .before .before .before .before) in
+    let k = counted (record { yes = r .case-yes }) in
+    figures-are (now (s .args .case)) (now (s .args .plan)) (s .args .set) (s .args .s) (s .args .t)
+    (c .before .before .count .ensures ∙ ap countOf (toZ-ofZ z))
+    (c .before .inner-pipes .ensures ∙ ap (innerPipes (now (s .args .case))) (toZ-ofZ z))
+    (kept _ (o .region-gas .ok) ∙ o .region-gas .ensures ∙ ap (λ (y : ℤ). regionGas (now (s .args .case)) y (numberAt (p .pressures-at .result))) (toZ-ofZ z) ∙ gas-held r (s .args .set) (s .args .s) (p .pressures-at .ensures))
+    (kept _ (c .before .before .before .region-gas2 .ok) ∙ c .before .before .before .region-gas2 .ensures
+    ∙ ap (λ (y : ℤ). regionGas (now (s .args .case)) y (numberAt (c .before .before .before .before .before .before .gather .result .pressures))) (toZ-ofZ z)
+    ∙ gas-held r (s .args .set) (s .args .t) (g .held))
+    g
+    (read-back _ 100000000000000000 (omega (arith, g .brought-few, s .pre .last, k .steps)) (omega arith))
+
+pub figures-spec : {M : Type 1} → statement M
+figures-spec =
+    tie.close
+    (tie.spec
+    pressures-at-requires
+    slice-aggregate-region-gas
+    region-gas-requires
+    gather-requires
+    slice-aggregate-region-gas-2
+    region-gas-requires-2
+    count-requires
+    inner-pipes-requires
+    returns)

@@ -1,0 +1,63 @@
+use Prim.Native.Nat.{_-_}
+use native.Mathlib.Omega.{arith}
+use borrow.Author.Needs.{needs}
+use denote.Ref.{now}
+use Rattle.plan.specs.CaseFacts.{counted}
+use Rattle.plan.specs.RegionGathering.{step-within, row-is, pressures-first, pressures-after}
+use Rattle.plan.proofs.ledger.pressures_at.Statement.{statement}
+use Rattle.plan.proofs.ledger.pressures_at.Tie as tie
+
+start-pressures-requires : tie.Need-start-pressures-requires
+start-pressures-requires c κs = let s = c .before in let k = counted (record { yes = s .pre .0 .rules .case-yes }) in omega (arith, k .nodes, s .pre .0 .counted)
+
+returns : tie.Need-returns
+returns c = let s = c .before .before in pressures-first (now (s .args .case)) (now (s .args .plan)) (s .pre .0 .counted) (c .before .if1 .taken) (c .start-pressures .ensures)
+
+sub-first : tie.Need-sub-first
+sub-first c = omega arith
+
+mul-first : tie.Need-mul-first
+mul-first c = let s = c .before in let w = step-within (s .pre .0 .rules) (s .pre .0 .wide) (s .args .time - 1) (omega arith) in omega arith
+
+add-first : tie.Need-add-first
+add-first c = let s = c .before in let w = step-within (s .pre .0 .rules) (s .pre .0 .wide) (s .args .time - 1) (omega arith) in omega arith
+
+add-row : tie.Need-add-row
+add-row c = let s = c .before in let w = step-within (s .pre .0 .rules) (s .pre .0 .wide) (s .args .time - 1) (omega arith) in omega arith
+
+mul-row : tie.Need-mul-row
+mul-row c = let s = c .before in let w = step-within (s .pre .0 .rules) (s .pre .0 .wide) (s .args .time - 1) (omega arith) in omega arith
+
+sub-row : tie.Need-sub-row
+sub-row c = search needs
+
+part-row-start : tie.Need-part-row-start
+part-row-start c = search needs
+
+part-row-end : tie.Need-part-row-end
+part-row-end c = let s = c .before in let w = step-within (s .pre .0 .rules) (s .pre .0 .wide) (s .args .time - 1) (omega arith) in omega arith
+
+row-pressures-requires : tie.Need-row-pressures-requires
+row-pressures-requires c κs = let s = c .before .before in let k = counted (record { yes = s .pre .0 .rules .case-yes }) in omega (arith, k .nodes, s .pre .0 .counted)
+
+returns-2 : tie.Need-returns-2
+returns-2 c =
+    let s = c .before .before .before in
+    pressures-after (now (s .args .case)) (now (s .args .plan)) (s .pre .0 .counted) (omega arith) (row-is (s .pre .0 .rules) (s .pre .0 .wide) (s .args .time - 1)) (c .row-pressures .ensures)
+
+pub pressures-at-spec : {M : Type 1} → statement M
+pressures-at-spec =
+    tie.close
+    (tie.spec
+    start-pressures-requires
+    returns
+    sub-first
+    mul-first
+    add-first
+    add-row
+    mul-row
+    sub-row
+    part-row-start
+    part-row-end
+    row-pressures-requires
+    returns-2)

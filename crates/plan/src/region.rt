@@ -1,0 +1,258 @@
+// A region is a set of nodes: its inner pipes, its edge, and what one step brings in and leaves over.
+ghost use mathlib.Core.Path.{_≡_};
+ghost use Prim.Native.Nat.{_+_, _<_, _≤_};
+ghost use Rattle.numbers.specs.SignedBounds.{Bounded};
+ghost use Rattle.numbers.specs.Sum.{onlyN};
+ghost use Rattle.case.specs.Layout.{numberAt, nodesOf, arcsOf};
+ghost use Rattle.plan.specs.Sizes.{NodesSized};
+ghost use Rattle.plan.specs.Handed.{AtBalance};
+ghost use Rattle.plan.specs.Region.{inward, innerPipe, innerPipes, innerGas, regionGas, edgeFlow, edgeFlows, regionSupply, suppliesIn, broughtIn};
+ghost use Rattle.plan.specs.RegionResidual.{ownNode, ownNodes, ownPipe, ownPipes};
+ghost use Rattle.plan.specs.RegionHanded.{RegionPressures, RegionFlows, RegionStep, RegionRoom, RegionAdded};
+use super::balance::end_flows;
+use super::balance::net_flows;
+use super::balance::node_residual;
+use super::machines::Sum;
+use super::pipes::duration;
+use super::pipes::pipe_residual;
+use super::previous::row_pressures;
+use super::rows::node_row;
+use super::totals::pipe_gas;
+use case::read::arc;
+use numbers::sets::member;
+
+// Is the arc a pipe with both ends in the set?
+pub(crate) fn inner_pipe(case: &[i64], set: i64, e: usize) -> bool
+    ensures { λ r. ⌜ r ≡ innerPipe (now (case .entry)) set e ⌝ }
+{
+    let c = arc(case, e);
+    if c.kind == 2 {
+        if member(set, c.from) {
+            return member(set, c.to);
+        }
+    }
+    false
+}
+
+fn one_if(yes: bool) -> usize
+    ensures { λ r. ⌜ r ≡ onlyN yes 1 ⌝ }
+{
+    if yes { 1 } else { 0 }
+}
+
+pub(crate) fn inner_pipes(case: &[i64], set: i64, arcs: usize) -> usize
+    requires { ⌜ (arcs ≡ arcsOf (now case)) × (arcs ≤ 120) ⌝ }
+    ensures { λ r. ⌜ r ≡ innerPipes (now (case .entry)) set ⌝ }
+{
+    let mut n: usize = 0;
+    let mut e: usize = 0;
+    while e < arcs {
+        n += one_if(inner_pipe(case, set, e));
+        e += 1;
+    }
+    n
+}
+
+// An inner pipe's gas. That of a pipe of the edge is not counted.
+fn inner_gas(case: &[i64], set: i64, pressures: &[i64], e: usize) -> i64
+    requires { ⌜ (RegionPressures (now case) (now pressures)) × (e < arcsOf (now case)) ⌝ }
+    ensures { λ r. ⌜ r ≡ innerGas (now (case .entry)) set (numberAt (now (pressures .entry))) e ⌝ }
+{
+    if inner_pipe(case, set, e) {
+        pipe_gas(case, pressures, e)
+    } else {
+        0
+    }
+}
+
+pub(crate) fn region_gas(case: &[i64], set: i64, pressures: &[i64], arcs: usize) -> i64
+    requires { ⌜ (RegionPressures (now case) (now pressures)) × (arcs ≡ arcsOf (now case)) ⌝ }
+    ensures { λ r. ⌜ r ≡ regionGas (now (case .entry)) set (numberAt (now (pressures .entry))) ⌝ }
+{
+    let mut sum = Sum { value: 0 };
+    let mut e: usize = 0;
+    while e < arcs {
+        sum.value = sum.value + inner_gas(case, set, pressures, e);
+        e += 1;
+    }
+    sum.value
+}
+
+// What flows in through an arc, by whether it begins and ends inside.
+fn inward(begins: bool, ends: bool, from: i64, to: i64) -> i64
+    requires { ⌜ Bounded from 20000000 ⌝ }
+    ensures { λ r. ⌜ r ≡ inward begins ends from to ⌝ }
+{
+    if begins {
+        if ends { 0 } else { 0 - from }
+    } else {
+        if ends { to } else { 0 }
+    }
+}
+
+fn edge_flow(case: &[i64], set: i64, row: &[i64], e: usize) -> i64
+    requires { ⌜ (RegionFlows (now case) (now row)) × (e < arcsOf (now case)) ⌝ }
+    ensures { λ r. ⌜ r ≡ edgeFlow (now (case .entry)) set (now (row .entry)) e ⌝ }
+{
+    let c = arc(case, e);
+    let flow = end_flows(case, row, e);
+    let begins = member(set, c.from);
+    let ends = member(set, c.to);
+    inward(begins, ends, flow.from, flow.to)
+}
+
+fn edge_flows(case: &[i64], set: i64, row: &[i64], arcs: usize) -> i64
+    requires { ⌜ (RegionFlows (now case) (now row)) × (arcs ≡ arcsOf (now case)) ⌝ }
+    ensures { λ r. ⌜ r ≡ edgeFlows (now (case .entry)) set (now (row .entry)) ⌝ }
+{
+    let mut sum = Sum { value: 0 };
+    let mut e: usize = 0;
+    while e < arcs {
+        sum.value = sum.value + edge_flow(case, set, row, e);
+        e += 1;
+    }
+    sum.value
+}
+
+// d at a node, if the set has it.
+fn supply(set: i64, row: &[i64], v: usize) -> i64
+    requires { ⌜ v < 60 ⌝ }
+    ensures { λ r. ⌜ r ≡ regionSupply set (now (row .entry)) v ⌝ }
+{
+    if member(set, v) {
+        node_row(row, v).d
+    } else {
+        0
+    }
+}
+
+fn supplies(case: &[i64], set: i64, row: &[i64], nodes: usize) -> i64
+    requires { ⌜ (nodes ≡ nodesOf (now case)) × (nodes ≤ 60) × (NodesSized (now case) (now row)) ⌝ }
+    ensures { λ r. ⌜ r ≡ suppliesIn (now (case .entry)) set (now (row .entry)) ⌝ }
+{
+    let mut sum = Sum { value: 0 };
+    let mut v: usize = 0;
+    while v < nodes {
+        sum.value = sum.value + supply(set, row, v);
+        v += 1;
+    }
+    sum.value
+}
+
+fn brought_in(
+    case: &[i64],
+    set: i64,
+    old: &[i64],
+    row: &[i64],
+    nodes: usize,
+    arcs: usize,
+    i: usize,
+) -> i64
+    requires { ⌜ (nodes ≡ nodesOf (now case)) × (arcs ≡ arcsOf (now case)) × (RegionStep (now case) (now old) (now row) i) ⌝ }
+    ensures { λ r. ⌜ r ≡ broughtIn (now (case .entry)) set (now (row .entry)) i ⌝ }
+{
+    let supplied = supplies(case, set, row, nodes);
+    let flowed = edge_flows(case, set, row, arcs);
+    duration(case, i) * (supplied + flowed)
+}
+
+// The left side of 33 at a node with the net flow `net`, if the set has the node.
+fn own_node(case: &[i64], set: i64, row: &[i64], i: usize, v: usize, net: i64) -> usize
+    requires { ⌜ AtBalance (now case) (now row) i v net ⌝ }
+    ensures { λ r. ⌜ r ≡ ownNode (now (case .entry)) set (now (row .entry)) i v ⌝ }
+{
+    if member(set, v) {
+        node_residual(case, row, i, v, net)
+    } else {
+        0
+    }
+}
+
+fn own_nodes(
+    case: &[i64],
+    set: i64,
+    old: &[i64],
+    row: &[i64],
+    nodes: usize,
+    arcs: usize,
+    i: usize,
+) -> usize
+    requires { ⌜ (nodes ≡ nodesOf (now case)) × (arcs ≡ arcsOf (now case)) × (RegionStep (now case) (now old) (now row) i) ⌝ }
+    ensures { λ r. ⌜ r ≡ ownNodes (now (case .entry)) set (now (row .entry)) i ⌝ }
+{
+    let net = net_flows(case, row, arcs);
+    let mut sum: usize = 0;
+    let mut v: usize = 0;
+    while v < nodes {
+        sum += own_node(case, set, row, i, v, net.flows[v]);
+        v += 1;
+    }
+    sum
+}
+
+// The left side of 28 at an inner pipe.
+fn own_pipe(case: &[i64], set: i64, old: &[i64], row: &[i64], i: usize, e: usize) -> usize
+    requires { ⌜ (RegionStep (now case) (now old) (now row) i) × (e < arcsOf (now case)) ⌝ }
+    ensures { λ r. ⌜ r ≡ ownPipe (now (case .entry)) set (numberAt (now (old .entry))) (now (row .entry)) i e ⌝ }
+{
+    if inner_pipe(case, set, e) {
+        pipe_residual(case, old, row, i, e)
+    } else {
+        0
+    }
+}
+
+fn own_pipes(case: &[i64], set: i64, old: &[i64], row: &[i64], arcs: usize, i: usize) -> usize
+    requires { ⌜ (arcs ≡ arcsOf (now case)) × (RegionStep (now case) (now old) (now row) i) ⌝ }
+    ensures { λ r. ⌜ r ≡ ownPipes (now (case .entry)) set (numberAt (now (old .entry))) (now (row .entry)) i ⌝ }
+{
+    let mut sum: usize = 0;
+    let mut e: usize = 0;
+    while e < arcs {
+        sum += own_pipe(case, set, old, row, i, e);
+        e += 1;
+    }
+    sum
+}
+
+// The left sides of both rules are sizes and add up: nothing is netted by sign.
+fn together(nodes: usize, pipes: usize) -> usize
+    requires { ⌜ nodes + pipes ≤ 180000000 ⌝ }
+    ensures { λ r. ⌜ r ≡ nodes + pipes ⌝ }
+{
+    nodes + pipes
+}
+
+// What is carried from step to step: the pressures, the gas brought in and the residual so far.
+pub struct Gathered {
+    pub pressures: [i64; 60],
+    pub brought: i64,
+    pub residual: usize,
+}
+
+// With one step more, whose part of the plan is `row`.
+pub(crate) fn with_step(
+    g: Gathered,
+    case: &[i64],
+    set: i64,
+    row: &[i64],
+    nodes: usize,
+    arcs: usize,
+    i: usize,
+) -> Gathered
+    requires { ⌜ (nodes ≡ nodesOf (now case)) × (arcs ≡ arcsOf (now case)) × (RegionStep (now case) (g .pressures) (now row) i) × (RegionRoom g) ⌝ }
+    ensures { λ r. ⌜ RegionAdded (now (case .entry)) set (now (row .entry)) i g r ⌝ }
+{
+    let old = g.pressures;
+    let brought = brought_in(case, set, &old, row, nodes, arcs, i);
+    let at_nodes = own_nodes(case, set, &old, row, nodes, arcs, i);
+    let at_pipes = own_pipes(case, set, &old, row, arcs, i);
+    let left = together(at_nodes, at_pipes);
+    let kept = g.pressures;
+    let next = row_pressures(kept, row, nodes);
+    Gathered {
+        pressures: next,
+        brought: g.brought + brought,
+        residual: g.residual + left,
+    }
+}
