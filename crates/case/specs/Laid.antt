@@ -15,6 +15,7 @@ use Rattle.case.specs.StationNodes.{stationNodes, plainNodes}
 pub record Holds {A : Type 0} (none : A) (xs : List A) (f : ℕ → A) (n : ℕ) : Type 0 where
   pub each : (i : ℕ) → i < n → getD xs i none ≡ f i
 
+-- the layout's arrays have a place for each of 8 stations; of the places past the case's own stations nothing is said
 pub record Laid (case : List ℤ) (l : Layout) : Type 0 where
   pub steps : l .steps ≡ stepsOf case
   pub nodes : l .nodes ≡ nodesOf case

@@ -131,7 +131,7 @@ pub fn judge_case(case: &[i64]) -> Answer
     }
 }
 
-// The layout of a case; of a list that 10 to 12 refuse it holds nothing.
+// The layout of a case. Of a list that 10 to 12 refuse nothing is promised: nobody reads on there.
 pub fn layout(case: &[i64]) -> Layout
     ensures { λ r. ⌜ (firstNo (listQuestions (now (case .entry))) ≡ Yes → Laid (now (case .entry)) r) ⌝ }
 {
