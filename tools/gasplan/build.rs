@@ -25,6 +25,10 @@ fn main() {
 fn folder() -> PathBuf {
     match env::var_os(FOLDER) {
         Some(named) => PathBuf::from(named),
-        None => Path::new(env!("CARGO_MANIFEST_DIR")).join("../../target/staticlib"),
+        None => {
+            let here = Path::new(env!("CARGO_MANIFEST_DIR"));
+            let root = here.ancestors().nth(2).unwrap_or(here);
+            root.join("target/staticlib")
+        }
     }
 }

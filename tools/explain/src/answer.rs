@@ -5,7 +5,7 @@ use gasplan::{Refusal, Totals, read_all};
 use gasplan_text::model::{Case, Plan};
 
 use crate::balance::{self, Balance};
-use crate::explain::{Explanation, Input, Region, explain};
+use crate::explanation::{Explanation, Input, Region, explain_refusal};
 use crate::report;
 use crate::request::{Request, all_nodes};
 use crate::svg::{Subject, picture};
@@ -58,7 +58,7 @@ struct Told {
 }
 
 fn refused(input: &Input, refusal: Refusal, region: Option<Region>) -> Told {
-    let explanation = explain(input, refusal, region);
+    let explanation = explain_refusal(input, refusal, region);
     Told {
         text: format!("{refusal}\n{}", report::refused(&explanation)),
         explanation: Some(explanation),

@@ -4,7 +4,7 @@ use gasplan::{read_all, write_all};
 use gasplan_text::layout::{CaseLayout, Counts, Field, Layout, PlanLayout, fields};
 use gasplan_text::parse::value;
 
-use crate::explain::Input;
+use crate::explanation::Input;
 
 #[derive(Clone, Copy, Debug, PartialEq, Eq)]
 pub enum File {

@@ -10,7 +10,7 @@ pub mod byte_rules;
 pub mod case_rules;
 pub mod change;
 pub mod check;
-pub mod explain;
+pub mod explanation;
 pub mod field_rules;
 pub mod node_rules;
 pub mod report;
@@ -19,4 +19,4 @@ pub mod rules;
 pub mod station_rules;
 pub mod svg;
 
-pub use explain::{Explanation, Input, Mark, Region, explain};
+pub use explanation::{Explanation, Input, Mark, Region, explain_refusal};

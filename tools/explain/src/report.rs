@@ -5,7 +5,7 @@ use gasplan_text::model::Case;
 use gasplan_text::words::{grouped, set};
 
 use crate::check::wide;
-use crate::explain::{Explanation, Region};
+use crate::explanation::{Explanation, Region};
 
 pub const NOT_PROVED: &str =
     "The verdict is the proved library's. The words and sums beside it are not proved.";

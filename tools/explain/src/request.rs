@@ -3,7 +3,7 @@
 use std::path::{Path, PathBuf};
 
 use crate::change::{Change, File, bytes_of};
-use crate::explain::Region;
+use crate::explanation::Region;
 
 pub const USAGE: &str = "\
 usage: explain FOLDER [WORDS]              case.bin and plan.bin of the folder

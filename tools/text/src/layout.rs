@@ -45,12 +45,12 @@ pub trait Layout {
     fn take(&mut self, number: i64);
 }
 
-/// A list of numbers without parts.
-pub struct NumbersLayout;
+/// The layout of a list that has no parts: no field is ever due.
+pub struct NoParts;
 
-impl Layout for NumbersLayout {
+impl Layout for NoParts {
     fn due(&self) -> Option<Field> {
-        Some(field(Part::Head, "number"))
+        None
     }
 
     fn take(&mut self, _: i64) {}

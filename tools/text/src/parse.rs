@@ -2,7 +2,7 @@
 
 use std::fmt;
 
-use crate::layout::{CaseLayout, Counts, Field, Form, Layout, NumbersLayout, PlanLayout};
+use crate::layout::{CaseLayout, Counts, Field, Form, Layout, NoParts, PlanLayout};
 use crate::words::words;
 
 /// Ends a text whose list stops before it is whole.
@@ -44,11 +44,7 @@ pub fn parse(text: &str) -> Result<Vec<i64>, Error> {
     let Some((first, rest)) = lines.split_first() else {
         return Err(ended(end, "`case`, `plan` or `numbers`"));
     };
-    let mut reader = Reader {
-        layout: layout_of(first)?,
-        list: Vec::new(),
-        place: Place::Fields,
-    };
+    let mut reader = Reader::of(first)?;
     for line in rest {
         reader.take(line)?;
     }
@@ -191,20 +187,6 @@ fn ended(line: usize, expected: &str) -> Error {
     }
 }
 
-/// The first line: what the text holds.
-fn layout_of(line: &Line) -> Result<Box<dyn Layout>, Error> {
-    let mut cursor = Cursor::new(line);
-    let wrong = cursor.wrong("`case`, `plan` or `numbers`");
-    let layout: Box<dyn Layout> = match cursor.next().map(|token| token.text) {
-        Some("case") => Box::<CaseLayout>::default(),
-        Some("numbers") => Box::new(NumbersLayout),
-        Some("plan") => Box::new(PlanLayout::new(counts(&mut cursor)?)),
-        _ => return Err(wrong),
-    };
-    cursor.end()?;
-    Ok(layout)
-}
-
 /// `2 nodes 1 arcs 0 stations`, the rows of each step.
 fn counts(cursor: &mut Cursor) -> Result<Counts, Error> {
     let nodes = count(cursor, "nodes")?;
@@ -227,11 +209,10 @@ fn count(cursor: &mut Cursor, of: &str) -> Result<usize, Error> {
 }
 
 /// Which lines may come.
-#[derive(PartialEq, Eq)]
 enum Place {
     Fields,
-    /// After `left-over`: numbers alone.
-    LeftOver,
+    /// Numbers alone: after `left-over`, and in a text of numbers.
+    Numbers,
     /// After `cut-short`: nothing.
     CutShort,
 }
@@ -243,6 +224,27 @@ struct Reader {
 }
 
 impl Reader {
+    /// By the first line, which says what the text holds.
+    fn of(line: &Line) -> Result<Reader, Error> {
+        let mut cursor = Cursor::new(line);
+        let wrong = cursor.wrong("`case`, `plan` or `numbers`");
+        let (layout, place): (Box<dyn Layout>, Place) = match cursor.next().map(|it| it.text) {
+            Some("case") => (Box::<CaseLayout>::default(), Place::Fields),
+            Some("plan") => {
+                let counts = counts(&mut cursor)?;
+                (Box::new(PlanLayout::new(counts)), Place::Fields)
+            }
+            Some("numbers") => (Box::new(NoParts), Place::Numbers),
+            _ => return Err(wrong),
+        };
+        cursor.end()?;
+        Ok(Reader {
+            layout,
+            list: Vec::new(),
+            place,
+        })
+    }
+
     fn take(&mut self, line: &Line) -> Result<(), Error> {
         let mut cursor = Cursor::new(line);
         let first = cursor.peek().map_or("", |token| token.text);
@@ -250,7 +252,7 @@ impl Reader {
             (Place::CutShort, _) => {
                 return Err(cursor.wrong(format!("nothing after `{CUT_SHORT}`")));
             }
-            (Place::LeftOver, _) => self.list.push(number(&mut cursor, "a number left over")?),
+            (Place::Numbers, _) => self.list.push(number(&mut cursor, "a whole number")?),
             (Place::Fields, Some(_)) if first == CUT_SHORT => {
                 cursor.next();
                 self.place = Place::CutShort;
@@ -262,7 +264,7 @@ impl Reader {
             }
             (Place::Fields, None) if first == LEFT_OVER => {
                 cursor.next();
-                self.place = Place::LeftOver;
+                self.place = Place::Numbers;
             }
             (Place::Fields, None) => {
                 let expected = format!("the end of the text, or `{LEFT_OVER}` before more numbers");
@@ -274,7 +276,7 @@ impl Reader {
 
     fn finish(self, end: usize) -> Result<Vec<i64>, Error> {
         match (self.place, self.layout.due()) {
-            (Place::Fields, Some(due)) if due.name != "number" => {
+            (Place::Fields, Some(due)) => {
                 let expected = format!("{due}, or `{CUT_SHORT}` if the list is to end here");
                 Err(ended(end, &expected))
             }

@@ -55,8 +55,7 @@ impl Chart<'_> {
             true => "by the library's ledger",
             false => "by sums made here: the plan is refused, so no ledger vouches for them",
         };
-        let nodes = set(balance.set);
-        let title = format!("balance of the nodes {nodes}, {whose}");
+        let title = format!("balance of the nodes {}, {whose}", set(balance.set));
         canvas.open("class=\"balance\"", &title);
         let font = Font {
             bold: true,
@@ -66,32 +65,18 @@ impl Chart<'_> {
         canvas.text(self.at.plus(Point { x: 0.0, y: 12.0 }), font, &title);
         self.gas(canvas, &balance.steps);
         let change = |step: &StepBalance| step.gas_after - step.gas_before;
-        self.bars(
-            canvas,
-            1,
-            [
-                ("brought in during the step", BROUGHT),
-                ("change of gas in the inner pipes", OTHER),
-            ],
-            balance
-                .steps
-                .iter()
-                .map(|step| [step.brought_in, change(step)])
-                .collect(),
-        );
-        self.bars(
-            canvas,
-            2,
-            [
-                ("change less brought in, its size", OTHER),
-                ("residual, which bounds it", RESIDUAL),
-            ],
-            balance
-                .steps
-                .iter()
-                .map(|step| [(change(step) - step.brought_in).abs(), step.residual])
-                .collect(),
-        );
+        let moved = |step: &StepBalance| [step.brought_in, change(step)];
+        let legend = [
+            ("brought in during the step", BROUGHT),
+            ("change of gas in the inner pipes", OTHER),
+        ];
+        self.bars(canvas, 1, legend, balance.steps.iter().map(moved).collect());
+        let off = |step: &StepBalance| [(change(step) - step.brought_in).abs(), step.residual];
+        let legend = [
+            ("change less brought in, its size", OTHER),
+            ("residual, which bounds it", RESIDUAL),
+        ];
+        self.bars(canvas, 2, legend, balance.steps.iter().map(off).collect());
         canvas.close();
     }
 

@@ -11,7 +11,7 @@ use gasplan_text::model::{Case, INNER, Plan, SINK, SOURCE};
 use gasplan_text::words::ARC_KINDS;
 
 use crate::balance::Balance;
-use crate::explain::Mark;
+use crate::explanation::Mark;
 use canvas::{Canvas, Font, PLAIN, wrapped};
 use chart::Chart;
 use network::{MARKED, Network, around, node_look, stroke, symbol};

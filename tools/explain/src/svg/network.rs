@@ -9,7 +9,7 @@ use super::labels::Labels;
 use super::point::Point;
 use crate::arc_rules::backward;
 use crate::check::wide;
-use crate::explain::Mark;
+use crate::explanation::Mark;
 use crate::node_rules::flows;
 
 /// Pixels between parallel arcs.

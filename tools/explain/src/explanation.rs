@@ -40,7 +40,7 @@ pub struct Explanation {
 }
 
 /// Explains a refusal by the library. The region is that of a ledger, where one was asked for.
-pub fn explain(input: &Input, refusal: Refusal, region: Option<Region>) -> Explanation {
+pub fn explain_refusal(input: &Input, refusal: Refusal, region: Option<Region>) -> Explanation {
     let case_list = read_all(&input.case_bytes).unwrap_or_default();
     let plan_list = read_all(&input.plan_bytes).unwrap_or_default();
     let (item, mark, checks) = match refusal.number {
