@@ -112,7 +112,11 @@ impl Chart<'_> {
             true => 0.0,
             false => (panel.low + panel.high) / 2.0,
         };
-        for number in [panel.low, between, panel.high] {
+        let ticks = match panel.high - panel.low > 2.0 {
+            true => vec![panel.low, between, panel.high],
+            false => vec![panel.low, panel.high],
+        };
+        for number in ticks {
             let at = Point {
                 x: panel.at.x - 6.0,
                 y: panel.y(number) + 4.0,

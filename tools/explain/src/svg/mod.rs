@@ -59,7 +59,7 @@ pub fn picture(subject: &Subject) -> String {
         *place = place.minus(low).plus(corner);
     }
     network(subject, case, &places).draw(&mut canvas);
-    let mut bottom = top + size.y + ABOVE;
+    let mut bottom = top + size.y + ABOVE + 20.0;
     legend(&mut canvas, case, bottom);
     bottom += 56.0;
     if let Some(balance) = subject.balance {

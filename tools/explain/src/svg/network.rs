@@ -150,13 +150,13 @@ impl Network<'_> {
 
     /// The upper left and the lower right corner of a station's box.
     fn corners(&self, station: usize) -> (Point, Point) {
-        let nodes = self.case.station_nodes(station);
-        let (low, high) = around(nodes.iter().map(|&node| self.places[node]));
-        let arcs = self.case.station_arcs(station);
-        let bows = arcs.iter().map(|&arc| self.offset(arc).abs());
+        let nodes = self.case.station_nodes(station).into_iter();
+        let arcs = self.case.station_arcs(station).into_iter();
+        let bows = arcs.map(|arc| self.bow(arc).middle);
+        let (low, high) = around(nodes.map(|node| self.places[node]).chain(bows));
         let margin = Point {
             x: MARGIN,
-            y: MARGIN + bows.fold(0.0, f64::max),
+            y: MARGIN,
         };
         (low.minus(margin), high.plus(margin))
     }
