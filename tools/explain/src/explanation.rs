@@ -131,7 +131,8 @@ fn of_item(case: &Case, plan_list: &[i64], refusal: Refusal, region: Option<Regi
     (item, Some(mark), checks_of_item(&plan, number, step, place))
 }
 
-fn checks_of_item(plan: &Plan, number: i64, step: usize, place: usize) -> Vec<Check> {
+/// The parts of a question about an item of the case (13 to 17) or of a step (21 to 33).
+pub fn checks_of_item(plan: &Plan, number: i64, step: usize, place: usize) -> Vec<Check> {
     match number {
         13 => case_rules::rule_13(plan.case, place),
         14 => case_rules::rule_14(plan.case, place),

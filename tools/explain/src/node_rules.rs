@@ -36,8 +36,13 @@ pub fn rule_21(plan: &Plan, step: usize, index: usize) -> Vec<Check> {
     checks
 }
 
+/// Asked of boundary nodes.
 pub fn rule_22(plan: &Plan, step: usize, index: usize) -> Vec<Check> {
-    let demand = plan.case.nodes[index].demand(step);
+    let node = &plan.case.nodes[index];
+    if node.kind == INNER {
+        return Vec::new();
+    }
+    let demand = node.demand(step);
     let row = plan.node(step, index);
     let met = wide(row.d) + wide(row.s_plus) - wide(row.s_minus);
     vec![check(
@@ -49,14 +54,15 @@ pub fn rule_22(plan: &Plan, step: usize, index: usize) -> Vec<Check> {
     )]
 }
 
+/// Asked where there is a demand.
 pub fn rule_23(plan: &Plan, step: usize, index: usize) -> Vec<Check> {
     let node = &plan.case.nodes[index];
-    let row = plan.node(step, index);
-    let (raised, lowered) = (
-        wide(row.p) + wide(row.u_plus),
-        wide(row.p) - wide(row.u_minus),
-    );
-    let demand = node.demand(step);
+    let (row, demand) = (plan.node(step, index), node.demand(step));
+    if demand == 0 {
+        return Vec::new();
+    }
+    let raised = wide(row.p) + wide(row.u_plus);
+    let lowered = wide(row.p) - wide(row.u_minus);
     vec![
         check(
             raised >= wide(node.actlow),

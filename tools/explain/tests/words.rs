@@ -6,9 +6,11 @@ use std::fs;
 
 use common::{EXAMPLES, ask, example, root};
 use explain::explain_refusal;
+use explain::explanation::checks_of_item;
 use explain::report::NOT_PROVED;
 use gasplan::program::verdict;
 use gasplan::{judge, read_all, write_all};
+use gasplan_text::model::{Case, Plan};
 
 /// Is this one of the lines that are printed?
 fn says(command: &str, line: &str) {
@@ -44,6 +46,10 @@ fn numbers_of_the_failed_question_are_shown() {
     says(
         "two-nodes --change plan 'step 1 node 0 d' 1000",
         "node 0 (source), step 1, 0 s to 60 s: d + s+ - s- = 1000 + 0 - 0 = 1000, not the demand 1100",
+    );
+    says(
+        "day --change plan 'step 18 node 5 s-' 1501",
+        "node 5 (sink), step 18, 61200 s to 64800 s: d + s+ - s- = -94500 + 0 - 1501 = -96001, not the demand -96000",
     );
     says(
         "two-nodes --change plan 'step 1 node 1 p' 44999",
@@ -114,6 +120,35 @@ fn totals_have_units_and_a_ledger_its_balance() {
         command,
         "           which is at most 1 steps × 1 nodes and pipes × tolerance 60 = 60",
     );
+}
+
+/// How many items the question with this number is asked of.
+fn asked_of(case: &Case, number: i64) -> usize {
+    match number {
+        13 | 24..=29 => case.arcs.len(),
+        14 | 21..=23 | 33 => case.nodes.len(),
+        _ => case.stations.len(),
+    }
+}
+
+#[test]
+fn an_accepted_plan_fails_no_part_of_any_question() {
+    for name in ["two-nodes", "line", "day"] {
+        let input = example(name);
+        let case = Case::of(&read_all(&input.case_bytes).unwrap()).unwrap();
+        let plan_list = read_all(&input.plan_bytes).unwrap();
+        let plan = Plan::new(&case, &plan_list);
+        for number in (13..=17).chain(21..=33) {
+            let steps = if number < 20 { 0..=0 } else { 1..=case.steps() };
+            for step in steps {
+                for item in 0..asked_of(&case, number) {
+                    for check in checks_of_item(&plan, number, step, item) {
+                        assert!(check.holds, "{name} {number} {step} {item}: {}", check.text);
+                    }
+                }
+            }
+        }
+    }
 }
 
 /// A fixed sequence of numbers that look random.

@@ -74,6 +74,22 @@ fn a_bad_text_is_pointed_at() {
 }
 
 #[test]
+fn a_file_past_the_program_s_limits_is_noted() {
+    let folder = Path::new(env!("CARGO_TARGET_TMPDIR")).join("long");
+    fs::create_dir_all(&folder).expect("a folder to write into");
+    fs::write(
+        folder.join("case.txt"),
+        "numbers\n".to_string() + &"0\n".repeat(1_501),
+    )
+    .unwrap();
+    let done = run(&["to-bin", &folder.display().to_string()]);
+    assert!(done.status.success());
+    let said = String::from_utf8_lossy(&done.stdout);
+    let expected = "case.bin: 1501 numbers, 1501 bytes; the program takes at most 1500 numbers";
+    assert!(said.starts_with(expected), "{said}");
+}
+
+#[test]
 fn other_words_get_the_usage() {
     for words in [
         &[][..],
