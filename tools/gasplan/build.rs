@@ -26,9 +26,9 @@ fn folder() -> PathBuf {
     match env::var_os(FOLDER) {
         Some(named) => PathBuf::from(named),
         None => {
-            let here = Path::new(env!("CARGO_MANIFEST_DIR"));
-            let root = here.ancestors().nth(2).unwrap_or(here);
-            root.join("target/staticlib")
+            let here = env::var_os("CARGO_MANIFEST_DIR").unwrap_or_default();
+            let root = Path::new(&here).ancestors().nth(2);
+            root.unwrap_or(Path::new("")).join("target/staticlib")
         }
     }
 }
