@@ -1,0 +1,14 @@
+//! Gas cases and plans as text for people: one number or named field a line.
+//!
+//! A text says with its first word what it holds, `case`, `plan` or `numbers`. Bytes are
+//! read and written by the proved library alone.
+#![forbid(unsafe_code)]
+
+pub mod files;
+pub mod layout;
+pub mod model;
+pub mod parse;
+pub mod words;
+pub mod write;
+
+pub use parse::{Error, parse};
