@@ -80,6 +80,7 @@ module _ (case : List ℤ) where
       last : (c : Bool) → AllSmall limit (cond c (fields case (row + 8) 3 (pos 0) (pos 0)) (compressorFields case row))
       last true = some-fields (row + 8) 3 (pos 0) (pos 0) (omega arith)
       last false = compressor-small row h
+
       go : (a b c : Bool) → AllSmall limit (cond a (fields case (row + 4) 7 (pos 0) (pos 0)) (cond b (pipeFields case row) (memberFields case row ++ cond c (fields case (row + 8) 3 (pos 0) (pos 0)) (compressorFields case row))))
       go true b c = some-fields (row + 4) 7 (pos 0) (pos 0) (omega arith)
       go false true c = pipe-small row h
