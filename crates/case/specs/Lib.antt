@@ -25,3 +25,4 @@ pub mod LaidLaws
 pub mod Ranges
 pub mod Accepted
 pub mod Example
+pub mod Places

@@ -14,3 +14,4 @@ pub mod Stepped
 pub mod Verdicts
 pub mod RegionSums
 pub mod RegionTests
+pub mod VerdictSizes

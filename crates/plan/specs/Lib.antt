@@ -42,3 +42,4 @@ pub mod RegionHanded
 pub mod RegionSizes
 pub mod RegionSame
 pub mod RegionGathering
+pub mod PlanPlaces
