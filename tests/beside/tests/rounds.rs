@@ -54,17 +54,75 @@ fn the_document_holds() {
     assert!(slips.is_ok(), "{slips:?}");
 }
 
-/// The library was really called: with a wrong call put in, a difference is found.
+/// Each call is really compared: with a wrong one put in, a difference is found.
 #[test]
-fn the_library_is_what_is_compared() {
-    let wrong = Judge {
-        read: Some(Box::new(|bytes, list, out| {
+fn a_wrong_call_is_found() {
+    for (name, wrong) in wrong_judges() {
+        let mut beside = Beside::new(wrong);
+        let found = (1..200).any(|seed| {
+            rounds::round(&mut beside, seed).is_err()
+                || codec_rounds::round(&mut beside, seed).is_err()
+        });
+        assert!(found, "{name}");
+    }
+}
+
+/// The library with one call spoilt.
+fn wrong_judges() -> Vec<(&'static str, Judge)> {
+    let mut all = Vec::new();
+    let mut add = |name, spoil: fn(&mut Judge)| {
+        let mut judge = library::judge();
+        spoil(&mut judge);
+        all.push((name, judge));
+    };
+    add("read", |judge| {
+        judge.read = Some(Box::new(|bytes, list, out| {
             let answer = library::read(bytes, list, out);
             if answer == 0 { 1 } else { answer }
-        })),
-        ..library::judge()
-    };
-    let mut beside = Beside::new(wrong);
-    let found = (0..20).any(|seed| codec_rounds::round(&mut beside, seed).is_err());
-    assert!(found);
+        }));
+    });
+    add("write", |judge| {
+        judge.write = Some(Box::new(|list, bytes, out| {
+            let answer = library::write(list, bytes, out);
+            bytes.iter_mut().for_each(|byte| *byte = 0);
+            answer
+        }));
+    });
+    add("case", |judge| {
+        judge.case = Some(Box::new(|case, out| {
+            library::judge_case(case, out);
+            0
+        }));
+    });
+    add("plan", |judge| {
+        judge.plan = Some(Box::new(|case, plan, out| {
+            let answer = library::judge_plan(case, plan, out);
+            raise_last_total(answer, out);
+            answer
+        }));
+    });
+    add("bytes", |judge| {
+        judge.bytes = Some(Box::new(|case, plan, cases, plans, out| {
+            let answer = library::judge_bytes(case, plan, cases, plans, out);
+            plans.iter_mut().for_each(|place| *place = 0);
+            answer
+        }));
+    });
+    add("ledger", |judge| {
+        judge.ledger = Some(Box::new(|case, plan, set, s, t, out| {
+            let answer = library::draw_ledger(case, plan, set, s, t, out);
+            raise_last_total(answer, out);
+            answer
+        }));
+    });
+    add("line", |judge| {
+        judge.line = Some(Box::new(|_, _| "accepted 0 0 0 0 0 0".to_string()));
+    });
+    all
+}
+
+fn raise_last_total(answer: i64, out: &mut [i64]) {
+    if answer == 0 {
+        out[5] += 1;
+    }
 }
