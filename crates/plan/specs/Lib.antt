@@ -22,6 +22,7 @@ pub mod Handed
 pub mod CaseFacts
 pub mod Kept
 pub mod Accepted
+pub mod Facts
 pub mod Moved
 pub mod Carried
 pub mod Summed
