@@ -1,4 +1,4 @@
-// The upper layer: a plan judged against its case, rules 20 to 33, and the six totals.
+// The upper layer: a plan judged against its case, rules 20 to 33, the six totals, and the ledger of a region.
 pub mod bools; // bools.rt: two tests as one
 pub mod rows; // rows.rt: the rows of one step as records
 pub mod setting; // setting.rt: an arc's setting, read off kind and number

@@ -29,7 +29,7 @@ pub struct Choice {
     pub state: i64,
 }
 
-pub fn node_row(row: &[i64], v: usize) -> NodeRow
+pub(crate) fn node_row(row: &[i64], v: usize) -> NodeRow
     requires { ⌜ v < 1000000 ⌝ }
     ensures { λ r. ⌜ r ≡ nodeRow (now (row .entry)) v ⌝ }
 {
@@ -45,14 +45,14 @@ pub fn node_row(row: &[i64], v: usize) -> NodeRow
 }
 
 // A node's pressure alone.
-pub fn pressure(row: &[i64], v: usize) -> i64
+pub(crate) fn pressure(row: &[i64], v: usize) -> i64
     requires { ⌜ v < 1000000 ⌝ }
     ensures { λ r. ⌜ r ≡ pressureIn (now (row .entry)) v ⌝ }
 {
     at(row, v * 6)
 }
 
-pub fn arc_row(case: &[i64], row: &[i64], e: usize) -> ArcRow
+pub(crate) fn arc_row(case: &[i64], row: &[i64], e: usize) -> ArcRow
     requires { ⌜ (Counted (now case)) × (e < arcsOf (now case)) ⌝ }
     ensures { λ r. ⌜ r ≡ arcRow (now (case .entry)) (now (row .entry)) e ⌝ }
 {
@@ -66,7 +66,7 @@ pub fn arc_row(case: &[i64], row: &[i64], e: usize) -> ArcRow
     }
 }
 
-pub fn choice_of(case: &[i64], row: &[i64], s: usize) -> Choice
+pub(crate) fn choice_of(case: &[i64], row: &[i64], s: usize) -> Choice
     requires { ⌜ (Counted (now case)) × (s < stationsOf (now case)) ⌝ }
     ensures { λ r. ⌜ r ≡ choiceOf (now (case .entry)) (now (row .entry)) s ⌝ }
 {

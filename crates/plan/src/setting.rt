@@ -75,7 +75,7 @@ fn active(kind: usize, n: usize) -> Setting
     }
 }
 
-pub fn setting_of(kind: usize, number: i64) -> Setting
+pub(crate) fn setting_of(kind: usize, number: i64) -> Setting
     ensures { λ r. ⌜ r ≡ settingOf kind number ⌝ }
 {
     if at_most(0, number) {
