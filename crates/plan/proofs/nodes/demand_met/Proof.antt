@@ -1,38 +1,34 @@
--- [head]
-use mathlib.Core.Path.{_≡_, refl, sym, ap, ap₂, _∙_, subst}
-use mathlib.Core.Bool.{Bool, true, false, cond, not, _&&_, _||_}
-use lib.IntN.{ℤ, pos, negsuc, natAbs, _+ℤ_, _-ℤ_, _*ℤ_}
-use Rattle.numbers.specs.SignedLocals.{Held, held, param, plain, literal, loosen, renamed, held<, held-fits, held-fits<, _+ʳ_, _-ʳ_, _*ʳ_, absʳ-neg, absʳ-pos}
+-- `plan::nodes::demand_met` meets its contract. Assumes nothing.
+use Rattle.numbers.specs.SignedLocals.{held, param, held-fits, _+ʳ_, _-ʳ_}
 use Rattle.plan.proofs.Values.{kept}
 use borrow.Author.Needs.{needs}
-use borrow.Author.Tests.{ltb-true, ltb-false, leb-true, leb-false, eqb-true, eqb-false, not-true, not-false, lt-ltb, le-ltb, le-leb, lt-leb, eq-eqb, ne-eqb}
+use borrow.Author.Tests.{eq-eqb, ne-eqb}
 use Rattle.plan.specs.NodeRules.{demandMet}
-use Rattle.plan.specs.Compared.{same}
--- [/head]
 use Rattle.plan.proofs.nodes.demand_met.Statement.{statement}
 use Rattle.plan.proofs.nodes.demand_met.Tie as tie
-use Rattle.plan.proofs.nodes.demand_met.Reads as reads
-use Rattle.plan.proofs.nodes.demand_met.Lts as lts
-use Rattle.numbers.proofs.compare.same.Reads as same-reads
 
--- src/nodes.rt:74:14
+-- either slack may be added, and the other taken away
 add-same : tie.Need-add-same
-add-same c = held-fits (param (c .before .before .before .before .pre .d) tt +ʳ param (c .before .before .before .before .pre .splus) tt) tt
+add-same c =
+    let p = c .before .before .before .before .pre in
+    let plus = held-fits (param (p .d) tt +ʳ param (p .splus) tt) tt in
+    let minus = held-fits (param (p .d) tt +ʳ param (p .sminus) tt) tt in
+    search needs
 
--- src/nodes.rt:74:14
 sub-same : tie.Need-sub-same
-sub-same c = held-fits (held (param (c .before .before .before .before .before .before .pre .d) tt +ʳ param (c .before .before .before .before .before .before .pre .splus) tt) tt -ʳ param (c .before .before .before .before .before .before .pre .sminus) tt) tt
+sub-same c =
+    let p = c .before .before .before .before .before .before .pre in
+    let plus = held-fits (held (param (p .d) tt +ʳ param (p .splus) tt) tt -ʳ param (p .sminus) tt) tt in
+    let minus = held-fits (held (param (p .d) tt +ʳ param (p .sminus) tt) tt -ʳ param (p .splus) tt) tt in
+    search needs
 
--- src/nodes.rt:74:9
 same-requires : tie.Need-same-requires
 same-requires c κs = search needs
 
--- src/nodes.rt:67:1
 returns : tie.Need-returns
 unfolding demandMet
 returns c = rw (eq-eqb _ _ (c .if1 .taken))
 
--- src/nodes.rt:67:1
 returns-2 : tie.Need-returns-2
 unfolding demandMet
 returns-2 c =

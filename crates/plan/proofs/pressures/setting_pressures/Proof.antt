@@ -1,6 +1,8 @@
 use mathlib.Core.Path.{sym, ap, _∙_}
+use Prim.Native.Nat.{_<_}
 use denote.Ref.{now}
 use Rattle.case.specs.declared.records.Arc.{Arc}
+use Rattle.case.specs.Layout.{nodesOf}
 use Rattle.plan.specs.declared.setting.Setting.the-variants.{Active}
 use Rattle.plan.specs.ArcPressures.{modePressures}
 use Rattle.plan.specs.CaseFacts.{from-node, to-node}
@@ -43,7 +45,10 @@ mode-pressures-requires-2 c κs =
     let a = s .pre .0 in
     let ac = a .at .accepted in
     let q = c .before .before .arc .ensures in
-    (a, rw q (to-node ac (s .args .e) (a .arc)), rw q (from-node ac (s .args .e) (a .arc)), λ m. compressing-kind _ _ (t .setting .given .0 .0) (sym (s .pre .1) ∙ t .setting .given .1 ∙ ap (Active (t .setting .given .0 .0)) m))
+    -- either end is a node: which end is which, the promise decides
+    let to : c .before .before .arc .result .to < nodesOf (now (s .args .case)) = rw q (to-node ac (s .args .e) (a .arc)) in
+    let from : c .before .before .arc .result .from < nodesOf (now (s .args .case)) = rw q (from-node ac (s .args .e) (a .arc)) in
+    (a, search needs, search needs, λ m. compressing-kind _ _ (t .setting .given .0 .0) (sym (s .pre .1) ∙ t .setting .given .1 ∙ ap (Active (t .setting .given .0 .0)) m))
 
 returns : tie.Need-returns
 returns c = rw (c .enum-told .given .1)
