@@ -1,9 +1,8 @@
--- [head]
-use mathlib.Core.Path.{_≡_, refl, sym, ap, ap₂, _∙_, subst}
-use mathlib.Core.Bool.{Bool, true, false, cond, not, _&&_, _||_}
-use Prim.Native.Nat.{ℕ, zero, suc, _+_, _*_, _-_, _^_, _<_, _≤_}
+use mathlib.Core.Path.{_≡_, ap, _∙_}
+use mathlib.Core.Bool.{false, _&&_}
+use Prim.Native.Nat.{_-_, _<_, _≤_}
 use native.Mathlib.Omega.{arith}
-use borrow.Author.Tests.{ltb-true, ltb-false, leb-true, leb-false, eqb-true, eqb-false, not-true, not-false, lt-ltb, le-ltb, le-leb, lt-leb, eq-eqb, ne-eqb}
+use borrow.Author.Tests.{le-leb, lt-leb}
 use mathlib.Core.Logic.{⊎-elim}
 use Rattle.plan.proofs.Values.{kept}
 use borrow.Author.Needs.{needs}
@@ -11,23 +10,15 @@ use lib.Dec.{leb}
 use Rattle.plan.specs.ArcFlows.{flowAllowed, noFlowAgainst}
 use Rattle.plan.specs.Setting.{settingOf}
 use Rattle.plan.specs.declared.setting.Setting.{Setting}
--- [/head]
 use Rattle.plan.proofs.flows.flow_allowed.Statement.{statement}
 use Rattle.plan.proofs.flows.flow_allowed.Tie as tie
-use Rattle.plan.proofs.flows.flow_allowed.Reads as reads
-use Rattle.plan.proofs.flows.flow_allowed.Lts as lts
-use Rattle.plan.proofs.flows.no_flow_against.Reads as no-flow-against-reads
-use Rattle.plan.proofs.setting.setting_of.Reads as setting-of-reads
 
--- src/flows.rt:125:41
 setting-of-requires : tie.Need-setting-of-requires
 setting-of-requires c κs = search needs
 
--- src/flows.rt:125:14
 no-flow-against-requires : tie.Need-no-flow-against-requires
 no-flow-against-requires c κs = search needs
 
--- src/flows.rt:119:1
 returns : tie.Need-returns
 unfolding flowAllowed
 returns c =
@@ -36,7 +27,6 @@ returns c =
     let b : k ≤ 2 = omega arith in
     rw (le-leb _ _ a, le-leb _ _ b)
 
--- src/flows.rt:119:1
 returns-2 : tie.Need-returns-2
 unfolding flowAllowed
 returns-2 c =

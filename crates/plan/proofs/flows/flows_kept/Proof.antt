@@ -1,19 +1,14 @@
--- [head]
-use mathlib.Core.Path.{_≡_, refl, sym, ap, ap₂, _∙_, subst}
-use mathlib.Core.Bool.{Bool, true, false, cond, not, _&&_, _||_}
-use lib.IntN.{ℤ, pos, negsuc, natAbs, _+ℤ_, _-ℤ_, _*ℤ_}
-use Rattle.numbers.specs.SignedLocals.{Held, held, param, plain, literal, loosen, renamed, held<, held-fits, held-fits<, _+ʳ_, _-ʳ_, _*ʳ_, absʳ-neg, absʳ-pos}
+use mathlib.Core.Path.{_≡_, _∙_}
+use mathlib.Core.Bool.{_&&_}
+use lib.IntN.{ℤ, pos}
+use Rattle.numbers.specs.SignedLocals.{held, param, literal, held-fits, _-ʳ_}
 use Rattle.plan.proofs.Values.{kept}
-use borrow.Author.Tests.{ltb-true, ltb-false, leb-true, leb-false, eqb-true, eqb-false, not-true, not-false, lt-ltb, le-ltb, le-leb, lt-leb, eq-eqb, ne-eqb}
+use borrow.Author.Tests.{ne-eqb}
 use borrow.Author.Needs.{needs}
 use Rattle.plan.specs.ArcFlows.{flowsKept}
 use Rattle.plan.specs.Compared.{within}
--- [/head]
 use Rattle.plan.proofs.flows.flows_kept.Statement.{statement}
 use Rattle.plan.proofs.flows.flows_kept.Tie as tie
-use Rattle.plan.proofs.flows.flows_kept.Reads as reads
-use Rattle.plan.proofs.flows.flows_kept.Lts as lts
-use Rattle.plan.proofs.flows.both_within.Reads as both-within-reads
 
 -- [pre]
 ranges : {l l' a a' m m' b b' : ℤ} → l ≡ l' → a ≡ a' → m ≡ m' → b ≡ b' → (within l a m && within l b m) ≡ (within l' a' m' && within l' b' m')
@@ -21,23 +16,18 @@ ranges p q r s = rw (p, q, r, s)
 
 -- [/pre]
 
--- src/flows.rt:47:14
 both-within-requires : tie.Need-both-within-requires
 both-within-requires c κs = search needs
 
--- src/flows.rt:48:26
 sub-both-within : tie.Need-sub-both-within
 sub-both-within c = held-fits (literal (pos 0) -ʳ param (c .before .before .before .pre) tt) tt
 
--- src/flows.rt:48:14
 both-within-requires-2 : tie.Need-both-within-requires-2
 both-within-requires-2 c κs = search needs
 
--- src/flows.rt:49:14
 both-within-requires-3 : tie.Need-both-within-requires-3
 both-within-requires-3 c κs = search needs
 
--- src/flows.rt:41:1
 returns : tie.Need-returns
 unfolding flowsKept
 returns c =
@@ -46,7 +36,6 @@ returns c =
     let u = c .before .before .struct-told2 .given in
     rw (c .before .before .before .before .match .keys1) (simp (kept (a .r .a) (t .0 .1), kept (a .r .b) (t .1 .0 .1), kept (a .c .qmax) (u .1 .1 .1 .0 .1)) at (c .both-within .ensures))
 
--- src/flows.rt:41:1
 returns-2 : tie.Need-returns-2
 unfolding flowsKept
 returns-2 c =
@@ -55,7 +44,6 @@ returns-2 c =
     let q = (held (literal (pos 0) -ʳ param (c .before .before .before .before .before .before .before .before .pre) tt) tt) .val in
     rw (c .before .before .before .before .before .before .before .match .keys2) (c .both-within2 .ensures ∙ ranges q (kept (a .r .a) (t .0 .1)) (kept (a .c .qmax) (c .before .before .before .before .before .struct-told4 .given .1 .1 .1 .0 .1)) (kept (a .r .b) (t .1 .0 .1)))
 
--- src/flows.rt:41:1
 returns-3 : tie.Need-returns-3
 unfolding flowsKept
 returns-3 c =

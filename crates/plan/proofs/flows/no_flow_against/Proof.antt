@@ -1,6 +1,5 @@
--- [head]
-use mathlib.Core.Path.{_≡_, refl, sym, ap, ap₂, _∙_, subst}
-use mathlib.Core.Bool.{Bool, true, false, cond, not, _&&_, _||_}
+use mathlib.Core.Path.{_≡_, refl, ap₂, _∙_}
+use mathlib.Core.Bool.{true, false, _&&_}
 use Rattle.plan.proofs.Values.{kept}
 use borrow.Author.Needs.{needs}
 use Rattle.plan.specs.Compared.{isZero}
@@ -10,13 +9,8 @@ use Rattle.plan.specs.declared.setting.Way.the-variants.{Forward, Backwa
 use Rattle.plan.specs.declared.setting.Mode.{Mode}
 use Rattle.plan.specs.declared.setting.Setting.the-variants.{Active}
 use Rattle.plan.specs.ArcFlows.{noFlowAgainst}
--- [/head]
 use Rattle.plan.proofs.flows.no_flow_against.Statement.{statement}
 use Rattle.plan.proofs.flows.no_flow_against.Tie as tie
-use Rattle.plan.proofs.flows.no_flow_against.Reads as reads
-use Rattle.plan.proofs.flows.no_flow_against.Lts as lts
-use Rattle.numbers.proofs.compare.same.Reads as same-reads
-use Rattle.plan.proofs.bools.both.Reads as both-reads
 
 -- [pre]
 -- an arc that is not artificial has no direction to go against
@@ -26,51 +20,39 @@ open-valve Backward mode r = refl
 
 -- [/pre]
 
--- src/flows.rt:92:29
 enum-told : tie.Need-enum-told
 enum-told c = search needs
 
--- src/flows.rt:93:30
 enum-told-2 : tie.Need-enum-told-2
 enum-told-2 c = search needs
 
--- src/flows.rt:93:30
 same-requires : tie.Need-same-requires
 same-requires c κs = search needs
 
--- src/flows.rt:93:44
 same-requires-2 : tie.Need-same-requires-2
 same-requires-2 c κs = search needs
 
--- src/flows.rt:93:25
 both-requires : tie.Need-both-requires
 both-requires c κs = search needs
 
--- src/flows.rt:94:27
 enum-known-s : tie.Need-enum-known-s
 enum-known-s c = search needs
 
--- src/flows.rt:97:37
 enum-told-3 : tie.Need-enum-told-3
 enum-told-3 c = search needs
 
--- src/flows.rt:97:37
 same-requires-3 : tie.Need-same-requires-3
 same-requires-3 c κs = search needs
 
--- src/flows.rt:98:38
 enum-told-4 : tie.Need-enum-told-4
 enum-told-4 c = search needs
 
--- src/flows.rt:98:38
 same-requires-4 : tie.Need-same-requires-4
 same-requires-4 c κs = search needs
 
--- src/flows.rt:88:1
 returns : tie.Need-returns
 returns c = search needs
 
--- src/flows.rt:88:1
 returns-2 : tie.Need-returns-2
 returns-2 c =
     let a = c .before .before .before .before .before .before .before .args in
@@ -79,15 +61,12 @@ returns-2 c =
     let w2 : c .before .same2 .result ≡ isZero (a .r .b) = simp (kept (a .r .b) (t .1 .0 .1)) at (c .before .same2 .ensures) in
     rw (c .before .before .before .before .before .enum-told2 .given .1) (c .both .ensures ∙ ap₂ _&&_ w1 w2)
 
--- src/flows.rt:88:1
 returns-3 : tie.Need-returns-3
 returns-3 c = rw (c .before .before .before .before .before .before .s .given .1, c .before .before .enum-told3 .given .1, c .before .before .before .before .if1 .taken) (simp (kept (c .before .before .before .before .before .before .before .before .args .r .b) (c .before .struct-told3 .given .1 .0 .1)) at (c .same3 .ensures))
 
--- src/flows.rt:88:1
 returns-4 : tie.Need-returns-4
 returns-4 c = rw (c .before .before .before .before .before .before .s .given .1, c .before .before .enum-told4 .given .1, c .before .before .before .before .if1 .taken) (simp (kept (c .before .before .before .before .before .before .before .before .args .r .a) (c .before .struct-told4 .given .0 .1)) at (c .same4 .ensures))
 
--- src/flows.rt:88:1
 returns-5 : tie.Need-returns-5
 returns-5 c = rw (c .before .before .s .given .1, c .if1 .left) (open-valve (c .before .before .s .given .0 .0) (c .before .before .s .given .0 .1 .0) (c .before .before .before .before .args .r))
 

@@ -1,45 +1,31 @@
--- [head]
-use mathlib.Core.Path.{_≡_, refl, sym, ap, ap₂, _∙_, subst}
 use borrow.Author.Needs.{needs}
--- [/head]
 use Rattle.plan.proofs.flows.setting_allowed.Statement.{statement}
 use Rattle.plan.proofs.flows.setting_allowed.Tie as tie
-use Rattle.plan.proofs.flows.setting_allowed.Reads as reads
-use Rattle.plan.proofs.flows.setting_allowed.Lts as lts
 
--- src/flows.rt:71:29
 enum-told : tie.Need-enum-told
 enum-told c = search needs
 
--- src/flows.rt:72:25
 enum-told-2 : tie.Need-enum-told-2
 enum-told-2 c = search needs
 
--- src/flows.rt:73:27
 enum-known-s : tie.Need-enum-known-s
 enum-known-s c = search needs
 
--- src/flows.rt:74:29
 enum-told-3 : tie.Need-enum-told-3
 enum-told-3 c = search needs
 
--- src/flows.rt:75:30
 enum-told-4 : tie.Need-enum-told-4
 enum-told-4 c = search needs
 
--- src/flows.rt:67:1
 returns : tie.Need-returns
 returns c = search needs
 
--- src/flows.rt:67:1
 returns-2 : tie.Need-returns-2
 returns-2 c = search needs
 
--- src/flows.rt:67:1
 returns-3 : tie.Need-returns-3
 returns-3 c = search needs
 
--- src/flows.rt:67:1
 returns-4 : tie.Need-returns-4
 returns-4 c = rw (c .before .before .before .s .given .1, c .enum-told4 .given .1)
 

@@ -1,48 +1,33 @@
--- [head]
-use mathlib.Core.Path.{_≡_, refl, sym, ap, ap₂, _∙_, subst}
-use mathlib.Core.Bool.{Bool, true, false, cond, not, _&&_, _||_}
-use lib.IntN.{ℤ, pos, negsuc, natAbs, _+ℤ_, _-ℤ_, _*ℤ_}
-use Rattle.numbers.specs.SignedLocals.{Held, held, param, plain, literal, loosen, renamed, held<, held-fits, held-fits<, _+ʳ_, _-ʳ_, _*ʳ_, absʳ-neg, absʳ-pos}
+use mathlib.Core.Path.{_≡_, sym, ap₂, _∙_}
+use mathlib.Core.Bool.{true, false, _&&_}
+use lib.IntN.{_+ℤ_, _-ℤ_}
+use Rattle.numbers.specs.SignedLocals.{held, param, held-fits, _+ʳ_, _-ʳ_}
 use Rattle.plan.proofs.Values.{kept}
 use borrow.Author.Needs.{needs}
-use borrow.Author.Tests.{ltb-true, ltb-false, leb-true, leb-false, eqb-true, eqb-false, not-true, not-false, lt-ltb, le-ltb, le-leb, lt-leb, eq-eqb, ne-eqb}
 use lib.Signed.{leZ}
 use Rattle.plan.specs.NodeRules.{activeBoundsKept}
 use Rattle.plan.specs.Compared.{isZero}
--- [/head]
 use Rattle.plan.proofs.nodes.active_bounds_kept.Statement.{statement}
 use Rattle.plan.proofs.nodes.active_bounds_kept.Tie as tie
-use Rattle.plan.proofs.nodes.active_bounds_kept.Reads as reads
-use Rattle.plan.proofs.nodes.active_bounds_kept.Lts as lts
-use Rattle.numbers.proofs.compare.at_most.Reads as at-most-reads
-use Rattle.numbers.proofs.compare.same.Reads as same-reads
-use Rattle.plan.proofs.bools.both.Reads as both-reads
 
--- src/nodes.rt:83:8
 same-requires : tie.Need-same-requires
 same-requires c κs = search needs
 
--- src/nodes.rt:87:31
 add-at-most : tie.Need-add-at-most
 add-at-most c = held-fits (param (c .before .before .before .before .before .pre .p) tt +ʳ param (c .before .before .before .before .before .pre .uplus) tt) tt
 
--- src/nodes.rt:87:13
 at-most-requires : tie.Need-at-most-requires
 at-most-requires c κs = search needs
 
--- src/nodes.rt:88:21
 sub-at-most : tie.Need-sub-at-most
 sub-at-most c = held-fits (param (c .before .before .before .before .before .before .before .before .before .pre .p) tt -ʳ param (c .before .before .before .before .before .before .before .before .before .pre .uminus) tt) tt
 
--- src/nodes.rt:88:13
 at-most-requires-2 : tie.Need-at-most-requires-2
 at-most-requires-2 c κs = search needs
 
--- src/nodes.rt:86:9
 both-requires : tie.Need-both-requires
 both-requires c κs = search needs
 
--- src/nodes.rt:79:1
 returns : tie.Need-returns
 unfolding activeBoundsKept
 returns c =
@@ -50,7 +35,6 @@ returns c =
     let e : isZero (n .demand) ≡ true = simp (kept (n .demand) (c .before .before .struct-told .given .1 .1 .1 .1 .1 .1 .0 .1)) at (sym (c .before .same .ensures) ∙ c .if1 .taken) in
     rw e
 
--- src/nodes.rt:79:1
 returns-2 : tie.Need-returns-2
 unfolding activeBoundsKept
 returns-2 c =

@@ -1,33 +1,18 @@
--- [head]
-use mathlib.Core.Path.{_≡_, refl, sym, ap, ap₂, _∙_, subst}
-use mathlib.Core.Bool.{Bool, true, false, cond, not, _&&_, _||_}
-use Prim.Native.Nat.{ℕ, zero, suc, _+_, _*_, _-_, _^_, _<_, _≤_}
+use mathlib.Core.Path.{_≡_, sym, ap, ap₂, _∙_}
+use mathlib.Core.Bool.{Bool, true, false}
+use Prim.Native.Nat.{_+_, _-_}
 use native.Mathlib.Omega.{arith}
 use denote.Ref.{now}
 use borrow.Author.Needs.{needs}
-use mathlib.Core.List.{List, [], _∷_, _++_}
-use lib.IntN.{ℤ, pos, negsuc, natAbs, _+ℤ_, _-ℤ_, _*ℤ_}
-use Rattle.case.specs.declared.records.Node.{Node}
-use Rattle.plan.specs.declared.rows.NodeRow.{NodeRow}
-use Rattle.numbers.specs.Question.{firstNo, answer, orElse, orElse-yes}
+use Rattle.numbers.specs.Question.{answer, orElse, orElse-yes}
 use Rattle.case.specs.Records.{nodeOf}
 use Rattle.plan.specs.PlanRecords.{nodeRow}
 use Rattle.plan.specs.NodeRules.{nodeNumbersKept, demandMet, activeBoundsKept, nodeQuestions}
 use Rattle.plan.specs.Sizes.{NodeSized, NodeRowSized}
 use Rattle.plan.specs.CaseFacts.{counted, node-sized}
 use Rattle.plan.specs.Kept.{numbers-sized}
--- [/head]
 use Rattle.plan.proofs.nodes.node_answer.Statement.{statement}
 use Rattle.plan.proofs.nodes.node_answer.Tie as tie
-use Rattle.plan.proofs.nodes.node_answer.Reads as reads
-use Rattle.plan.proofs.nodes.node_answer.Lts as lts
-use Rattle.case.proofs.read.node.Reads as node-reads
-use Rattle.numbers.proofs.answer.ask.Reads as ask-reads
-use Rattle.numbers.proofs.answer.or_else.Reads as or-else-reads
-use Rattle.plan.proofs.nodes.active_bounds_kept.Reads as active-bounds-kept-reads
-use Rattle.plan.proofs.nodes.demand_met.Reads as demand-met-reads
-use Rattle.plan.proofs.nodes.numbers_kept.Reads as numbers-kept-reads
-use Rattle.plan.proofs.rows.node_row.Reads as node-row-reads
 
 -- [pre]
 -- past 21 the row's numbers are in range
@@ -39,51 +24,39 @@ row-sized c =
 
 -- [/pre]
 
--- src/nodes.rt:97:9
 node-requires : tie.Need-node-requires
 node-requires c κs = search needs
 
--- src/nodes.rt:98:9
 node-row-requires : tie.Need-node-row-requires
 node-row-requires c κs = let p = c .before .pre in omega (arith, counted (p .0) .nodes, p .2)
 
--- src/nodes.rt:99:8
 numbers-kept-requires : tie.Need-numbers-kept-requires
 numbers-kept-requires c κs = let p = c .before .before .pre in rw (c .before .node .ensures) (node-sized (p .0) _ (p .2) _ (p .1))
 
--- src/nodes.rt:101:17
 demand-met-requires : tie.Need-demand-met-requires
 demand-met-requires c κs = row-sized c
 
--- src/nodes.rt:101:39
 add-ask : tie.Need-add-ask
 add-ask c = let p = c .before .before .before .before .before .pre in omega (arith, counted (p .0) .steps, p .1)
 
--- src/nodes.rt:101:13
 ask-requires : tie.Need-ask-requires
 ask-requires c κs = search needs
 
--- src/nodes.rt:102:17
 active-bounds-kept-requires : tie.Need-active-bounds-kept-requires
 active-bounds-kept-requires c κs = row-sized (c .before .before)
 
--- src/nodes.rt:102:47
 add-ask-2 : tie.Need-add-ask-2
 add-ask-2 c = let p = c .before .before .before .before .before .before .before .pre in omega (arith, counted (p .0) .steps, p .1)
 
--- src/nodes.rt:102:13
 ask-requires-2 : tie.Need-ask-requires-2
 ask-requires-2 c κs = search needs
 
--- src/nodes.rt:100:9
 or-else-requires : tie.Need-or-else-requires
 or-else-requires c κs = search needs
 
--- src/nodes.rt:107:19
 add-t15 : tie.Need-add-t15
 add-t15 c = let p = c .before .before .before .before .pre in omega (arith, counted (p .0) .steps, p .1)
 
--- src/nodes.rt:93:1
 returns : tie.Need-returns
 unfolding nodeQuestions
 returns c =
@@ -97,7 +70,6 @@ returns c =
     (c .or-else .ensures
     ∙ ap₂ orElse (c .before .before .before .ask .ensures ∙ ap (λ (b : Bool). answer b 22 (a .i + 1) (a .v)) k2) (c .before .ask2 .ensures ∙ ap (λ (b : Bool). answer b 23 (a .i + 1) (a .v)) k3))
 
--- src/nodes.rt:93:1
 returns-2 : tie.Need-returns-2
 unfolding nodeQuestions
 returns-2 c =

@@ -1,6 +1,5 @@
--- [head]
-use mathlib.Core.Path.{_≡_, refl, sym, ap, ap₂, _∙_, subst}
-use Prim.Native.Nat.{ℕ, zero, suc, _+_, _*_, _-_, _^_, _<_, _≤_}
+use mathlib.Core.Path.{_≡_, sym}
+use Prim.Native.Nat.{_-_, _≤_}
 use native.Mathlib.Omega.{arith}
 use denote.Ref.{now}
 use borrow.Author.Needs.{needs}
@@ -8,13 +7,8 @@ use Rattle.numbers.specs.Question.{firstNo}
 use Rattle.numbers.specs.Items.{over, rest, rest-on, rest-no, rest-end}
 use Rattle.plan.specs.NodeRules.{nodeQuestions, allNodeQuestions}
 use Rattle.plan.specs.CaseFacts.{counted}
-use Rattle.case.specs.Layout.{nodesOf}
--- [/head]
 use Rattle.plan.proofs.nodes.node_answers.Statement.{statement}
 use Rattle.plan.proofs.nodes.node_answers.Tie as tie
-use Rattle.plan.proofs.nodes.node_answers.Reads as reads
-use Rattle.plan.proofs.nodes.node_answers.Lts as lts
-use Rattle.plan.proofs.nodes.node_answer.Reads as node-answer-reads
 
 abbrev Inv-loop : tie.InvT-loop
 Inv-loop case row i nodes v₀ v = (v ≤ nodes) × (firstNo (over (nodeQuestions case row i) 0 nodes) ≡ rest (nodeQuestions case row i) v nodes)
@@ -22,22 +16,18 @@ Inv-loop case row i nodes v₀ v = (v ≤ nodes) × (firstNo (over (nodeQuestion
 abbrev μ-loop : tie.MeasureT-loop
 μ-loop case row i nodes v₀ v = nodes - v
 
--- src/nodes.rt:118:5
 loop-holds : tie.Need-loop-holds Inv-loop μ-loop
 loop-holds c = (omega arith, let e : c .args .nodes - 0 ≡ c .args .nodes = omega arith in rw e)
 
--- src/nodes.rt:119:13
 node-answer-requires : tie.Need-node-answer-requires Inv-loop μ-loop
 node-answer-requires c κs = let p = c .before .before .pre in (p .0, p .1, rw (p .2) at (c .loop-test .taken))
 
 enum-told : tie.Need-enum-told Inv-loop μ-loop
 enum-told c = search needs
 
--- src/nodes.rt:127:17
 enum-told-2 : tie.Need-enum-told-2 Inv-loop μ-loop
 enum-told-2 c = search needs
 
--- src/nodes.rt:127:17
 returns : tie.Need-returns Inv-loop μ-loop
 unfolding allNodeQuestions
 returns c =
@@ -46,15 +36,12 @@ returns c =
     let f = nodeQuestions (now (a .case)) (now (a .row)) (a .i) in
     rw (← h .before .pre .2) (sym (rest-no f (h .loop .v) (a .nodes) (h .loop .inv .1) (c .before .before .before .loop-test .taken) (c .before .before .node-answer .ensures) (c .enum-told2 .given .1)))
 
--- src/nodes.rt:130:9
 add-v : tie.Need-add-v Inv-loop μ-loop
 add-v c = let p = c .before .before .before .before .before .pre in omega (arith, counted (p .0) .nodes, p .2, c .before .before .before .loop-test .taken)
 
--- src/nodes.rt:118:5
 loop-less : tie.Need-loop-less Inv-loop μ-loop
 loop-less c = omega arith
 
--- src/nodes.rt:118:5
 loop-again : tie.Need-loop-again Inv-loop μ-loop
 loop-again c =
     let h = c .before .before .before .before in
@@ -62,7 +49,6 @@ loop-again c =
     let f = nodeQuestions (now (a .case)) (now (a .row)) (a .i) in
     (omega arith, rest-on f (h .loop .v) (a .nodes) (h .loop .inv .1) (c .before .before .before .loop-test .taken) (c .before .before .node-answer .ensures) (c .enum-told .given .1))
 
--- src/nodes.rt:113:1
 returns-2 : tie.Need-returns-2 Inv-loop μ-loop
 unfolding allNodeQuestions
 returns-2 c =

@@ -1,72 +1,51 @@
--- [head]
-use mathlib.Core.Path.{_≡_, refl, sym, ap, ap₂, _∙_, subst}
-use mathlib.Core.Bool.{Bool, true, false, cond, not, _&&_, _||_}
-use lib.IntN.{ℤ, pos, negsuc, natAbs, _+ℤ_, _-ℤ_, _*ℤ_}
-use Rattle.numbers.specs.SignedLocals.{Held, held, param, plain, literal, loosen, renamed, held<, held-fits, held-fits<, _+ʳ_, _-ʳ_, _*ʳ_, absʳ-neg, absʳ-pos}
-use mir.Facts.{toZ-ofZ}
+use mathlib.Core.Path.{_≡_, ap, ap₂, _∙_}
+use mathlib.Core.Bool.{_&&_}
+use lib.IntN.{pos, _-ℤ_}
+use Rattle.numbers.specs.SignedLocals.{held, param, held-fits, _-ʳ_}
 use Rattle.plan.proofs.Values.{kept}
 use borrow.Author.Needs.{needs}
 use Rattle.plan.specs.NodeRules.{slackLimit, slacksKept}
 use Rattle.plan.specs.Compared.{within}
 use Rattle.case.specs.Field.{mostFlow}
--- [/head]
 use Rattle.plan.proofs.nodes.slacks_kept.Statement.{statement}
 use Rattle.plan.proofs.nodes.slacks_kept.Tie as tie
-use Rattle.plan.proofs.nodes.slacks_kept.Reads as reads
-use Rattle.plan.proofs.nodes.slacks_kept.Lts as lts
-use Rattle.numbers.proofs.compare.within.Reads as within-reads
-use Rattle.plan.proofs.bools.both.Reads as both-reads
-use Rattle.plan.proofs.nodes.slack_limit.Reads as slack-limit-reads
 
--- src/nodes.rt:32:9
 slack-limit-requires : tie.Need-slack-limit-requires
 slack-limit-requires c κs = search needs
 
--- src/nodes.rt:33:35
 sub-slack-limit : tie.Need-sub-slack-limit
 sub-slack-limit c = held-fits (param (c .before .before .before .pre .actlow) tt -ʳ param (c .before .before .before .pre .low) tt) tt
 
--- src/nodes.rt:33:9
 slack-limit-requires-2 : tie.Need-slack-limit-requires-2
 slack-limit-requires-2 c κs = search needs
 
--- src/nodes.rt:34:36
 sub-slack-limit-2 : tie.Need-sub-slack-limit-2
 sub-slack-limit-2 c = held-fits (param (c .before .before .before .before .before .before .pre .high) tt -ʳ param (c .before .before .before .before .before .before .pre .acthigh) tt) tt
 
--- src/nodes.rt:34:9
 slack-limit-requires-3 : tie.Need-slack-limit-requires-3
 slack-limit-requires-3 c κs = search needs
 
--- src/nodes.rt:36:9
 within-requires : tie.Need-within-requires
 within-requires c κs = search needs
 
--- src/nodes.rt:38:13
 within-requires-2 : tie.Need-within-requires-2
 within-requires-2 c κs = search needs
 
--- src/nodes.rt:39:18
 within-requires-3 : tie.Need-within-requires-3
 within-requires-3 c κs = search needs
 
--- src/nodes.rt:39:43
 within-requires-4 : tie.Need-within-requires-4
 within-requires-4 c κs = search needs
 
--- src/nodes.rt:39:13
 both-requires : tie.Need-both-requires
 both-requires c κs = search needs
 
--- src/nodes.rt:37:9
 both-requires-2 : tie.Need-both-requires-2
 both-requires-2 c κs = search needs
 
--- src/nodes.rt:35:5
 both-requires-3 : tie.Need-both-requires-3
 both-requires-3 c κs = search needs
 
--- src/nodes.rt:28:1
 returns : tie.Need-returns
 unfolding slacksKept
 returns c =

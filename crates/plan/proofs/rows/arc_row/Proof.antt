@@ -1,20 +1,13 @@
--- [head]
-use mathlib.Core.Path.{_≡_, refl, sym, ap, ap₂, _∙_, subst}
-use Prim.Native.Nat.{ℕ, zero, suc, _+_, _*_, _-_, _^_, _<_, _≤_}
+use mathlib.Core.Path.{_≡_, ap, _∙_}
+use Prim.Native.Nat.{_-_}
 use native.Mathlib.Omega.{arith}
 use denote.Ref.{now}
 use Rattle.plan.proofs.Values.{kept}
 use borrow.Author.Needs.{needs}
 use Rattle.case.specs.Layout.{nodesOf}
 use Rattle.numbers.specs.SignedParts.{posPart}
-use lib.IntN.{ℤ}
--- [/head]
 use Rattle.plan.proofs.rows.arc_row.Statement.{statement}
 use Rattle.plan.proofs.rows.arc_row.Tie as tie
-use Rattle.plan.proofs.rows.arc_row.Reads as reads
-use Rattle.plan.proofs.rows.arc_row.Lts as lts
-use Rattle.numbers.proofs.compare.at.Reads as at-reads
-use Rattle.numbers.proofs.compare.index.Reads as index-reads
 
 -- [pre]
 -- the case's count of nodes
@@ -23,55 +16,42 @@ nodes-is c = c .index .ensures ∙ ap posPart (kept _ (c .before .at .ok) ∙ c 
 
 -- [/pre]
 
--- src/rows.rt:59:23
 at-requires : tie.Need-at-requires
 at-requires c κs = search needs
 
--- src/rows.rt:59:9
 index-requires : tie.Need-index-requires
 index-requires c κs = search needs
 
--- src/rows.rt:60:17
 mul-first : tie.Need-mul-first
 mul-first c = let n = nodes-is c in omega (arith, n, c .before .before .pre .0 .nodes)
 
--- src/rows.rt:60:29
 mul-first-2 : tie.Need-mul-first-2
 mul-first-2 c = search needs
 
--- src/rows.rt:60:17
 add-first : tie.Need-add-first
 add-first c = let n = nodes-is c in omega (arith, n, c .before .before .pre .0 .nodes, c .before .before .pre .0 .arcs, c .before .before .pre .1)
 
--- src/rows.rt:62:12
 at-requires-2 : tie.Need-at-requires-2
 at-requires-2 c κs = search needs
 
--- src/rows.rt:63:20
 add-at : tie.Need-add-at
 add-at c = let n = nodes-is (c .before) in omega (arith, n, c .before .before .before .pre .0 .nodes, c .before .before .before .pre .0 .arcs, c .before .before .before .pre .1)
 
--- src/rows.rt:63:12
 at-requires-3 : tie.Need-at-requires-3
 at-requires-3 c κs = search needs
 
--- src/rows.rt:64:26
 add-at-2 : tie.Need-add-at-2
 add-at-2 c = let n = nodes-is (c .before .before) in omega (arith, n, c .before .before .before .before .pre .0 .nodes, c .before .before .before .before .pre .0 .arcs, c .before .before .before .before .pre .1)
 
--- src/rows.rt:64:18
 at-requires-4 : tie.Need-at-requires-4
 at-requires-4 c κs = search needs
 
--- src/rows.rt:65:27
 add-at-3 : tie.Need-add-at-3
 add-at-3 c = let n = nodes-is (c .before .before .before) in omega (arith, n, c .before .before .before .before .before .pre .0 .nodes, c .before .before .before .before .before .pre .0 .arcs, c .before .before .before .before .before .pre .1)
 
--- src/rows.rt:65:19
 at-requires-5 : tie.Need-at-requires-5
 at-requires-5 c κs = search needs
 
--- src/rows.rt:55:1
 returns : tie.Need-returns
 returns c =
     let n = nodes-is (c .before .before .before .before) in

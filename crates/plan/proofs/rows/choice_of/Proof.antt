@@ -1,20 +1,13 @@
--- [head]
-use mathlib.Core.Path.{_≡_, refl, sym, ap, ap₂, _∙_, subst}
-use Prim.Native.Nat.{ℕ, zero, suc, _+_, _*_, _-_, _^_, _<_, _≤_}
+use mathlib.Core.Path.{_≡_, ap, _∙_}
+use Prim.Native.Nat.{_-_}
 use native.Mathlib.Omega.{arith}
 use denote.Ref.{now}
 use Rattle.plan.proofs.Values.{kept}
 use borrow.Author.Needs.{needs}
 use Rattle.case.specs.Layout.{nodesOf, arcsOf}
 use Rattle.numbers.specs.SignedParts.{posPart}
-use lib.IntN.{ℤ}
--- [/head]
 use Rattle.plan.proofs.rows.choice_of.Statement.{statement}
 use Rattle.plan.proofs.rows.choice_of.Tie as tie
-use Rattle.plan.proofs.rows.choice_of.Reads as reads
-use Rattle.plan.proofs.rows.choice_of.Lts as lts
-use Rattle.numbers.proofs.compare.at.Reads as at-reads
-use Rattle.numbers.proofs.compare.index.Reads as index-reads
 
 -- [pre]
 -- the case's counts of nodes and of arcs
@@ -26,55 +19,42 @@ arcs-is c = c .index2 .ensures ∙ ap posPart (kept _ (c .before .at2 .ok) ∙ c
 
 -- [/pre]
 
--- src/rows.rt:73:23
 at-requires : tie.Need-at-requires
 at-requires c κs = search needs
 
--- src/rows.rt:73:9
 index-requires : tie.Need-index-requires
 index-requires c κs = search needs
 
--- src/rows.rt:74:22
 at-requires-2 : tie.Need-at-requires-2
 at-requires-2 c κs = search needs
 
--- src/rows.rt:74:9
 index-requires-2 : tie.Need-index-requires-2
 index-requires-2 c κs = search needs
 
--- src/rows.rt:75:17
 mul-first : tie.Need-mul-first
 mul-first c = let n = nodes-is (c .before .before) in omega (arith, n, c .before .before .before .before .pre .0 .nodes)
 
--- src/rows.rt:75:29
 mul-first-2 : tie.Need-mul-first-2
 mul-first-2 c = let m = arcs-is c in omega (arith, m, c .before .before .before .before .pre .0 .arcs)
 
--- src/rows.rt:75:17
 add-first : tie.Need-add-first
 add-first c = let n = nodes-is (c .before .before) in let m = arcs-is c in omega (arith, n, m, c .before .before .before .before .pre .0 .nodes, c .before .before .before .before .pre .0 .arcs)
 
--- src/rows.rt:75:40
 mul-first-3 : tie.Need-mul-first-3
 mul-first-3 c = search needs
 
--- src/rows.rt:75:17
 add-first-2 : tie.Need-add-first-2
 add-first-2 c = let n = nodes-is (c .before .before) in let m = arcs-is c in omega (arith, n, m, c .before .before .before .before .pre .0 .nodes, c .before .before .before .before .pre .0 .arcs, c .before .before .before .before .pre .0 .stations, c .before .before .before .before .pre .1)
 
--- src/rows.rt:77:20
 at-requires-3 : tie.Need-at-requires-3
 at-requires-3 c κs = search needs
 
--- src/rows.rt:78:24
 add-at : tie.Need-add-at
 add-at c = let n = nodes-is (c .before .before .before) in let m = arcs-is (c .before) in omega (arith, n, m, c .before .before .before .before .before .pre .0 .nodes, c .before .before .before .before .before .pre .0 .arcs, c .before .before .before .before .before .pre .0 .stations, c .before .before .before .before .before .pre .1)
 
--- src/rows.rt:78:16
 at-requires-4 : tie.Need-at-requires-4
 at-requires-4 c κs = search needs
 
--- src/rows.rt:69:1
 returns : tie.Need-returns
 returns c =
     let n = nodes-is (c .before .before .before .before) in

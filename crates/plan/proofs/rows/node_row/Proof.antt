@@ -1,64 +1,45 @@
--- [head]
-use mathlib.Core.Path.{_≡_, refl, sym, ap, ap₂, _∙_, subst}
-use denote.Ref.{now}
+use mathlib.Core.Path.{_∙_}
 use Rattle.plan.proofs.Values.{kept}
 use borrow.Author.Needs.{needs}
--- [/head]
 use Rattle.plan.proofs.rows.node_row.Statement.{statement}
 use Rattle.plan.proofs.rows.node_row.Tie as tie
-use Rattle.plan.proofs.rows.node_row.Reads as reads
-use Rattle.plan.proofs.rows.node_row.Lts as lts
-use Rattle.numbers.proofs.compare.at.Reads as at-reads
 
--- src/rows.rt:36:17
 mul-first : tie.Need-mul-first
 mul-first c = search needs
 
--- src/rows.rt:38:12
 at-requires : tie.Need-at-requires
 at-requires c κs = search needs
 
--- src/rows.rt:39:20
 add-at : tie.Need-add-at
 add-at c = search needs
 
--- src/rows.rt:39:12
 at-requires-2 : tie.Need-at-requires-2
 at-requires-2 c κs = search needs
 
--- src/rows.rt:40:24
 add-at-2 : tie.Need-add-at-2
 add-at-2 c = search needs
 
--- src/rows.rt:40:16
 at-requires-3 : tie.Need-at-requires-3
 at-requires-3 c κs = search needs
 
--- src/rows.rt:41:25
 add-at-3 : tie.Need-add-at-3
 add-at-3 c = search needs
 
--- src/rows.rt:41:17
 at-requires-4 : tie.Need-at-requires-4
 at-requires-4 c κs = search needs
 
--- src/rows.rt:42:24
 add-at-4 : tie.Need-add-at-4
 add-at-4 c = search needs
 
--- src/rows.rt:42:16
 at-requires-5 : tie.Need-at-requires-5
 at-requires-5 c κs = search needs
 
--- src/rows.rt:43:25
 add-at-5 : tie.Need-add-at-5
 add-at-5 c = search needs
 
--- src/rows.rt:43:17
 at-requires-6 : tie.Need-at-requires-6
 at-requires-6 c κs = search needs
 
--- src/rows.rt:32:1
 returns : tie.Need-returns
 returns c =
     let a = c .before .before .before .before .before .before .args in

@@ -1,60 +1,42 @@
--- [head]
-use mathlib.Core.Path.{_≡_, refl, sym, ap, ap₂, _∙_, subst}
-use Prim.Native.Nat.{ℕ, zero, suc, _+_, _*_, _-_, _^_, _<_, _≤_}
+use Prim.Native.Nat.{_-_, _<_, _≤_}
 use native.Mathlib.Omega.{arith}
-use borrow.Author.Tests.{ltb-true, ltb-false, leb-true, leb-false, eqb-true, eqb-false, not-true, not-false, lt-ltb, le-ltb, le-leb, lt-leb, eq-eqb, ne-eqb}
+use borrow.Author.Tests.{le-leb, lt-leb, ne-eqb}
 use borrow.Author.Needs.{needs}
 use Rattle.plan.specs.Setting.{activeOf}
--- [/head]
 use Rattle.plan.proofs.setting.active.Statement.{statement}
 use Rattle.plan.proofs.setting.active.Tie as tie
-use Rattle.plan.proofs.setting.active.Reads as reads
-use Rattle.plan.proofs.setting.active.Lts as lts
-use Rattle.plan.proofs.setting.combined.Reads as combined-reads
-use Rattle.plan.proofs.setting.directed.Reads as directed-reads
-use Rattle.plan.proofs.setting.valve.Reads as valve-reads
 
--- src/setting.rt:69:14
 valve-requires : tie.Need-valve-requires
 valve-requires c κs = search needs
 
--- src/setting.rt:71:14
 directed-requires : tie.Need-directed-requires
 directed-requires c κs = search needs
 
--- src/setting.rt:72:14
 directed-requires-2 : tie.Need-directed-requires-2
 directed-requires-2 c κs = search needs
 
--- src/setting.rt:73:14
 directed-requires-3 : tie.Need-directed-requires-3
 directed-requires-3 c κs = search needs
 
--- src/setting.rt:74:14
 combined-requires : tie.Need-combined-requires
 combined-requires c κs = search needs
 
--- src/setting.rt:65:1
 returns : tie.Need-returns
 unfolding activeOf
 returns c = rw (c .before .match .keys1) (c .valve .ensures)
 
--- src/setting.rt:65:1
 returns-2 : tie.Need-returns-2
 unfolding activeOf
 returns-2 c = rw (c .before .match .keys2) (c .directed .ensures)
 
--- src/setting.rt:65:1
 returns-3 : tie.Need-returns-3
 unfolding activeOf
 returns-3 c = rw (c .before .match .keys3) (c .directed2 .ensures)
 
--- src/setting.rt:65:1
 returns-4 : tie.Need-returns-4
 unfolding activeOf
 returns-4 c = rw (c .before .match .keys4) (c .directed3 .ensures)
 
--- src/setting.rt:65:1
 returns-5 : tie.Need-returns-5
 unfolding activeOf
 returns-5 c =
@@ -62,7 +44,6 @@ returns-5 c =
     let n : k ≤ 2 = omega arith in
     rw (ne-eqb _ _ (c .before .match .rest .0 .0 .0 .1), le-leb _ _ n)
 
--- src/setting.rt:65:1
 returns-6 : tie.Need-returns-6
 unfolding activeOf
 returns-6 c =

@@ -1,37 +1,26 @@
--- [head]
-use mathlib.Core.Path.{_≡_, refl, sym, ap, ap₂, _∙_, subst}
-use mathlib.Core.Bool.{Bool, true, false, cond, not, _&&_, _||_}
-use borrow.Author.Tests.{ltb-true, ltb-false, leb-true, leb-false, eqb-true, eqb-false, not-true, not-false, lt-ltb, le-ltb, le-leb, lt-leb, eq-eqb, ne-eqb}
+use mathlib.Core.Path.{_≡_, sym, _∙_}
+use mathlib.Core.Bool.{true, false}
+use borrow.Author.Tests.{eq-eqb, ne-eqb}
 use borrow.Author.Needs.{needs}
 use mir.Facts.{toZ-ofZ}
-use lib.IntN.{ℤ, pos, negsuc, natAbs, _+ℤ_, _-ℤ_, _*ℤ_}
+use lib.IntN.{pos}
 use lib.Signed.{leZ}
-use Rattle.plan.specs.Setting.{settingOf, activeOf}
+use Rattle.plan.specs.Setting.{settingOf}
 use Rattle.numbers.specs.SignedParts.{posPart}
 use lib.Dec.{eqb}
-use Prim.Native.Nat.{ℕ, zero, suc, _+_, _*_, _-_, _^_, _<_, _≤_}
--- [/head]
+use Prim.Native.Nat.{_-_}
 use Rattle.plan.proofs.setting.setting_of.Statement.{statement}
 use Rattle.plan.proofs.setting.setting_of.Tie as tie
-use Rattle.plan.proofs.setting.setting_of.Reads as reads
-use Rattle.plan.proofs.setting.setting_of.Lts as lts
-use Rattle.numbers.proofs.compare.at_most.Reads as at-most-reads
-use Rattle.numbers.proofs.compare.index.Reads as index-reads
-use Rattle.plan.proofs.setting.active.Reads as active-reads
 
--- src/setting.rt:81:8
 at-most-requires : tie.Need-at-most-requires
 at-most-requires c κs = search needs
 
--- src/setting.rt:82:13
 index-requires : tie.Need-index-requires
 index-requires c κs = search needs
 
--- src/setting.rt:83:43
 active-requires : tie.Need-active-requires
 active-requires c κs = search needs
 
--- src/setting.rt:78:1
 returns : tie.Need-returns
 unfolding settingOf
 returns c =
@@ -42,7 +31,6 @@ returns c =
     let z : eqb (posPart (a .number)) 0 ≡ true = eq-eqb _ _ (sym n ∙ c .if2 .taken) in
     rw (e, z)
 
--- src/setting.rt:78:1
 returns-2 : tie.Need-returns-2
 unfolding settingOf
 returns-2 c =
@@ -53,7 +41,6 @@ returns-2 c =
     let z : eqb (posPart (a .number)) 0 ≡ false = ne-eqb _ _ (rw n at (c .before .if2 .left)) in
     rw (e, z, ← n) (c .active .ensures)
 
--- src/setting.rt:78:1
 returns-3 : tie.Need-returns-3
 unfolding settingOf
 returns-3 c =
