@@ -1,4 +1,7 @@
-//! The time per plan number as steps and arcs double: level where the time grows as the plan.
+//! The time per plan number as the plan doubles: level where the time grows as the plan.
+//!
+//! Steps double; the whole network doubles; arcs alone double over the same nodes. In the last
+//! the mix changes: six rules are asked of an arc's four numbers, three of a node's six.
 
 use inputs::generate::Size;
 
@@ -7,23 +10,36 @@ use crate::race::Timer;
 
 pub fn print(timer: Timer) {
     println!("                                    nanoseconds per plan number");
-    println!("60 nodes, 8 stations, numbers       proved     plain     ratio");
+    println!("nodes, arcs, stations, steps        proved     plain     ratio");
     for steps in [6, 12, 24, 48] {
-        print_row(timer, 120, steps);
+        print_row(timer, size(60, 120, 8, steps));
     }
+    println!();
+    for part in [8, 4, 2, 1] {
+        print_row(timer, size(60 / part, 120 / part, 8 / part, 48));
+    }
+    println!();
     for arcs in [15, 30, 60, 120] {
-        print_row(timer, arcs, 48);
+        print_row(timer, size(60, arcs, 8, 48));
     }
 }
 
-fn print_row(timer: Timer, arcs: usize, steps: usize) {
-    let lists = Lists::new(Size {
+fn size(nodes: usize, arcs: usize, stations: usize, steps: usize) -> Size {
+    Size {
+        nodes,
         arcs,
+        stations,
         steps,
-        ..Size::LARGEST
-    });
+    }
+}
+
+fn print_row(timer: Timer, size: Size) {
+    let lists = Lists::new(size);
     let numbers = lists.plan.len();
-    let name = format!("{arcs} arcs, {steps} steps, {numbers}");
+    let name = format!(
+        "{}, {}, {}, {}",
+        size.nodes, size.arcs, size.stations, size.steps
+    );
     let [proved, plain] = lists
         .race_plan(timer)
         .map(|seconds| seconds / numbers as f64 * 1e9);

@@ -18,6 +18,7 @@ pub mod States
 pub mod CountLaws
 pub mod SetLaws
 pub mod Judged
+pub mod LaidOut
 pub mod Bounds
 pub mod Passed
 pub mod Laid

@@ -3,12 +3,12 @@ ghost use mathlib.Core.Path.{_≡_};
 ghost use Prim.Native.Nat.{_≤_};
 ghost use lib.IntN.{pos};
 ghost use Rattle.numbers.specs.Question.{firstNo, told};
-ghost use Rattle.numbers.specs.declared.answer.Answer.the-variants.{Yes};
 ghost use Rattle.case.specs.Layout.{arcsOf, stationsOf, stationAt};
 ghost use Rattle.case.specs.StationNodes.{stationNodes};
 ghost use Rattle.case.specs.Bounds.{Counted, StationsCounted};
 ghost use Rattle.case.specs.Laid.{Holds, Laid};
 ghost use Rattle.case.specs.Judged.{rowQuestions, listQuestions, judgedCase};
+ghost use Rattle.case.specs.LaidOut.{LaidOut};
 use super::arcs::arc_rows;
 use super::head::head;
 use super::head::times;
@@ -131,9 +131,9 @@ pub fn judge_case(case: &[i64]) -> Answer
     }
 }
 
-// The layout of a case. Of a list that 10 to 12 refuse nothing is promised: nobody reads on there.
+// The layout of a case, and one of zeros of a list that 10 to 12 refuse: nobody reads on there.
 pub fn layout(case: &[i64]) -> Layout
-    ensures { λ r. ⌜ (firstNo (listQuestions (now (case .entry))) ≡ Yes → Laid (now (case .entry)) r) ⌝ }
+    ensures { λ r. ⌜ LaidOut (now (case .entry)) r ⌝ }
 {
     let a = list_answer(case);
     match a {

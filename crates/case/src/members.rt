@@ -10,7 +10,7 @@ use super::offsets::arc_at;
 use super::offsets::count;
 
 // Is arc `e` one of station `s`'s artificial arcs?
-pub fn belongs(case: &[i64], s: usize, e: usize) -> bool
+pub(crate) fn belongs(case: &[i64], s: usize, e: usize) -> bool
     ensures { λ r. ⌜ r ≡ belongs (now (case .entry)) s e ⌝ }
 {
     let row = arc_at(case, e);
@@ -22,7 +22,7 @@ pub fn belongs(case: &[i64], s: usize, e: usize) -> bool
 }
 
 // Is arc `e` a valve, a regulator or a pipe?
-pub fn plain(case: &[i64], e: usize) -> bool
+pub(crate) fn plain(case: &[i64], e: usize) -> bool
     ensures { λ r. ⌜ r ≡ plain (now (case .entry)) e ⌝ }
 {
     let row = arc_at(case, e);
@@ -30,7 +30,7 @@ pub fn plain(case: &[i64], e: usize) -> bool
 }
 
 // How many of the first `arcs` arcs are the station's.
-pub fn station_arcs(case: &[i64], s: usize, arcs: usize) -> usize
+pub(crate) fn station_arcs(case: &[i64], s: usize, arcs: usize) -> usize
     ensures { λ r. ⌜ r ≡ arcsBefore (now (case .entry)) s arcs ⌝ }
 {
     let mut n: usize = 0;
@@ -98,7 +98,7 @@ fn with_ends(case: &[i64], set: usize, e: usize) -> usize
 }
 
 // The ends of the station's arcs among the first `arcs`, as a node set.
-pub fn station_nodes(case: &[i64], s: usize, arcs: usize) -> i64
+pub(crate) fn station_nodes(case: &[i64], s: usize, arcs: usize) -> i64
     ensures { λ r. ⌜ r ≡ pos (endsOf (now (case .entry)) (belongs (now (case .entry)) s) arcs) ⌝ }
 {
     let mut set: usize = 0;
@@ -113,7 +113,7 @@ pub fn station_nodes(case: &[i64], s: usize, arcs: usize) -> i64
 }
 
 // The ends of the first `arcs` arcs of kind 0 to 2, as a node set.
-pub fn plain_nodes(case: &[i64], arcs: usize) -> i64
+pub(crate) fn plain_nodes(case: &[i64], arcs: usize) -> i64
     ensures { λ r. ⌜ r ≡ pos (endsOf (now (case .entry)) (plain (now (case .entry))) arcs) ⌝ }
 {
     let mut set: usize = 0;

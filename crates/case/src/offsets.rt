@@ -8,11 +8,11 @@ ghost use Rattle.case.specs.Field.{lastOf};
 use numbers::compare::index;
 
 // How many numbers the rows have; a node's row has a demand for each step besides.
-pub(crate) const HEAD: usize = 7;
+pub const HEAD: usize = 7;
 
-pub(crate) const NODE: usize = 6;
+pub const NODE: usize = 6;
 
-pub(crate) const ARC: usize = 11;
+pub const ARC: usize = 11;
 
 pub(crate) const STATION: usize = 5;
 

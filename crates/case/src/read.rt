@@ -2,7 +2,7 @@
 ghost use mathlib.Core.Path.{_≡_};
 ghost use Prim.Native.Nat.{_+_};
 ghost use Rattle.case.specs.Layout.{numberAt};
-ghost use Rattle.case.specs.Records.{timeOf, timeBefore, nodeOf, arcOf, pipeOf, artificialOf, stationRow, directionRow, stateRow, machineRow};
+ghost use Rattle.case.specs.Records.{timeOf, timeBefore, nodeOf, arcOf, artificialOf, stationRow, directionRow, stateRow, machineRow};
 use super::offsets::HEAD;
 use super::offsets::NODE;
 use super::offsets::arc_at;
@@ -17,7 +17,6 @@ use super::records::Artificial;
 use super::records::Direction;
 use super::records::Machine;
 use super::records::Node;
-use super::records::Pipe;
 use super::records::State;
 use super::records::Station;
 
@@ -61,7 +60,7 @@ fn demand(case: &[i64], row: usize, i: usize) -> i64
     }
 }
 
-pub fn arc(case: &[i64], e: usize) -> Arc
+pub(crate) fn arc(case: &[i64], e: usize) -> Arc
     ensures { λ r. ⌜ r ≡ arcOf (now (case .entry)) e ⌝ }
 {
     let row = arc_at(case, e);
@@ -73,19 +72,7 @@ pub fn arc(case: &[i64], e: usize) -> Arc
     }
 }
 
-pub fn pipe(case: &[i64], e: usize) -> Pipe
-    ensures { λ r. ⌜ r ≡ pipeOf (now (case .entry)) e ⌝ }
-{
-    let row = arc_at(case, e);
-    Pipe {
-        c: number(case, row, 4),
-        f: number(case, row, 5),
-        g: number(case, row, 6),
-        h: number(case, row, 7),
-    }
-}
-
-pub fn artificial(case: &[i64], e: usize) -> Artificial
+pub(crate) fn artificial(case: &[i64], e: usize) -> Artificial
     ensures { λ r. ⌜ r ≡ artificialOf (now (case .entry)) e ⌝ }
 {
     let row = arc_at(case, e);

@@ -20,7 +20,6 @@ use Rattle.numbers.specs.Sum.{abs-sum-le, abs-only-le}
 use Rattle.numbers.specs.Question.{Question, firstNo, firstNo-append, orElse, orElse-assoc, orElse-first}
 use Rattle.numbers.specs.declared.answer.Answer.{Answer}
 use Rattle.numbers.specs.declared.answer.Answer.the-variants.{Yes, No}
-use Rattle.case.specs.declared.records.Layout.{Layout}
 use Rattle.case.specs.declared.records.Arc.{Arc}
 use Rattle.case.specs.declared.records.Pipe.{Pipe}
 use Rattle.case.specs.declared.records.Artificial.{Artificial}
@@ -38,7 +37,7 @@ use Rattle.plan.specs.Machines.{machineGain, gainPart}
 use Rattle.plan.specs.Pipes.{duration, change, pipeImbalance, pressureBalance}
 use Rattle.plan.specs.Sizes.{MachinesSized}
 use Rattle.plan.specs.Handed.{AtArc, AtPipe, Compresses}
-use Rattle.plan.specs.CaseFacts.{counted, duration-sized, node-sized, from-node, to-node, pipe-sized, station-in, machines-sized}
+use Rattle.plan.specs.CaseFacts.{duration-sized, node-sized, from-node, to-node, pipe-sized, station-in, machines-sized}
 
 -- ---- signed reads
 
@@ -63,18 +62,19 @@ gain-sized {case} {first} set z =
 
 -- ---- the station of an artificial arc
 
-module _ {case row : List ℤ} {l : Layout} {i e : ℕ} (a : AtArc case row l i e) (k : 3 ≤ arcOf case e .kind) where
-  pub home-is : {x : Artificial} {r : ℕ} → x ≡ artificialOf case e → r ≡ getD (l .rows) (x .station) 0 → r ≡ homeOf case e
+module _ {case row : List ℤ} {l : List ℕ} {i e : ℕ} (a : AtArc case row l i e) (k : 3 ≤ arcOf case e .kind) where
+  pub home-is : {x : Artificial} {r : ℕ} → x ≡ artificialOf case e → r ≡ getD l (x .station) 0 → r ≡ homeOf case e
   home-is q h =
-      h ∙ ap (λ (y : Artificial). getD (l .rows) (y .station) 0) q
-      ∙ a .at .laid .rows .each (artificialOf case e .station) (station-in (a .at .accepted) e (a .arc) k)
+      h ∙ ap (λ (y : Artificial). getD l (y .station) 0) q
+      ∙ a .at .laid .each (artificialOf case e .station) (station-in (a .at .accepted) e (a .arc) k)
 
   pub home-machines : {r : ℕ} → r ≡ homeOf case e → MachinesSized case r
   home-machines h = rw h (machines-sized (a .at .accepted) (artificialOf case e .station) (station-in (a .at .accepted) e (a .arc) k))
 
   pub compresses : {r u w : ℕ} → r ≡ homeOf case e → u < nodesOf case → w < nodesOf case → Compresses case row r i e u w
   compresses {r} {u} {w} h p q = record {
-    counted = counted (a .at .accepted);
+    accepted = a .at .accepted;
+    step = a .at .step;
     arc = a .arc;
     home = h;
     machines = home-machines h;

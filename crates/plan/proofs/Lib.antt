@@ -6,8 +6,10 @@ pub mod StepSizes
 pub mod ArcLaws
 pub mod NetFlows
 pub mod NodeParts
+pub mod FenceFlows
 pub mod StationParts
 pub mod Taken
+pub mod StationPasses
 pub mod Alike
 pub mod Going
 pub mod Stepped

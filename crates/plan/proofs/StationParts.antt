@@ -1,46 +1,51 @@
--- A station's net flows by what each of its arcs puts to a node.
+-- What an artificial arc puts to a node, and 30 to 32 of one station by the answers to each.
 -- Assumes nothing.
-use mathlib.Core.Path.{_≡_, refl, sym, ap, ap₂, _∙_}
+use mathlib.Core.Path.{_≡_, sym, ap, ap₂, _∙_}
 use mathlib.Core.Bool.{Bool, true, false}
 use mathlib.Core.List.{List}
 use Prim.Native.Nat.{ℕ, _+_, _<_, _≤_}
-use lib.Dec.{eqb}
+use native.Mathlib.Omega.{arith}
+use borrow.Author.Tests.{le-leb, lt-leb}
+use lib.Dec.{eqb, leb}
 use lib.IntN.{ℤ, pos, natAbs, _-ℤ_}
 use Rattle.numbers.specs.Question.{answer, orElse, orElse-yes, firstNo}
 use Rattle.numbers.specs.declared.answer.Answer.{Answer}
 use Rattle.numbers.specs.Sum.{only, abs-only-le}
-use Rattle.case.specs.Layout.{arcsOf}
+use Rattle.case.specs.Layout.{nodesOf, arcsOf, stationsOf}
 use Rattle.case.specs.Records.{arcOf, directionOf}
-use Rattle.case.specs.StationArcs.{belongs}
 use Rattle.case.specs.StationNodes.{stationNodes, plainNodes}
 use Rattle.case.specs.declared.records.Direction.{Direction}
 use Rattle.plan.specs.PlanRecords.{arcRow}
-use Rattle.plan.specs.StationRules.{stationPart, stationFlow, fenceNodeKept, fenceKept, choiceKept, machinesOnce, fenceFlowsKept, stationQuestions}
+use Rattle.plan.specs.StationRules.{fenceNodeKept, fenceKept, choiceKept, machinesOnce, fenceFlowsKept, stationQuestions}
+use Rattle.plan.specs.StationPass.{artificialPart, artificialFlow}
 use Rattle.plan.specs.Sizes.{FlowsSized}
+use Rattle.plan.specs.Handed.{AcceptedCase}
 use Rattle.plan.proofs.NetFlows.{put-sized}
 use Rattle.plan.proofs.NodeParts.{difference}
+use Rattle.plan.proofs.FenceFlows.{fence-passed}
 
-module _ (case row : List ℤ) (s e i : ℕ) where
-  pub station-part : {from to : ℕ} {x : ℤ} → belongs case s e ≡ true → from ≡ arcOf case e .from → to ≡ arcOf case e .to → x ≡ arcRow case row e .a -ℤ arcRow case row e .b
-      → stationPart case row s i e ≡ only (eqb from i) x -ℤ only (eqb to i) x
-  unfolding stationPart
-  station-part b p q r = rw (b, p, q, r)
+module _ (case row : List ℤ) (e i : ℕ) where
+  pub artificial-part : {kind from to : ℕ} {x : ℤ} → kind ≡ arcOf case e .kind → 3 ≤ kind → from ≡ arcOf case e .from → to ≡ arcOf case e .to → x ≡ arcRow case row e .a -ℤ arcRow case row e .b
+      → artificialPart case row i e ≡ only (eqb from i) x -ℤ only (eqb to i) x
+  unfolding artificialPart
+  artificial-part {kind} k l p q r = let b : leb 3 (arcOf case e .kind) ≡ true = le-leb 3 (arcOf case e .kind) (omega (arith, k)) in rw (b, p, q, r)
 
-  pub station-none : belongs case s e ≡ false → stationPart case row s i e ≡ pos 0
-  unfolding stationPart
-  station-none b = rw b
+  pub artificial-none : {kind : ℕ} → kind ≡ arcOf case e .kind → kind < 3 → artificialPart case row i e ≡ pos 0
+  unfolding artificialPart
+  artificial-none {kind} k l = let b : leb 3 (arcOf case e .kind) ≡ false = lt-leb 3 (arcOf case e .kind) (omega (arith, k)) in rw b
 
-  pub station-sized : FlowsSized case row → e < arcsOf case → natAbs (stationPart case row s i e) ≤ 40000000
-  unfolding stationPart
-  station-sized z p =
+  pub artificial-sized : FlowsSized case row → e < arcsOf case → natAbs (artificialPart case row i e) ≤ 40000000
+  unfolding artificialPart
+  artificial-sized z p =
       let d = difference (z .each e p .a) (z .each e p .b) in
-      abs-only-le (belongs case s e) _ (put-sized (eqb (arcOf case e .from) i) (eqb (arcOf case e .to) i) d d)
+      abs-only-le (leb 3 (arcOf case e .kind)) _ (put-sized (eqb (arcOf case e .from) i) (eqb (arcOf case e .to) i) d d)
 
 -- ---- 32 of one node
 
-pub fence-node : (case row : List ℤ) (s f v : ℕ) {chosen : Direction} {inside plain flow : ℤ} {r : Bool} → chosen ≡ directionOf case s f → inside ≡ stationNodes case s → plain ≡ plainNodes case → flow ≡ stationFlow case row s v
+pub fence-node : {case : List ℤ} → AcceptedCase case → (row : List ℤ) (s f v : ℕ) {chosen : Direction} {inside plain flow : ℤ} {r : Bool} → v < nodesOf case → s < stationsOf case
+    → chosen ≡ directionOf case s f → inside ≡ stationNodes case s → plain ≡ plainNodes case → flow ≡ artificialFlow case row v
     → r ≡ fenceNodeKept chosen inside plain v flow → r ≡ fenceKept case row s f v
-fence-node case row s f v p q r t e = rw (p, q, r, t) at e
+fence-node {case} a row s f v l m p q r t e = rw (p, q, r, t) at e ∙ fence-passed a v l row s m (directionOf case s f) (plainNodes case)
 
 -- ---- 30 to 32 of one station
 

@@ -8,6 +8,7 @@ use native.Mathlib.Omega.{arith}
 use borrow.Author.Tests.{leb-true, eq-eqb, le-leb, lt-leb, ne-eqb}
 use lib.Dec.{eqb, leb}
 use lib.IntN.{ℤ, pos, negsuc, natAbs, _+ℤ_, _-ℤ_}
+use lib.ListN.{length}
 use lib.Signed.{leZ}
 use Rattle.numbers.specs.SignedParts.{posPart, ints, size, added, taken}
 use Rattle.numbers.specs.SignedBounds.{Bounded}
@@ -110,6 +111,11 @@ module _ {case : List ℤ} (c : AcceptedCase case) where
   unfolding headFields
   tolerances = second-yes (countFields case) (toleranceFields case) head-yes
 
+  -- the head is there
+  pub head-there : 6 < length case
+  unfolding toleranceFields
+  head-there = field-yes case 6 (pos 0) (pos 1000) (second-yes (field case 5 (pos 0) (pos 1000000)) (field case 6 (pos 0) (pos 1000)) tolerances) .there
+
   pub mass-sized : Bounded (massTolerance case) 1000000
   unfolding toleranceFields
   mass-sized =
@@ -190,6 +196,16 @@ module _ {case : List ℤ} (c : AcceptedCase case) where
           demand = bounded 10000000 rd (least-demand kind) (most-demand kind);
         }
 
+    -- the row is there, up to the demand of the step with index i
+    pub node-there : (i : ℕ) → i < stepsOf case → nodeAt case v + (nodeHeadWidth + i) < length case
+    unfolding nodeFields demandFields
+    node-there i q =
+        let row = nodeAt case v in
+        let kind = countAt case row in
+        let r : InRange case (row + (nodeHeadWidth + i)) (leastDemand kind) (mostDemand kind) =
+        at-index (omega arith) (fields-yes case (row + nodeHeadWidth) (stepsOf case) (leastDemand kind) (mostDemand kind) (second-yes (boundFields case row) (demandFields case row) node-yes) i q) in
+        r .there
+
   -- ---- arcs
 
   module _ (e : ℕ) (p : e < arcsOf case) where
@@ -215,6 +231,36 @@ module _ {case : List ℤ} (c : AcceptedCase case) where
     ends-in =
         fields-yes case (arcAt case e + 1) 2 (pos 0) (lastOf (nodesOf case))
         (first-yes (fields case (arcAt case e + 1) 2 (pos 0) (lastOf (nodesOf case))) (field case (arcAt case e + 3) (pos 0) mostFlow) ends-past)
+
+    -- the row's last number is there, whatever the kind
+    last-three : firstNo (zeros case (arcAt case e + 8) 3) ≡ Yes → arcAt case e + 10 < length case
+    last-three y =
+        let r : InRange case (arcAt case e + 10) (pos 0) (pos 0) = at-index (omega arith) (fields-yes case (arcAt case e + 8) 3 (pos 0) (pos 0) y 2 (omega arith)) in
+        r .there
+
+    pub arc-there : arcAt case e + 10 < length case
+    unfolding kindFields pipeFields compressorFields
+    arc-there = go (leb (countAt case (arcAt case e)) 1) (eqb (countAt case (arcAt case e)) 2) (leb (countAt case (arcAt case e)) 4) kind-yes
+      where
+        go : (a b d : Bool) → firstNo (cond a (zeros case (arcAt case e + 4) 7) (cond b (pipeFields case (arcAt case e)) (memberFields case (arcAt case e) ++ cond d (zeros case (arcAt case e + 8) 3) (compressorFields case (arcAt case e))))) ≡ Yes
+            → arcAt case e + 10 < length case
+        go true b d y =
+            let r : InRange case (arcAt case e + 10) (pos 0) (pos 0) = at-index (omega arith) (fields-yes case (arcAt case e + 4) 7 (pos 0) (pos 0) y 6 (omega arith)) in
+            r .there
+        go false true d y =
+            let row = arcAt case e in
+            let f4 = field case (row + 4) (pos 1) (pos 100000000) in
+            let f5 = fields case (row + 5) 2 (pos 0) (pos 10000000) in
+            let f7 = field case (row + 7) (negsuc 199999) (pos 200000) in
+            let f8 = zeros case (row + 8) 3 in
+            last-three (second-yes f7 f8 (second-yes f5 (f7 ++ f8) (second-yes f4 (f5 ++ (f7 ++ f8)) y)))
+        go false false true y = last-three (second-yes (memberFields case (arcAt case e)) (zeros case (arcAt case e + 8) 3) y)
+        go false false false y =
+            let row = arcAt case e in
+            let f8 = field case (row + 8) (pos 0) (pos 4095) in
+            let f9 = field case (row + 9) (pos 0) (pos 12) in
+            let f10 = field case (row + 10) (pos 0) mostPressure in
+            field-yes case (row + 10) (pos 0) mostPressure (second-yes f9 f10 (second-yes f8 (f9 ++ f10) (second-yes (memberFields case row) (compressorFields case row) y))) .there
 
     pub from-node : arcOf case e .from < nodesOf case
     from-node = let r : InRange case (arcAt case e + 1) (pos 0) (lastOf (nodesOf case)) = at-index (omega arith) (ends-in 0 (omega arith)) in below r

@@ -37,7 +37,7 @@ use Rattle.plan.specs.Machines.{machineFlow}
 use Rattle.plan.specs.ArcPressures.{outBound, basePressure, ratioOf, compressionKept, settingPressures, pressuresKept}
 use Rattle.plan.specs.ArcMachines.{flowAlong, machinesCarry, machinesUsed}
 use Rattle.plan.specs.Pipes.{isPipe, pipeResidual, pipeMassKept, pressureBalance, pipePressuresKept}
-use Rattle.plan.specs.StationRules.{oneOf, activeSet, stateObeyed, choiceKept, onArc, machineOnce, machinesOnce, stationFlow, fenceFlowKept, fenceNodeKept, fenceKept, fenceFlowsKept}
+use Rattle.plan.specs.StationRules.{oneOf, obeyed, activeSet, choiceKept, onArc, machineOnce, machinesOnce, stationFlow, fenceFlowKept, fenceNodeKept, fenceKept, fenceFlowsKept}
 use Rattle.plan.specs.Balance.{nodeResidual, balanceKept}
 
 -- ---- from a test to a fact
@@ -231,7 +231,7 @@ one-of : (x : ℤ) (n : ℕ) → oneOf x n ≡ true → posPart x < n
 one-of x n e = ltb-true (posPart x) n (and-second (leZ (pos 0) x) (ltb (posPart x) n) e)
 
 pub rule30-says : (case row : List ℤ) (s : ℕ) → choiceKept case row s ≡ true → ChoiceFacts case row s
-unfolding choiceKept stateObeyed
+unfolding choiceKept obeyed
 rule30-says case row s e =
     let z = stateOf case s (stateIn case row s) in
     let a = oneOf (choiceOf case row s .direction) (stationOf case s .directions) in

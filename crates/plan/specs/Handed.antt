@@ -8,15 +8,14 @@ use lib.IntN.{ℤ}
 use lib.ListN.{length}
 use Rattle.numbers.specs.Question.{firstNo}
 use Rattle.numbers.specs.declared.answer.Answer.the-variants.{Yes}
-use Rattle.case.specs.Layout.{numberAt, nodesOf, arcsOf, stationsOf, stepsOf}
+use Rattle.case.specs.Layout.{numberAt, nodesOf, arcsOf, stationsOf, stepsOf, stationAt}
 use Rattle.case.specs.declared.records.Layout.{Layout}
-use Rattle.case.specs.Laid.{Laid}
+use Rattle.case.specs.Laid.{Holds, Laid}
 use Rattle.case.specs.Judged.{caseQuestions}
 use Rattle.plan.specs.PlanLayout.{stepAt}
 use Rattle.plan.specs.PlanRecords.{pressureIn, arcRow, directionIn, stateIn}
 use Rattle.numbers.specs.SignedBounds.{Bounded}
 use Rattle.case.specs.Records.{arcOf, artificialOf, stationOf}
-use Rattle.case.specs.Bounds.{Counted}
 use Rattle.plan.specs.Setting.{homeOf}
 use Rattle.plan.specs.ArcPressures.{basePressure}
 use Rattle.plan.specs.Sizes.{PressuresSized, ArcRowSized, FlowsSized, NodesSized, MachinesSized}
@@ -33,15 +32,22 @@ pub record AtStep (case : List ℤ) (l : Layout) (i : ℕ) : Type 0 where
   pub laid : Laid case l
   pub step : i < stepsOf case
 
+-- an accepted case, where each station's rows begin, and a step
+pub record AtRows (case : List ℤ) (rows : List ℕ) (i : ℕ) : Type 0 where
+  pub accepted : AcceptedCase case
+  pub laid : Holds 0 rows (stationAt case) (stationsOf case)
+  pub step : i < stepsOf case
+
 -- past 21 to 23: an arc of a step whose pressures are in range
-pub record AtArc (case : List ℤ) (row : List ℤ) (l : Layout) (i e : ℕ) : Type 0 where
-  pub at : AtStep case l i
+pub record AtArc (case : List ℤ) (row : List ℤ) (rows : List ℕ) (i e : ℕ) : Type 0 where
+  pub at : AtRows case rows i
   pub arc : e < arcsOf case
   pub pressures : PressuresSized (pressureIn row) (nodesOf case)
 
 -- an arc that is compressing from node u to node w, and the rows of its station from `first` on
 pub record Compresses (case : List ℤ) (row : List ℤ) (first i e u w : ℕ) : Type 0 where
-  pub counted : Counted case
+  pub accepted : AcceptedCase case
+  pub step : i < stepsOf case
   pub arc : e < arcsOf case
   pub home : first ≡ homeOf case e
   pub machines : MachinesSized case first

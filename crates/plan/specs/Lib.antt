@@ -12,6 +12,7 @@ pub mod ArcMachines
 pub mod Pipes
 pub mod ArcRules
 pub mod StationRules
+pub mod StationPass
 pub mod Balance
 pub mod Step
 pub mod Totals

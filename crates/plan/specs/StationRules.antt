@@ -12,6 +12,7 @@ use Rattle.numbers.specs.SignedParts.{posPart}
 use Rattle.numbers.specs.Sets.{memberOf, subsetOf, disjointOf}
 use Rattle.numbers.specs.Sum.{sum, only, count}
 use Rattle.case.specs.declared.records.Direction.{Direction}
+use Rattle.case.specs.declared.records.State.{State}
 use Rattle.case.specs.Layout.{nodesOf, arcsOf, stationsOf}
 use Rattle.case.specs.Records.{arcOf, stationOf, directionOf, stateOf}
 use Rattle.case.specs.StationArcs.{belongs, arcSet, every}
@@ -29,12 +30,12 @@ oneOf x n = leZ (pos 0) x && ltb (posPart x) n
 unfoldable pub activeSet : List ℤ → List ℤ → ℕ → ℤ
 activeSet case row s = pos (arcSet case s (activeIn case row) (arcsOf case))
 
--- what the state z asks of the direction f and of the active arcs
-unfoldable pub stateObeyed : List ℤ → List ℤ → ℕ → ℕ → ℕ → Bool
-stateObeyed case row s f z =
-    memberOf (stateOf case s z .directions) f
-    && (subsetOf (stateOf case s z .on) (activeSet case row s)
-    && disjointOf (stateOf case s z .off) (activeSet case row s))
+-- what a state asks of the direction f and of the active arcs
+unfoldable pub obeyed : State → ℕ → ℤ → Bool
+obeyed z f active = memberOf (z .directions) f && (subsetOf (z .on) active && disjointOf (z .off) active)
+
+abbrev pub stateObeyed : List ℤ → List ℤ → ℕ → ℕ → ℕ → Bool
+stateObeyed case row s f z = obeyed (stateOf case s z) f (activeSet case row s)
 
 unfoldable pub choiceKept : List ℤ → List ℤ → ℕ → Bool
 choiceKept case row s =

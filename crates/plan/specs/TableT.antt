@@ -34,7 +34,7 @@ use Rattle.plan.specs.ArcPressures.{compressionKept, pressuresKept}
 use Rattle.plan.specs.ArcMachines.{machinesCarry, machinesUsed}
 use Rattle.plan.specs.Pipes.{duration, pipeImbalance, pipeResidual, pipeMassKept, pressureBalance, pipePressuresKept}
 use Rattle.plan.specs.ArcRules.{flowQuestions, pressureQuestions, pipeQuestions, arcQuestions, allArcQuestions}
-use Rattle.plan.specs.StationRules.{activeSet, stateObeyed, choiceKept, machinesOnce, stationPart, stationFlow, fenceNodeKept, fenceFlowsKept, stationQuestions, allStationQuestions}
+use Rattle.plan.specs.StationRules.{activeSet, obeyed, choiceKept, machinesOnce, stationPart, stationFlow, fenceNodeKept, fenceFlowsKept, stationQuestions, allStationQuestions}
 use Rattle.plan.specs.Balance.{flowAtFrom, flowAtTo, outPart, inPart, outflow, inflow, netFlow, nodeImbalance, nodeResidual, balanceKept, balanceQuestions, allBalanceQuestions}
 use Rattle.plan.specs.Step.{stepQuestions}
 use Rattle.plan.specs.Totals.{pressureSlackAt, demandSlackAt, pressureSlackIn, demandSlackIn, directionCost, stateCost, activityCost, choiceCost, choiceCosts, activityCosts, pipePart, pipeResiduals, nodeResiduals, gasPart, gasAt, stepPressureSlack, stepDemandSlack, stepSwitching, stepResidual, totalsTo, totalsOf}
@@ -83,5 +83,5 @@ pub record Rows : Type 0 where
   pub row6-above : judgeOf case6 (plan6 (pos 60001)) ≡ refuses 26 1 0
 
 pub rows : Rows
-unfolding judgeOf questions planQuestions planStep totalsOf totalsTo stepPressureSlack stepDemandSlack stepSwitching stepResidual gasAt gasPart nodeResiduals pipeResiduals pipePart activityCosts choiceCosts choiceCost activityCost stateCost directionCost demandSlackIn pressureSlackIn demandSlackAt pressureSlackAt stepQuestions allBalanceQuestions balanceQuestions balanceKept nodeResidual nodeImbalance netFlow inflow outflow inPart outPart flowAtTo flowAtFrom allStationQuestions stationQuestions fenceFlowsKept fenceNodeKept stationFlow stationPart machinesOnce choiceKept stateObeyed activeSet allArcQuestions arcQuestions flowQuestions pressureQuestions pipeQuestions pipePressuresKept pressureBalance pipeMassKept pipeResidual pipeImbalance duration machinesUsed machinesCarry pressuresKept compressionKept machineGain gainPart machineFlow flowPart flowAllowed arcNumbersKept machinesWithin flowsKept allNodeQuestions nodeQuestions activeBoundsKept demandMet nodeNumbersKept boundaryFlowKept slacksKept headKept before.pressureAt before.activeAt before.directionAt before.stateAt settingOf activeOf valveOf combinedOf directed stepRow stepAt stepWidth caseQuestions ruleQuestions earlyRules listQuestions rowQuestions allStateSets stateSets stationKept startKept machinesKept stateKept allDirectionSets directionSets directionKept allStationSizes stationSize allOneStation oneStation allArcEnds arcEnds plainNodes stationNodes endsOf withNode arcSet arcsBefore leftover allStationFields stationFields rowFields partFields machineFields stateFields stateRowFields directionFields stationHead allArcFields arcFields kindFields compressorFields memberFields pipeFields endFields allNodeFields nodeFields demandFields boundFields timeFields timeField headFields toleranceFields countFields field fields nodeAt arcAt stationAt directionAt stateAt machineAt sum sumN count ones
+unfolding judgeOf questions planQuestions planStep totalsOf totalsTo stepPressureSlack stepDemandSlack stepSwitching stepResidual gasAt gasPart nodeResiduals pipeResiduals pipePart activityCosts choiceCosts choiceCost activityCost stateCost directionCost demandSlackIn pressureSlackIn demandSlackAt pressureSlackAt stepQuestions allBalanceQuestions balanceQuestions balanceKept nodeResidual nodeImbalance netFlow inflow outflow inPart outPart flowAtTo flowAtFrom allStationQuestions stationQuestions fenceFlowsKept fenceNodeKept stationFlow stationPart machinesOnce choiceKept obeyed activeSet allArcQuestions arcQuestions flowQuestions pressureQuestions pipeQuestions pipePressuresKept pressureBalance pipeMassKept pipeResidual pipeImbalance duration machinesUsed machinesCarry pressuresKept compressionKept machineGain gainPart machineFlow flowPart flowAllowed arcNumbersKept machinesWithin flowsKept allNodeQuestions nodeQuestions activeBoundsKept demandMet nodeNumbersKept boundaryFlowKept slacksKept headKept before.pressureAt before.activeAt before.directionAt before.stateAt settingOf activeOf valveOf combinedOf directed stepRow stepAt stepWidth caseQuestions ruleQuestions earlyRules listQuestions rowQuestions allStateSets stateSets stationKept startKept machinesKept stateKept allDirectionSets directionSets directionKept allStationSizes stationSize allOneStation oneStation allArcEnds arcEnds plainNodes stationNodes endsOf withNode arcSet arcsBefore leftover allStationFields stationFields rowFields partFields machineFields stateFields stateRowFields directionFields stationHead allArcFields arcFields kindFields compressorFields memberFields pipeFields endFields allNodeFields nodeFields demandFields boundFields timeFields timeField headFields toleranceFields countFields field fields nodeAt arcAt stationAt directionAt stateAt machineAt sum sumN count ones
 rows = record { row1 = refl; row2 = refl; row3 = refl; row4 = refl; row6 = refl; row6-above = refl }

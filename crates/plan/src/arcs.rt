@@ -14,13 +14,13 @@ use numbers::answer::Answer;
 use numbers::answer::or_else;
 
 // 28 and 29 lean on 24, by which no product is too large.
-fn arc_answer(case: &[i64], old: &[i64], row: &[i64], layout: Layout, i: usize, e: usize) -> Answer
-    requires { ⌜ (AtArc (now case) (now row) layout i e) × (PressuresSized (numberAt (now old)) (nodesOf (now case))) ⌝ }
+fn arc_answer(case: &[i64], old: &[i64], row: &[i64], rows: &[usize], i: usize, e: usize) -> Answer
+    requires { ⌜ (AtArc (now case) (now row) (now rows) i e) × (PressuresSized (numberAt (now old)) (nodesOf (now case))) ⌝ }
     ensures { λ r. ⌜ r ≡ firstNo (arcQuestions (now (case .entry)) (numberAt (now (old .entry))) (now (row .entry)) i e) ⌝ }
 {
     let a = or_else(
         flow_answer(case, row, i, e),
-        pressure_answer(case, row, layout, i, e),
+        pressure_answer(case, row, rows, i, e),
     );
     match a {
         Answer::Yes => pipe_answer(case, old, row, i, e),
@@ -43,9 +43,10 @@ pub(crate) fn arc_answers(
     ensures { λ r. ⌜ r ≡ firstNo (allArcQuestions (now (case .entry)) (numberAt (now (old .entry))) (now (row .entry)) i) ⌝ }
 {
     let arcs = layout.arcs;
+    let rows = layout.rows;
     let mut e: usize = 0;
     while e < arcs {
-        let a = arc_answer(case, old, row, layout, i, e);
+        let a = arc_answer(case, old, row, &rows, i, e);
         match a {
             Answer::Yes => {}
             Answer::No {

@@ -2,6 +2,7 @@
 ghost use mathlib.Core.Path.{_≡_};
 ghost use Prim.Native.Nat.{_<_};
 ghost use lib.IntN.{pos};
+ghost use lib.ListN.{length};
 ghost use Rattle.numbers.specs.Question.{firstNo};
 ghost use Rattle.numbers.specs.SignedBounds.{Bounded};
 ghost use Rattle.case.specs.Layout.{nodesOf, arcsOf};
@@ -10,32 +11,25 @@ ghost use Rattle.plan.specs.Balance.{flowAtFrom, flowAtTo, netFlow, node
 ghost use Rattle.plan.specs.Moved.{movedAt, NetSized};
 ghost use Rattle.plan.specs.Sizes.{FlowsSized, NodesSized};
 ghost use Rattle.plan.specs.Handed.{AcceptedCase, AtStep, AtBalance};
+use super::accepted::arc;
 use super::pipes::duration;
 use super::pipes::size;
 use super::rows::arc_row;
 use super::rows::node_row;
-use case::read::arc;
 use case::records::Layout;
 use numbers::answer::Answer;
 use numbers::compare::at;
 use numbers::compare::at_most;
 
-// Each node's net flow.
-pub struct Net {
-    pub flows: [i64; 60],
-}
-
-// The net flows with one arc more, which takes `out` from node `from` and brings `into` to node `to`.
-pub(crate) fn moved(net: Net, from: usize, to: usize, out: i64, into: i64) -> Net
-    requires { ⌜ (from < 60) × (to < 60) × (Bounded out 20000000) × (Bounded into 20000000) × (NetSized (net .flows)) ⌝ }
-    ensures { λ r. ⌜ Holds (pos 0) (r .flows) (movedAt (net .flows) from to out into) 60 ⌝ }
+// One arc more in the net flows: it takes `out` from node `from` and brings `into` to node `to`.
+pub(crate) fn moved(net: &mut [i64], from: usize, to: usize, out: i64, into: i64)
+    requires { ⌜ (from < 60) × (to < 60) × (length (now net) ≡ 60) × (Bounded out 20000000) × (Bounded into 20000000) × (NetSized (now net)) ⌝ }
+    ensures { λ _. ⌜ (length (now (net .exit)) ≡ 60) × (Holds (pos 0) (now (net .exit)) (movedAt (now (net .entry)) from to out into) 60) ⌝ }
 {
-    let mut next = net;
-    let leaving = next.flows[from] + out;
-    next.flows[from] = leaving;
-    let entering = next.flows[to] - into;
-    next.flows[to] = entering;
-    next
+    let leaving = net[from] + out;
+    net[from] = leaving;
+    let entering = net[to] - into;
+    net[to] = entering;
 }
 
 // A pipe's flow is a at from and b at to, any other arc's a - b at both.
@@ -61,16 +55,16 @@ pub(crate) fn end_flows(case: &[i64], row: &[i64], e: usize) -> Ends
 }
 
 // Each node's flow out less its flow in.
-pub(crate) fn net_flows(case: &[i64], row: &[i64], arcs: usize) -> Net
+pub(crate) fn net_flows(case: &[i64], row: &[i64], arcs: usize) -> [i64; 60]
     requires { ⌜ (AcceptedCase (now case)) × (arcs ≡ arcsOf (now case)) × (FlowsSized (now case) (now row)) ⌝ }
-    ensures { λ r. ⌜ Holds (pos 0) (r .flows) (netFlow (now (case .entry)) (now (row .entry))) (nodesOf (now (case .entry))) ⌝ }
+    ensures { λ r. ⌜ Holds (pos 0) r (netFlow (now (case .entry)) (now (row .entry))) (nodesOf (now (case .entry))) ⌝ }
 {
-    let mut net = Net { flows: [0; 60] };
+    let mut net = [0i64; 60];
     let mut e: usize = 0;
     while e < arcs {
         let c = arc(case, e);
         let flow = end_flows(case, row, e);
-        net = moved(net, c.from, c.to, flow.from, flow.to);
+        moved(&mut net, c.from, c.to, flow.from, flow.to);
         e += 1;
     }
     net
@@ -93,7 +87,7 @@ pub(crate) fn balance_answers(case: &[i64], row: &[i64], layout: Layout, i: usiz
     let net = net_flows(case, row, layout.arcs);
     let mut v: usize = 0;
     while v < nodes {
-        let residual = node_residual(case, row, i, v, net.flows[v]);
+        let residual = node_residual(case, row, i, v, net[v]);
         if !at_most(residual as i64, most) {
             return Answer::No {
                 number: 33,

@@ -10,6 +10,7 @@ ghost use Rattle.plan.specs.Totals.{totalsOf};
 ghost use Rattle.plan.specs.Judged.{planQuestions, verdictOf, verdictTold, judgeOf};
 ghost use Rattle.plan.specs.JudgedBytes.{planNumber, planBytesTold, bytesTold, caseBytesTold, planListAfter, planListOf};
 ghost use Rattle.plan.specs.Handed.{AcceptedCase};
+use super::steps::step_width;
 use super::steps::steps;
 use super::verdict::Verdict;
 use case::judge::judge_case;
@@ -28,7 +29,7 @@ fn head_kept(case: &[i64], plan: &[i64], layout: Layout) -> bool
 {
     if same(at(plan, 0), 1) {
         if same(at(plan, 1), layout.steps as i64) {
-            let width = layout.nodes * 6 + layout.arcs * 4 + layout.stations * 2;
+            let width = step_width(layout.nodes, layout.arcs, layout.stations);
             return plan.len() == 2 + layout.steps * width;
         }
     }

@@ -1,5 +1,6 @@
 // The upper layer: a plan judged against its case, rules 20 to 33, the six totals, and the ledger of a region.
 pub mod bools; // bools.rt: two tests as one
+pub mod accepted; // accepted.rt: nodes and arcs of an accepted case
 pub mod rows; // rows.rt: the rows of one step as records
 pub mod setting; // setting.rt: an arc's setting, read off kind and number
 pub mod nodes; // nodes.rt: 21 to 23
@@ -8,6 +9,7 @@ pub mod machines; // machines.rt: sums over the machines of a set
 pub mod pressures; // pressures.rt: 26 and 27
 pub mod pipes; // pipes.rt: 28 and 29
 pub mod arcs; // arcs.rt: 24 to 29 of every arc
+pub mod passes; // passes.rt: what 30 to 32 ask of the arcs, for all stations in one pass
 pub mod stations; // stations.rt: 30 to 32
 pub mod balance; // balance.rt: 33
 pub mod previous; // previous.rt: what is carried from step to step

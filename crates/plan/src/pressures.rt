@@ -5,14 +5,16 @@ ghost use lib.ListN.{getD};
 ghost use Rattle.numbers.specs.Question.{firstNo};
 ghost use Rattle.case.specs.Layout.{nodesOf, arcsOf};
 ghost use Rattle.case.specs.Records.{arcOf};
-ghost use Rattle.case.specs.Bounds.{Counted};
 ghost use Rattle.plan.specs.declared.setting.Mode.the-variants as modes;
 ghost use Rattle.plan.specs.Setting.{homeOf, settingIn};
 ghost use Rattle.plan.specs.ArcPressures.{outBound, compressionKept, modePressures, settingPressures, pressuresKept};
 ghost use Rattle.plan.specs.ArcMachines.{machinesCarry, modeMachines, machinesUsed};
 ghost use Rattle.plan.specs.ArcRules.{pressureQuestions};
 ghost use Rattle.plan.specs.Sizes.{MachinesSized};
-ghost use Rattle.plan.specs.Handed.{AtArc, Compresses};
+ghost use Rattle.plan.specs.Handed.{AcceptedCase, AtArc, Compresses};
+use super::accepted::arc;
+use super::accepted::artificial;
+use super::accepted::node;
 use super::machines::machine_flow;
 use super::machines::machine_gain;
 use super::rows::arc_row;
@@ -21,11 +23,7 @@ use super::setting::Mode;
 use super::setting::Setting;
 use super::setting::Way;
 use super::setting::setting_of;
-use case::read::arc;
-use case::read::artificial;
-use case::read::node;
 use case::records::Artificial;
-use case::records::Layout;
 use numbers::answer::Answer;
 use numbers::answer::ask;
 use numbers::answer::or_else;
@@ -34,10 +32,10 @@ use numbers::compare::same;
 use numbers::sets::count;
 
 // Where the rows of station `s` begin.
-fn home(layout: Layout, s: usize) -> usize
-    ensures { λ r. ⌜ r ≡ getD (layout .rows) s 0 ⌝ }
+fn home(rows: &[usize], s: usize) -> usize
+    ensures { λ r. ⌜ r ≡ getD (now (rows .entry)) s 0 ⌝ }
 {
-    if s < 8 { layout.rows[s] } else { 0 }
+    if s < rows.len() { rows[s] } else { 0 }
 }
 
 fn out_bound(x: Artificial) -> i64
@@ -78,14 +76,14 @@ fn compression_kept(
 fn mode_pressures(
     case: &[i64],
     row: &[i64],
-    layout: Layout,
+    rows: &[usize],
     i: usize,
     e: usize,
     mode: Mode,
     u: usize,
     w: usize,
 ) -> bool
-    requires { ⌜ (AtArc (now case) (now row) layout i e) × (u < nodesOf (now case)) × (w < nodesOf (now case)) × (mode ≡ modes.Compressing → 3 ≤ arcOf (now case) e .kind) ⌝ }
+    requires { ⌜ (AtArc (now case) (now row) (now rows) i e) × (u < nodesOf (now case)) × (w < nodesOf (now case)) × (mode ≡ modes.Compressing → 3 ≤ arcOf (now case) e .kind) ⌝ }
     ensures { λ r. ⌜ r ≡ modePressures (now (case .entry)) (now (row .entry)) i e mode u w ⌝ }
 {
     match mode {
@@ -93,7 +91,7 @@ fn mode_pressures(
         Mode::Regulating => at_most(pressure(row, w), pressure(row, u)),
         Mode::Compressing => {
             let s = artificial(case, e).station;
-            compression_kept(case, row, home(layout, s), i, e, u, w)
+            compression_kept(case, row, home(rows, s), i, e, u, w)
         }
     }
 }
@@ -101,12 +99,12 @@ fn mode_pressures(
 fn setting_pressures(
     case: &[i64],
     row: &[i64],
-    layout: Layout,
+    rows: &[usize],
     i: usize,
     e: usize,
     setting: Setting,
 ) -> bool
-    requires { ⌜ (AtArc (now case) (now row) layout i e) × (setting ≡ settingIn (now case) (now row) e) ⌝ }
+    requires { ⌜ (AtArc (now case) (now row) (now rows) i e) × (setting ≡ settingIn (now case) (now row) e) ⌝ }
     ensures { λ r. ⌜ r ≡ settingPressures (now (case .entry)) (now (row .entry)) i e setting ⌝ }
 {
     match setting {
@@ -115,16 +113,16 @@ fn setting_pressures(
         Setting::Active { way, mode } => {
             let c = arc(case, e);
             match way {
-                Way::Forward => mode_pressures(case, row, layout, i, e, mode, c.from, c.to),
-                Way::Backward => mode_pressures(case, row, layout, i, e, mode, c.to, c.from),
+                Way::Forward => mode_pressures(case, row, rows, i, e, mode, c.from, c.to),
+                Way::Backward => mode_pressures(case, row, rows, i, e, mode, c.to, c.from),
             }
         }
     }
 }
 
 // 26
-fn pressures_kept(case: &[i64], row: &[i64], layout: Layout, i: usize, e: usize) -> bool
-    requires { ⌜ AtArc (now case) (now row) layout i e ⌝ }
+fn pressures_kept(case: &[i64], row: &[i64], rows: &[usize], i: usize, e: usize) -> bool
+    requires { ⌜ AtArc (now case) (now row) (now rows) i e ⌝ }
     ensures { λ r. ⌜ r ≡ pressuresKept (now (case .entry)) (now (row .entry)) i e ⌝ }
 {
     let c = arc(case, e);
@@ -134,7 +132,7 @@ fn pressures_kept(case: &[i64], row: &[i64], layout: Layout, i: usize, e: usize)
         _ => setting_pressures(
             case,
             row,
-            layout,
+            rows,
             i,
             e,
             setting_of(kind, arc_row(case, row, e).setting),
@@ -144,7 +142,7 @@ fn pressures_kept(case: &[i64], row: &[i64], layout: Layout, i: usize, e: usize)
 
 // Are there few enough machines, and do they carry the flow?
 fn machines_carry(case: &[i64], row: &[i64], first: usize, e: usize, flow: i64) -> bool
-    requires { ⌜ (Counted (now case)) × (e < arcsOf (now case)) × (first ≡ homeOf (now case) e) × (MachinesSized (now case) first) ⌝ }
+    requires { ⌜ (AcceptedCase (now case)) × (e < arcsOf (now case)) × (first ≡ homeOf (now case) e) × (MachinesSized (now case) first) ⌝ }
     ensures { λ r. ⌜ r ≡ machinesCarry (now (case .entry)) (now (row .entry)) e flow ⌝ }
 {
     let machines = arc_row(case, row, e).machines;
@@ -159,19 +157,19 @@ fn machines_carry(case: &[i64], row: &[i64], first: usize, e: usize, flow: i64) 
 fn mode_machines(
     case: &[i64],
     row: &[i64],
-    layout: Layout,
+    rows: &[usize],
     i: usize,
     e: usize,
     mode: Mode,
     flow: i64,
 ) -> bool
-    requires { ⌜ (AtArc (now case) (now row) layout i e) × (mode ≡ modes.Compressing → 3 ≤ arcOf (now case) e .kind) ⌝ }
+    requires { ⌜ (AtArc (now case) (now row) (now rows) i e) × (mode ≡ modes.Compressing → 3 ≤ arcOf (now case) e .kind) ⌝ }
     ensures { λ r. ⌜ r ≡ modeMachines (now (case .entry)) (now (row .entry)) e mode flow ⌝ }
 {
     match mode {
         Mode::Compressing => {
             let s = artificial(case, e).station;
-            machines_carry(case, row, home(layout, s), e, flow)
+            machines_carry(case, row, home(rows, s), e, flow)
         }
         Mode::Open => same(arc_row(case, row, e).machines, 0),
         Mode::Regulating => same(arc_row(case, row, e).machines, 0),
@@ -179,8 +177,8 @@ fn mode_machines(
 }
 
 // 27
-fn machines_used(case: &[i64], row: &[i64], layout: Layout, i: usize, e: usize) -> bool
-    requires { ⌜ AtArc (now case) (now row) layout i e ⌝ }
+fn machines_used(case: &[i64], row: &[i64], rows: &[usize], i: usize, e: usize) -> bool
+    requires { ⌜ AtArc (now case) (now row) (now rows) i e ⌝ }
     ensures { λ r. ⌜ r ≡ machinesUsed (now (case .entry)) (now (row .entry)) e ⌝ }
 {
     let r = arc_row(case, row, e);
@@ -189,8 +187,8 @@ fn machines_used(case: &[i64], row: &[i64], layout: Layout, i: usize, e: usize) 
         Setting::Unknown => same(r.machines, 0),
         Setting::Off => same(r.machines, 0),
         Setting::Active { way, mode } => match way {
-            Way::Forward => mode_machines(case, row, layout, i, e, mode, r.a),
-            Way::Backward => mode_machines(case, row, layout, i, e, mode, r.b),
+            Way::Forward => mode_machines(case, row, rows, i, e, mode, r.a),
+            Way::Backward => mode_machines(case, row, rows, i, e, mode, r.b),
         },
     }
 }
@@ -198,15 +196,15 @@ fn machines_used(case: &[i64], row: &[i64], layout: Layout, i: usize, e: usize) 
 pub(crate) fn pressure_answer(
     case: &[i64],
     row: &[i64],
-    layout: Layout,
+    rows: &[usize],
     i: usize,
     e: usize,
 ) -> Answer
-    requires { ⌜ AtArc (now case) (now row) layout i e ⌝ }
+    requires { ⌜ AtArc (now case) (now row) (now rows) i e ⌝ }
     ensures { λ r. ⌜ r ≡ firstNo (pressureQuestions (now (case .entry)) (now (row .entry)) i e) ⌝ }
 {
     or_else(
-        ask(pressures_kept(case, row, layout, i, e), 26, i + 1, e),
-        ask(machines_used(case, row, layout, i, e), 27, i + 1, e),
+        ask(pressures_kept(case, row, rows, i, e), 26, i + 1, e),
+        ask(machines_used(case, row, rows, i, e), 27, i + 1, e),
     )
 }

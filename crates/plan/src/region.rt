@@ -5,10 +5,11 @@ ghost use Rattle.numbers.specs.SignedBounds.{Bounded};
 ghost use Rattle.numbers.specs.Sum.{onlyN};
 ghost use Rattle.case.specs.Layout.{numberAt, nodesOf, arcsOf};
 ghost use Rattle.plan.specs.Sizes.{NodesSized};
-ghost use Rattle.plan.specs.Handed.{AtBalance};
+ghost use Rattle.plan.specs.Handed.{AcceptedCase, AtBalance};
 ghost use Rattle.plan.specs.Region.{inward, innerPipe, innerPipes, innerGas, regionGas, edgeFlow, edgeFlows, regionSupply, suppliesIn, broughtIn};
 ghost use Rattle.plan.specs.RegionResidual.{ownNode, ownNodes, ownPipe, ownPipes};
 ghost use Rattle.plan.specs.RegionHanded.{RegionPressures, RegionFlows, RegionStep, RegionRoom, RegionAdded};
+use super::accepted::arc;
 use super::balance::end_flows;
 use super::balance::net_flows;
 use super::balance::node_residual;
@@ -18,11 +19,11 @@ use super::pipes::pipe_residual;
 use super::previous::row_pressures;
 use super::rows::node_row;
 use super::totals::pipe_gas;
-use case::read::arc;
 use numbers::sets::member;
 
 // Is the arc a pipe with both ends in the set?
 pub(crate) fn inner_pipe(case: &[i64], set: i64, e: usize) -> bool
+    requires { ⌜ (AcceptedCase (now case)) × (e < arcsOf (now case)) ⌝ }
     ensures { λ r. ⌜ r ≡ innerPipe (now (case .entry)) set e ⌝ }
 {
     let c = arc(case, e);
@@ -41,7 +42,7 @@ fn one_if(yes: bool) -> usize
 }
 
 pub(crate) fn inner_pipes(case: &[i64], set: i64, arcs: usize) -> usize
-    requires { ⌜ (arcs ≡ arcsOf (now case)) × (arcs ≤ 120) ⌝ }
+    requires { ⌜ (AcceptedCase (now case)) × (arcs ≡ arcsOf (now case)) ⌝ }
     ensures { λ r. ⌜ r ≡ innerPipes (now (case .entry)) set ⌝ }
 {
     let mut n: usize = 0;
@@ -184,7 +185,7 @@ fn own_nodes(
     let mut sum: usize = 0;
     let mut v: usize = 0;
     while v < nodes {
-        sum += own_node(case, set, row, i, v, net.flows[v]);
+        sum += own_node(case, set, row, i, v, net[v]);
         v += 1;
     }
     sum

@@ -1,23 +1,15 @@
 // 30 to 32, of every station of a step.
 ghost use mathlib.Core.Path.{_≡_};
-ghost use Prim.Native.Nat.{_+_, _<_, _≤_, _^_};
-ghost use lib.IntN.{pos};
 ghost use Rattle.numbers.specs.Question.{firstNo};
-ghost use Rattle.numbers.specs.Sum.{onlyN};
-ghost use Rattle.case.specs.Layout.{nodesOf, arcsOf, stationAt};
-ghost use Rattle.case.specs.StationArcs.{stationArcs};
-ghost use Rattle.case.specs.Bounds.{Counted};
-ghost use Rattle.case.specs.Laid.{Holds};
-ghost use Rattle.plan.specs.PlanRecords.{activeIn};
-ghost use Rattle.plan.specs.StationRules.{oneOf, activeSet, stateObeyed, choiceKept, machinesOnce, stationFlow, fenceFlowKept, fenceNodeKept, fenceFlowsKept, stationQuestions, allStationQuestions};
+ghost use Rattle.case.specs.Records.{stateRow};
+ghost use Rattle.plan.specs.StationRules.{oneOf, obeyed, choiceKept, machinesOnce, fenceFlowKept, fenceNodeKept, fenceFlowsKept, stationQuestions, allStationQuestions};
+ghost use Rattle.plan.specs.StationPass.{activeBits, FlowsPassed};
 ghost use Rattle.plan.specs.Sizes.{FlowsSized};
 ghost use Rattle.plan.specs.Handed.{AcceptedCase, AtStep, AtStation, MachinesKept};
-use super::balance::Net;
-use super::balance::moved;
-use super::rows::arc_row;
+use super::passes::active_sets;
+use super::passes::artificial_flows;
+use super::passes::machines_once;
 use super::rows::choice_of;
-use case::members::belongs;
-use case::read::arc;
 use case::read::direction;
 use case::read::state;
 use case::read::station;
@@ -40,52 +32,12 @@ fn one_of(x: i64, n: usize) -> bool
     if at_most(0, x) { index(x) < n } else { false }
 }
 
-// The set with arc `e` in it, if that is active. It is the station's arc `n`, and the arcs before it make up `set`.
-fn with_active(case: &[i64], row: &[i64], set: usize, n: usize, e: usize) -> usize
-    requires { ⌜ (Counted (now case)) × (e < arcsOf (now case)) × (n < 62) × (set < 2 ^ n) ⌝ }
-    ensures { λ r. ⌜ r ≡ set + onlyN (activeIn (now (case .entry)) (now (row .entry)) e) (2 ^ n) ⌝ }
-{
-    if at_most(1, arc_row(case, row, e).setting) {
-        set + (1usize << n)
-    } else {
-        set
-    }
-}
-
-// The station's arcs that are active, as a set.
-fn active_set(case: &[i64], row: &[i64], s: usize, arcs: usize) -> i64
-    requires { ⌜ (Counted (now case)) × (arcs ≡ arcsOf (now case)) × (stationArcs (now case) s ≤ 30) ⌝ }
-    ensures { λ r. ⌜ r ≡ activeSet (now (case .entry)) (now (row .entry)) s ⌝ }
-{
-    let mut set: usize = 0;
-    let mut n: usize = 0;
-    let mut e: usize = 0;
-    while e < arcs {
-        if belongs(case, s, e) {
-            set = with_active(case, row, set, n, e);
-            n += 1;
-        }
-        e += 1;
-    }
-    set as i64
-}
-
 // Does the state support the direction, and do the active arcs obey it? The station's rows begin at `first`.
-fn state_obeyed(
-    case: &[i64],
-    row: &[i64],
-    first: usize,
-    s: usize,
-    arcs: usize,
-    f: usize,
-    z: usize,
-) -> bool
-    requires { ⌜ (Counted (now case)) × (arcs ≡ arcsOf (now case)) × (stationArcs (now case) s ≤ 30) × (first ≡ stationAt (now case) s) ⌝ }
-    ensures { λ r. ⌜ r ≡ stateObeyed (now (case .entry)) (now (row .entry)) s f z ⌝ }
+fn state_obeyed(case: &[i64], first: usize, active: i64, f: usize, z: usize) -> bool
+    ensures { λ r. ⌜ r ≡ obeyed (stateRow (now (case .entry)) first z) f active ⌝ }
 {
     let x = state(case, first, z);
     if member(x.directions, f) {
-        let active = active_set(case, row, s, arcs);
         if subset(x.on, active) {
             return disjoint(x.off, active);
         }
@@ -94,8 +46,8 @@ fn state_obeyed(
 }
 
 // 30
-fn choice_kept(case: &[i64], row: &[i64], layout: Layout, i: usize, s: usize) -> bool
-    requires { ⌜ AtStation (now case) (now row) layout i s ⌝ }
+fn choice_kept(case: &[i64], row: &[i64], layout: Layout, i: usize, s: usize, active: usize) -> bool
+    requires { ⌜ (AtStation (now case) (now row) layout i s) × (active ≡ activeBits (now case) (now row) s) ⌝ }
     ensures { λ r. ⌜ r ≡ choiceKept (now (case .entry)) (now (row .entry)) s ⌝ }
 {
     let first = layout.rows[s];
@@ -105,56 +57,14 @@ fn choice_kept(case: &[i64], row: &[i64], layout: Layout, i: usize, s: usize) ->
         if one_of(chosen.state, has.states) {
             return state_obeyed(
                 case,
-                row,
                 first,
-                s,
-                layout.arcs,
+                active as i64,
                 index(chosen.direction),
                 index(chosen.state),
             );
         }
     }
     false
-}
-
-// 31: no arc of the station has a machine that an arc before it has.
-fn machines_once(case: &[i64], row: &[i64], layout: Layout, i: usize, s: usize) -> bool
-    requires { ⌜ (AtStation (now case) (now row) layout i s) × (MachinesKept (now case) (now row)) ⌝ }
-    ensures { λ r. ⌜ r ≡ machinesOnce (now (case .entry)) (now (row .entry)) s ⌝ }
-{
-    let arcs = layout.arcs;
-    let mut taken: usize = 0;
-    let mut e: usize = 0;
-    while e < arcs {
-        if belongs(case, s, e) {
-            let machines = index(arc_row(case, row, e).machines);
-            if machines & taken != 0 {
-                return false;
-            }
-            taken = taken | machines;
-        }
-        e += 1;
-    }
-    true
-}
-
-// The net flow from each node into the station's arcs.
-fn station_flows(case: &[i64], row: &[i64], s: usize, arcs: usize) -> Net
-    requires { ⌜ (AcceptedCase (now case)) × (arcs ≡ arcsOf (now case)) × (FlowsSized (now case) (now row)) ⌝ }
-    ensures { λ r. ⌜ Holds (pos 0) (r .flows) (stationFlow (now (case .entry)) (now (row .entry)) s) (nodesOf (now (case .entry))) ⌝ }
-{
-    let mut net = Net { flows: [0; 60] };
-    let mut e: usize = 0;
-    while e < arcs {
-        if belongs(case, s, e) {
-            let c = arc(case, e);
-            let r = arc_row(case, row, e);
-            let flow = r.a - r.b;
-            net = moved(net, c.from, c.to, flow, flow);
-        }
-        e += 1;
-    }
-    net
 }
 
 fn fence_flow_kept(entry: bool, exit: bool, flow: i64) -> bool
@@ -183,11 +93,17 @@ fn fence_kept(chosen: Direction, inside: i64, plain: i64, v: usize, flow: i64) -
 }
 
 // 32
-fn fence_flows_kept(case: &[i64], row: &[i64], layout: Layout, i: usize, s: usize) -> bool
-    requires { ⌜ AtStation (now case) (now row) layout i s ⌝ }
+fn fence_flows_kept(
+    case: &[i64],
+    row: &[i64],
+    layout: Layout,
+    i: usize,
+    s: usize,
+    flows: &[i64],
+) -> bool
+    requires { ⌜ (AtStation (now case) (now row) layout i s) × (FlowsPassed (now case) (now row) (now flows)) ⌝ }
     ensures { λ r. ⌜ r ≡ fenceFlowsKept (now (case .entry)) (now (row .entry)) s ⌝ }
 {
-    let net = station_flows(case, row, s, layout.arcs);
     let chosen = direction(
         case,
         layout.rows[s],
@@ -198,7 +114,7 @@ fn fence_flows_kept(case: &[i64], row: &[i64], layout: Layout, i: usize, s: usiz
     let nodes = layout.nodes;
     let mut v: usize = 0;
     while v < nodes {
-        if !fence_kept(chosen, inside, plain, v, net.flows[v]) {
+        if !fence_kept(chosen, inside, plain, v, flows[v]) {
             return false;
         }
         v += 1;
@@ -206,15 +122,30 @@ fn fence_flows_kept(case: &[i64], row: &[i64], layout: Layout, i: usize, s: usiz
     true
 }
 
-fn station_answer(case: &[i64], row: &[i64], layout: Layout, i: usize, s: usize) -> Answer
-    requires { ⌜ (AtStation (now case) (now row) layout i s) × (MachinesKept (now case) (now row)) ⌝ }
+// `active` are the station's active arcs, `once` is the answer to 31, `flows` are the net flows into artificial arcs.
+fn station_answer(
+    case: &[i64],
+    row: &[i64],
+    layout: Layout,
+    i: usize,
+    s: usize,
+    active: usize,
+    once: bool,
+    flows: &[i64],
+) -> Answer
+    requires { ⌜ (AtStation (now case) (now row) layout i s) × (active ≡ activeBits (now case) (now row) s) × (once ≡ machinesOnce (now case) (now row) s) × (FlowsPassed (now case) (now row) (now flows)) ⌝ }
     ensures { λ r. ⌜ r ≡ firstNo (stationQuestions (now (case .entry)) (now (row .entry)) i s) ⌝ }
 {
     or_else(
-        ask(choice_kept(case, row, layout, i, s), 30, i + 1, s),
+        ask(choice_kept(case, row, layout, i, s, active), 30, i + 1, s),
         or_else(
-            ask(machines_once(case, row, layout, i, s), 31, i + 1, s),
-            ask(fence_flows_kept(case, row, layout, i, s), 32, i + 1, s),
+            ask(once, 31, i + 1, s),
+            ask(
+                fence_flows_kept(case, row, layout, i, s, flows),
+                32,
+                i + 1,
+                s,
+            ),
         ),
     )
 }
@@ -224,9 +155,12 @@ pub(crate) fn station_answers(case: &[i64], row: &[i64], layout: Layout, i: usiz
     ensures { λ r. ⌜ r ≡ firstNo (allStationQuestions (now (case .entry)) (now (row .entry)) i) ⌝ }
 {
     let stations = layout.stations;
+    let active = active_sets(case, row, layout.arcs);
+    let once = machines_once(case, row, layout.arcs);
+    let flows = artificial_flows(case, row, layout.arcs);
     let mut s: usize = 0;
     while s < stations {
-        let a = station_answer(case, row, layout, i, s);
+        let a = station_answer(case, row, layout, i, s, active[s], once[s], &flows);
         match a {
             Answer::Yes => {}
             Answer::No {

@@ -8,6 +8,9 @@ ghost use Rattle.plan.specs.Carried.{activeOf, indexOf};
 ghost use Rattle.plan.specs.Sizes.{NodesSized, PressuresSized};
 ghost use Rattle.plan.specs.Summed.{Slacked, TotalsSized, Added};
 ghost use Rattle.plan.specs.Handed.{AcceptedCase, AtStep, ChoicesKept, StepKept};
+use super::accepted::arc;
+use super::accepted::artificial;
+use super::accepted::pipe;
 use super::balance::net_flows;
 use super::balance::node_residual;
 use super::machines::Sum;
@@ -16,10 +19,7 @@ use super::previous::Previous;
 use super::rows::arc_row;
 use super::rows::choice_of;
 use super::rows::node_row;
-use case::read::arc;
-use case::read::artificial;
 use case::read::direction;
-use case::read::pipe;
 use case::read::state;
 use case::records::Layout;
 use numbers::compare::at;
@@ -180,7 +180,7 @@ pub(crate) fn node_residuals(
     let mut sum: usize = 0;
     let mut v: usize = 0;
     while v < nodes {
-        sum += node_residual(case, row, i, v, net.flows[v]);
+        sum += node_residual(case, row, i, v, net[v]);
         v += 1;
     }
     sum

@@ -15,19 +15,15 @@ use Rattle.api.proofs.tell.count.Reads as count-reads
 use Rattle.api.proofs.tell.refusal.Reads as refusal-reads
 use Rattle.numbers.proofs.writer.write.Reads as write-reads
 
--- src/codec.rt:37:9
 returns : tie.Need-returns
 returns c = rw (lt-leb _ _ (c .if1 .taken)) (refl, (refl, refl))
 
--- src/codec.rt:39:9
 write-requires : tie.Need-write-requires
 write-requires c κs = search needs
 
--- src/codec.rt:41:24
 enum-known-r : tie.Need-enum-known-r
 enum-known-r c = search needs
 
--- src/codec.rt:41:34
 count-requires : tie.Need-count-requires
 count-requires c κs =
     let r = c .before .before in
@@ -35,11 +31,9 @@ count-requires c κs =
     let a = d .before .before .before .before .args in
     (d .before .before .if1 .left, omega (arith, write-within (now (a .list)) (length (now (a .bytes))) _ (ap writingTold (sym (r .r .given .1)) ∙ d .write .ensures .0)))
 
--- src/codec.rt:42:28
 enum-known-r-2 : tie.Need-enum-known-r-2
 enum-known-r-2 c = search needs
 
--- src/codec.rt:42:47
 refusal-requires : tie.Need-refusal-requires
 refusal-requires c κs =
     let r = c .before .before in
@@ -48,15 +42,12 @@ refusal-requires c κs =
     let w = write-refusal (now (a .list)) (length (now (a .bytes))) _ _ (ap writingTold (sym (r .r2 .given .1)) ∙ d .write .ensures .0) in
     (d .before .before .if1 .left, omega (arith, w .0), omega arith, omega (arith, w .1))
 
--- src/codec.rt:30:1
 same-length : tie.Need-same-length
 same-length c = search needs
 
--- src/codec.rt:30:1
 same-length-2 : tie.Need-same-length-2
 same-length-2 c = search needs
 
--- src/codec.rt:30:1
 returns-2 : tie.Need-returns-2
 returns-2 c =
     let k = c .before in
@@ -66,15 +57,12 @@ returns-2 c =
     let x = coded out (ap writingTold (sym (r .r .given .1)) ∙ d .write .ensures .0) (omega arith) (k .count .ensures .0) (k .count .ensures .1) in
     rw (le-leb _ _ (d .before .before .if1 .left)) (x .0, (x .1, d .write .ensures .1))
 
--- src/codec.rt:30:1
 same-length-3 : tie.Need-same-length-3
 same-length-3 c = search needs
 
--- src/codec.rt:30:1
 same-length-4 : tie.Need-same-length-4
 same-length-4 c = search needs
 
--- src/codec.rt:30:1
 returns-3 : tie.Need-returns-3
 returns-3 c =
     let k = c .before in

@@ -1,4 +1,4 @@
-use mathlib.Core.Path.{_≡_, sym, _∙_}
+use mathlib.Core.Path.{_≡_, refl, sym, _∙_}
 use Prim.Native.Nat.{ℕ}
 use native.Mathlib.Omega.{arith}
 use borrow.Author.Needs.{needs}
@@ -20,10 +20,18 @@ enum-told-2 : tie.Need-enum-told-2
 enum-told-2 c = search needs
 
 returns : tie.Need-returns
-returns c = search needs
+returns c =
+    let d = c .before in
+    record {
+      passed = λ y. c .lay .ensures;
+      refused = λ n s p e. let z : _≡_ {A = ℕ} 0 1 = cc (d .before .before .list-answer .ensures, d .enum-told .given .1) in let f : ⊥ = omega arith in absurd f;
+    }
 
 returns-2 : tie.Need-returns-2
-returns-2 c = λ y. let z : _≡_ {A = ℕ} 0 1 = cc (c .before .before .list-answer .ensures, c .enum-told2 .given .1) in let f : ⊥ = omega arith in absurd f
+returns-2 c = record {
+  passed = λ y. let z : _≡_ {A = ℕ} 0 1 = cc (c .before .before .list-answer .ensures, c .enum-told2 .given .1) in let f : ⊥ = omega arith in absurd f;
+  refused = λ n s p e. refl;
+}
 
 pub layout-spec : {M : Type 1} → statement M
 layout-spec =

@@ -22,7 +22,6 @@ Inv-loop bytes start group value₀ scale₀ at₀ more₀ value scale at more =
 abbrev μ-loop : tie.MeasureT-loop
 μ-loop bytes start group value₀ scale₀ at₀ more₀ value scale at more = more
 
--- src/reader.rt:78:5
 byte-small : (w : tie.After-wide Inv-loop μ-loop) → let l = w .before .before .before .before in getD (l .before .before .args .bytes .now) (l .loop .at) 0 < 256
 byte-small w = let l = w .before .before .before .before in omega (arith, w .before .shared-slice-known2 .given (l .loop .at))
 
@@ -37,30 +36,24 @@ group-small c =
 loop-holds : tie.Need-loop-holds Inv-loop μ-loop
 loop-holds c = let p = c .before .pre in gathering _ _ _ (p .0) (p .1)
 
--- src/reader.rt:80:13
 returns : tie.Need-returns Inv-loop μ-loop
 returns c = gather-none (c .before .before .loop .inv) (c .if1 .taken)
 
--- src/reader.rt:82:22
 shared-slice-read-wide : tie.Need-shared-slice-read-wide Inv-loop μ-loop
 shared-slice-read-wide c = omega arith
 
--- src/reader.rt:82:13
 wide-requires : tie.Need-wide-requires Inv-loop μ-loop
 wide-requires c κs = search needs
 
--- src/reader.rt:84:42
 sub-last : tie.Need-sub-last Inv-loop μ-loop
 sub-last c = omega arith
 
--- src/reader.rt:84:13
 last-requires : tie.Need-last-requires Inv-loop μ-loop
 last-requires c κs =
     let i = c .before .before .before .before in
     let g = i .before .loop .inv in
     (c .if2 .taken, g .below, omega (arith, scale-most _ g (i .loop-test .taken)), omega arith)
 
--- src/reader.rt:84:13
 returns-2 : tie.Need-returns-2 Inv-loop μ-loop
 returns-2 c =
     let w = c .before .before in
@@ -69,13 +62,11 @@ returns-2 c =
     let b = w .wide .ensures in
     c .last .ensures ∙ rw b (gathered _ (i .before .loop .inv) (i .loop-test .taken) (e .if1 .left) (subst (λ (n : ℕ). n < 128) b (c .before .if2 .taken)))
 
--- src/reader.rt:86:18
 mul-value : tie.Need-mul-value Inv-loop μ-loop
 mul-value c =
     let m = group-small c in
     record { fits = omega (arith, m) }
 
--- src/reader.rt:86:9
 add-value : tie.Need-add-value Inv-loop μ-loop
 add-value c =
     let m = group-small c in
@@ -83,25 +74,20 @@ add-value c =
     let g = i .before .loop .inv in
     record { fits = omega (arith, m, g .below, scale-most _ g (i .loop-test .taken)) }
 
--- src/reader.rt:87:9
 mul-scale : tie.Need-mul-scale Inv-loop μ-loop
 mul-scale c =
     let i = c .before .before .before .before in
     record { fits = omega (arith, scale-most _ (i .before .loop .inv) (i .loop-test .taken)) }
 
--- src/reader.rt:88:9
 add-at : tie.Need-add-at Inv-loop μ-loop
 add-at c = omega arith
 
--- src/reader.rt:89:9
 sub-more : tie.Need-sub-more Inv-loop μ-loop
 sub-more c = omega arith
 
--- src/reader.rt:78:5
 loop-less : tie.Need-loop-less Inv-loop μ-loop
 loop-less c = omega arith
 
--- src/reader.rt:78:5
 loop-again : tie.Need-loop-again Inv-loop μ-loop
 loop-again c =
     let w = c .before in
@@ -110,13 +96,11 @@ loop-again c =
     let b = w .wide .ensures in
     rw b (gather-on _ (i .before .loop .inv) (i .loop-test .taken) (e .if1 .left) (subst (λ (n : ℕ). 128 ≤ n) b (c .if2 .left)) (byte-small w))
 
--- src/reader.rt:91:5
 tenth-requires : tie.Need-tenth-requires Inv-loop μ-loop
 tenth-requires c κs =
     let g = c .before .loop .inv in
     omega (arith, g .below, scale-last _ g (c .loop-test .left))
 
--- src/reader.rt:70:1
 returns-3 : tie.Need-returns-3 Inv-loop μ-loop
 returns-3 c = c .tenth .ensures ∙ gather-tenth _ (c .before .before .loop .inv) (c .before .loop-test .left)
 

@@ -11,15 +11,12 @@ use Rattle.numbers.proofs.reader.number_at.Lts as lts
 use Rattle.numbers.proofs.reader.later.Reads as later-reads
 use Rattle.numbers.proofs.reader.wide.Reads as wide-reads
 
--- src/reader.rt:59:22
 shared-slice-read-wide : tie.Need-shared-slice-read-wide
 shared-slice-read-wide c = search needs
 
--- src/reader.rt:59:9
 wide-requires : tie.Need-wide-requires
 wide-requires c κs = search needs
 
--- src/reader.rt:61:9
 returns : tie.Need-returns
 returns c =
     let w = c .before in
@@ -27,18 +24,15 @@ returns c =
     let b = w .wide .ensures in
     rw b (sym (number-one _ _ (a .pre) (subst (λ (n : ℕ). n < 128) b (c .if1 .taken))))
 
--- src/reader.rt:66:18
 add-later : tie.Need-add-later
 add-later c = search needs
 
--- src/reader.rt:66:5
 later-requires : tie.Need-later-requires
 later-requires c κs =
     let w = c .before in
     let a = w .before .before .before in
     (omega (arith, a .pre), omega (arith, w .wide .ensures, w .before .shared-slice-known2 .given (a .args .at)))
 
--- src/reader.rt:55:1
 returns-2 : tie.Need-returns-2
 returns-2 c =
     let w = c .before .before in

@@ -26,7 +26,6 @@ Inv-loop bytes list₀ at₀ count₀ list at count = Storing bytes list₀ list
 abbrev μ-loop : tie.MeasureT-loop
 μ-loop bytes list₀ at₀ count₀ list at count = length bytes - at
 
--- src/reader.rt:29:5
 -- a whole number stands at `at`
 number-is : (c : tie.After-n Inv-loop μ-loop) → let k = c .before .before in let l = k .before .before .before in
     numberOf (drop (l .loop .at) (now (l .before .before .args .bytes))) ≡ Whole (c .n .given .0 .0) (c .n .given .0 .1 .0)
@@ -35,43 +34,34 @@ number-is c = sym (c .before .before .number-at .ensures) ∙ c .n .given .1
 loop-holds : tie.Need-loop-holds Inv-loop μ-loop
 loop-holds c = storing _ _
 
--- src/reader.rt:31:13
 same-length : tie.Need-same-length Inv-loop μ-loop
 same-length c = c .before .before .loop .inv .whole
 
--- src/reader.rt:31:13
 returns : tie.Need-returns Inv-loop μ-loop
 returns c =
     let s = store-full (c .before .before .loop .inv) (c .before .loop-test .taken) (c .if1 .taken) in
     (s .told, s .stored)
 
--- src/reader.rt:36:13
 number-at-requires : tie.Need-number-at-requires Inv-loop μ-loop
 number-at-requires c κs = search needs
 
--- src/reader.rt:38:29
 enum-known-n : tie.Need-enum-known-n Inv-loop μ-loop
 enum-known-n c = search needs
 
--- src/reader.rt:39:31
 signed-requires : tie.Need-signed-requires Inv-loop μ-loop
 signed-requires c κs = search needs
 
--- src/reader.rt:39:17
 mul-t12 : tie.Need-mul-t12 Inv-loop μ-loop
 mul-t12 c = search needs
 
--- src/reader.rt:39:17
 slice-set-from-list : tie.Need-slice-set-from-list Inv-loop μ-loop
 slice-set-from-list c = search needs
 
--- src/reader.rt:40:17
 add-count : tie.Need-add-count Inv-loop μ-loop
 add-count c =
     let e = c .before .before .before .before .before in
     omega (arith, e .if1 .left, e .before .before .loop .inv .whole)
 
--- src/reader.rt:41:17
 add-at : tie.Need-add-at Inv-loop μ-loop
 add-at c =
     let n = c .before .before in
@@ -79,7 +69,6 @@ add-at c =
     let bytes = now (l .before .before .args .bytes) in
     omega (arith, used-some (drop (l .loop .at) bytes) (number-is n), length-drop (l .loop .at) bytes, l .loop .inv .inside)
 
--- src/reader.rt:29:5
 loop-less : tie.Need-loop-less Inv-loop μ-loop
 loop-less c =
     let n = c .before .before in
@@ -88,7 +77,6 @@ loop-less c =
     let bytes = now (l .before .before .args .bytes) in
     omega (arith, used-some (drop (l .loop .at) bytes) (number-is n), i .loop-test .taken)
 
--- src/reader.rt:29:5
 loop-again : tie.Need-loop-again Inv-loop μ-loop
 loop-again c =
     let n = c .before .before in
@@ -97,15 +85,12 @@ loop-again c =
     let v : toZ w64 (ofZ w64 (c .signed .result)) ≡ signedOf (n .n .given .0 .0) = toZ-ofZ {w = w64} (record { sfits = c .signed .ok }) ∙ c .signed .ensures in
     rw v (store-turn (i .before .loop .inv) (i .loop-test .taken) (e .if1 .left) (number-is n))
 
--- src/reader.rt:43:31
 enum-known-n-2 : tie.Need-enum-known-n-2 Inv-loop μ-loop
 enum-known-n-2 c = search needs
 
--- src/reader.rt:44:17
 same-length-2 : tie.Need-same-length-2 Inv-loop μ-loop
 same-length-2 c = c .before .before .before .before .before .before .loop .inv .whole
 
--- src/reader.rt:44:17
 returns-2 : tie.Need-returns-2 Inv-loop μ-loop
 returns-2 c =
     let n = c .before in
@@ -115,11 +100,9 @@ returns-2 c =
     let s = store-no (i .before .loop .inv) (i .loop-test .taken) (e .if1 .left) (sym (k .number-at .ensures) ∙ n .n2 .given .1) in
     (s .told, s .stored)
 
--- src/reader.rt:23:1
 same-length-3 : tie.Need-same-length-3 Inv-loop μ-loop
 same-length-3 c = c .before .loop .inv .whole
 
--- src/reader.rt:23:1
 returns-3 : tie.Need-returns-3 Inv-loop μ-loop
 returns-3 c =
     let s = store-end (c .before .loop .inv) (c .loop-test .left) in

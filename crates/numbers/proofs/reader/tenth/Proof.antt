@@ -11,30 +11,24 @@ use Rattle.numbers.proofs.reader.tenth.Reads as reads
 use Rattle.numbers.proofs.reader.tenth.Lts as lts
 use Rattle.numbers.proofs.reader.wide.Reads as wide-reads
 
--- src/reader.rt:115:9
 returns : tie.Need-returns
 returns c = sym (ap (shifted _ (2 ^ 63) 9) (later-none 0 _ _ (c .if1 .taken)))
 
--- src/reader.rt:117:18
 shared-slice-read-wide : tie.Need-shared-slice-read-wide
 shared-slice-read-wide c = search needs
 
--- src/reader.rt:117:9
 wide-requires : tie.Need-wide-requires
 wide-requires c κs = search needs
 
--- src/reader.rt:120:20
 add-t10 : tie.Need-add-t10
 add-t10 c = search needs
 
--- src/reader.rt:110:1
 returns-2 : tie.Need-returns-2
 returns-2 c =
     let w = c .before in
     let e = w .before .before in
     sym (ap (shifted _ (2 ^ 63) 9) (tenth-one _ _ (e .if1 .left) (sym (w .wide .ensures) ∙ c .if2 .taken)))
 
--- src/reader.rt:110:1
 returns-3 : tie.Need-returns-3
 returns-3 c =
     let w = c .before in

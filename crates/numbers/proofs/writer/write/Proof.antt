@@ -10,30 +10,24 @@ use Rattle.numbers.proofs.writer.write.Lts as lts
 use Rattle.numbers.proofs.writer.put_all.Reads as put-all-reads
 use Rattle.numbers.proofs.writer.size_of.Reads as size-of-reads
 
--- src/writer.rt:27:9
 size-of-requires : tie.Need-size-of-requires
 size-of-requires c κs = search needs
 
--- src/writer.rt:29:20
 enum-known-s : tie.Need-enum-known-s
 enum-known-s c = search needs
 
--- src/writer.rt:30:13
 put-all-requires : tie.Need-put-all-requires
 put-all-requires c κs =
     let s = c .before .before in
     let z = s .before .before in
     fitting (now (z .before .before .args .list)) (now (z .before .before .args .bytes)) (sym (z .size-of .ensures) ∙ s .s .given .1) .fits
 
--- src/writer.rt:33:23
 enum-told : tie.Need-enum-told
 enum-told c = search needs
 
--- src/writer.rt:23:1
 same-length : tie.Need-same-length
 same-length c = search needs
 
--- src/writer.rt:23:1
 returns : tie.Need-returns
 returns c =
     let p = c .before .before in
@@ -44,7 +38,6 @@ returns c =
     let f = fitting list bytes (sym (z .size-of .ensures) ∙ s .s .given .1) in
     (told-fits list bytes f, p .put-all .ensures ∙ written-fits list bytes f)
 
--- src/writer.rt:23:1
 returns-2 : tie.Need-returns-2
 returns-2 c =
     let z = c .before .before in

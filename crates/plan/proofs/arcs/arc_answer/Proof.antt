@@ -10,7 +10,7 @@ use Rattle.plan.proofs.arcs.arc_answer.Statement.{statement}
 use Rattle.plan.proofs.arcs.arc_answer.Tie as tie
 
 flow-answer-requires : tie.Need-flow-answer-requires
-flow-answer-requires c κs = let a = c .pre .0 in (a .at .accepted, omega (arith, a .at .step, counted (a .at .accepted) .steps), a .arc)
+flow-answer-requires c κs = let a = c .before .pre .0 in (a .at .accepted, omega (arith, a .at .step, counted (a .at .accepted) .steps), a .arc)
 
 pressure-answer-requires : tie.Need-pressure-answer-requires
 pressure-answer-requires c κs = search needs
@@ -24,7 +24,7 @@ enum-told c = search needs
 pipe-answer-requires : tie.Need-pipe-answer-requires
 pipe-answer-requires c κs =
     let o = c .before .before in
-    let s = o .before .before .before in
+    let s = o .before .before .before .before in
     let a = s .pre .0 in
     let case = now (s .args .case) in
     let row = now (s .args .row) in
@@ -47,7 +47,7 @@ returns : tie.Need-returns
 unfolding arcQuestions
 returns c =
     let o = c .before .before .before in
-    let s = o .before .before .before in
+    let s = o .before .before .before .before in
     let case = now (s .args .case) in
     let row = now (s .args .row) in
     let i = s .args .i in
@@ -58,7 +58,7 @@ returns-2 : tie.Need-returns-2
 unfolding arcQuestions
 returns-2 c =
     let o = c .before .before in
-    let s = o .before .before .before in
+    let s = o .before .before .before .before in
     let case = now (s .args .case) in
     let row = now (s .args .row) in
     let i = s .args .i in

@@ -33,7 +33,7 @@ node-in c = rw (← (c .before .before .before .before .pre .0 .laid .nodes)) (c
 -- the node with its net flow
 at-node : (c : tie.In-loop Inv-loop μ-loop) →
     AtBalance (now (c .before .before .before .before .args .case)) (now (c .before .before .before .before .args .row)) (c .before .before .before .before .args .i) (c .before .loop .v)
-    (toZ w64 (ofZ w64 (getD (c .before .before .net-flows .result .flows) (c .before .loop .v) (pos 0))))
+    (toZ w64 (ofZ w64 (getD (c .before .before .net-flows .result) (c .before .loop .v) (pos 0))))
 at-node c =
     let h = c .before in
     let n = h .before in
@@ -64,8 +64,8 @@ loop-holds c =
 mul-node-residual : tie.Need-mul-node-residual Inv-loop μ-loop
 mul-node-residual c = omega (arith, node-in c, counted (c .before .before .before .before .pre .0 .accepted) .nodes)
 
-element-copy-out-node-residual : tie.Need-element-copy-out-node-residual Inv-loop μ-loop
-element-copy-out-node-residual c = omega (arith, node-in c, counted (c .before .before .before .before .pre .0 .accepted) .nodes)
+array-copy-out-node-residual : tie.Need-array-copy-out-node-residual Inv-loop μ-loop
+array-copy-out-node-residual c = omega (arith, node-in c, counted (c .before .before .before .before .pre .0 .accepted) .nodes)
 
 node-residual-requires : tie.Need-node-residual-requires Inv-loop μ-loop
 node-residual-requires c κs = at-node (c .before)
@@ -135,7 +135,7 @@ balance-answers-spec =
     net-flows-requires
     loop-holds
     mul-node-residual
-    element-copy-out-node-residual
+    array-copy-out-node-residual
     node-residual-requires
     cast-at-most
     at-most-requires

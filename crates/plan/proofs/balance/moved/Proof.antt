@@ -3,6 +3,7 @@ use mathlib.Core.List.{List}
 use Prim.Native.Nat.{ℕ, _<_}
 use native.Mathlib.Omega.{arith}
 use borrow.Author.Needs.{needs}
+use denote.Ref.{now}
 use lib.Dec.{eqb}
 use lib.IntN.{ℤ, pos, _+ℤ_, _-ℤ_}
 use lib.ListN.{length, set, length-set}
@@ -18,37 +19,37 @@ use Rattle.plan.proofs.balance.moved.Tie as tie
 
 -- the sum that is stored at `from`
 abbrev left : tie.Start → ℤ
-left s = toZ w64 (ofZ w64 (numberAt (s .args .net .flows) (s .args .from))) +ℤ toZ w64 (ofZ w64 (s .args .out))
+left s = toZ w64 (ofZ w64 (numberAt (now (s .args .net)) (s .args .from))) +ℤ toZ w64 (ofZ w64 (s .args .out))
 
 abbrev stored : tie.Start → ℤ
 stored s = toZ w64 (ofZ w64 (left s))
 
-leaves : (s : tie.Start) → Held (left s) (numberAt (s .args .net .flows) (s .args .from) +ℤ s .args .out) 1000020000000
-leaves s = param (s .pre .4 .each (s .args .from) (s .pre .0)) tt +ʳ param (s .pre .2) tt
+leaves : (s : tie.Start) → Held (left s) (numberAt (now (s .args .net)) (s .args .from) +ℤ s .args .out) 1000020000000
+leaves s = param (s .pre .5 .each (s .args .from) (s .pre .0)) tt +ʳ param (s .pre .3) tt
 
-long : (s : tie.Start) → length (s .args .net .flows) ≡ 60
-long s = search needs
+long : (s : tie.Start) → length (now (s .args .net)) ≡ 60
+long s = s .pre .2
 
 -- the flows once that is stored
 abbrev half : tie.Start → List ℤ
-half s = set (s .args .net .flows) (s .args .from) (stored s)
+half s = set (now (s .args .net)) (s .args .from) (stored s)
 
-half-is : (s : tie.Start) (i : ℕ) → numberAt (half s) i ≡ numberAt (s .args .net .flows) i +ℤ only (eqb (s .args .from) i) (s .args .out)
-half-is s = put-add (s .args .net .flows) (s .args .from) (stored s) (s .args .out) (omega (arith, long s, s .pre .0)) ((held (leaves s) tt) .val)
+half-is : (s : tie.Start) (i : ℕ) → numberAt (half s) i ≡ numberAt (now (s .args .net)) i +ℤ only (eqb (s .args .from) i) (s .args .out)
+half-is s = put-add (now (s .args .net)) (s .args .from) (stored s) (s .args .out) (omega (arith, long s, s .pre .0)) ((held (leaves s) tt) .val)
 
 abbrev right : tie.Start → ℤ
 right s = toZ w64 (ofZ w64 (numberAt (half s) (s .args .to))) -ℤ toZ w64 (ofZ w64 (s .args .into))
 
-enters : (s : tie.Start) → Held (right s) (numberAt (s .args .net .flows) (s .args .to) +ℤ only (eqb (s .args .from) (s .args .to)) (s .args .out) -ℤ s .args .into) 1000040000000
+enters : (s : tie.Start) → Held (right s) (numberAt (now (s .args .net)) (s .args .to) +ℤ only (eqb (s .args .from) (s .args .to)) (s .args .out) -ℤ s .args .into) 1000040000000
 enters s =
-    read (half-is s (s .args .to)) (room (s .args .net .flows) (s .args .from) (s .args .to) (s .args .out) (s .pre .4 .each (s .args .to) (s .pre .1)) (s .pre .2)) tt
-    -ʳ param (s .pre .3) tt
+    read (half-is s (s .args .to)) (room (now (s .args .net)) (s .args .from) (s .args .to) (s .args .out) (s .pre .5 .each (s .args .to) (s .pre .1)) (s .pre .3)) tt
+    -ʳ param (s .pre .4) tt
 
 mul-leaving : tie.Need-mul-leaving
 mul-leaving c = search needs
 
-element-copy-out-leaving : tie.Need-element-copy-out-leaving
-element-copy-out-leaving c = search needs
+slice-copy-out-leaving : tie.Need-slice-copy-out-leaving
+slice-copy-out-leaving c = search needs
 
 add-leaving : tie.Need-add-leaving
 add-leaving c = held-fits (leaves (c .before)) tt
@@ -56,14 +57,14 @@ add-leaving c = held-fits (leaves (c .before)) tt
 mul-leaving-2 : tie.Need-mul-leaving-2
 mul-leaving-2 c = search needs
 
-element-set-from-leaving : tie.Need-element-set-from-leaving
-element-set-from-leaving c = search needs
+slice-set-from-leaving : tie.Need-slice-set-from-leaving
+slice-set-from-leaving c = search needs
 
 mul-entering : tie.Need-mul-entering
 mul-entering c = search needs
 
-element-copy-out-entering : tie.Need-element-copy-out-entering
-element-copy-out-entering c = search needs
+slice-copy-out-entering : tie.Need-slice-copy-out-entering
+slice-copy-out-entering c = search needs
 
 sub-entering : tie.Need-sub-entering
 sub-entering c = held-fits (enters (c .before .before)) tt
@@ -71,8 +72,11 @@ sub-entering c = held-fits (enters (c .before .before)) tt
 mul-entering-2 : tie.Need-mul-entering-2
 mul-entering-2 c = search needs
 
-element-set-from-entering : tie.Need-element-set-from-entering
-element-set-from-entering c = search needs
+slice-set-from-entering : tie.Need-slice-set-from-entering
+slice-set-from-entering c = search needs
+
+same-length : tie.Need-same-length
+same-length c = search needs
 
 returns : tie.Need-returns
 unfolding movedAt
@@ -81,20 +85,21 @@ returns c =
     let z = toZ w64 (ofZ w64 (right s)) in
     let e : z ≡ numberAt (half s) (s .args .to) -ℤ s .args .into = (held (enters s) tt) .val ∙ ap (λ (n : ℤ). n -ℤ s .args .into) (sym (half-is s (s .args .to))) in
     let l : s .args .to < length (half s) = simp length-set (omega (arith, long s, s .pre .1)) in
-    record { each = λ i p. put-sub (half s) (s .args .to) z (s .args .into) l e i ∙ ap (λ (n : ℤ). n -ℤ only (eqb (s .args .to) i) (s .args .into)) (half-is s i) }
+    (simp length-set (long s), record { each = λ i p. put-sub (half s) (s .args .to) z (s .args .into) l e i ∙ ap (λ (n : ℤ). n -ℤ only (eqb (s .args .to) i) (s .args .into)) (half-is s i) })
 
 pub moved-spec : {M : Type 1} → statement M
 moved-spec =
     tie.close
     (tie.spec
     mul-leaving
-    element-copy-out-leaving
+    slice-copy-out-leaving
     add-leaving
     mul-leaving-2
-    element-set-from-leaving
+    slice-set-from-leaving
     mul-entering
-    element-copy-out-entering
+    slice-copy-out-entering
     sub-entering
     mul-entering-2
-    element-set-from-entering
+    slice-set-from-entering
+    same-length
     returns)

@@ -1,9 +1,10 @@
-use mathlib.Core.Path.{_≡_, sym, ap, _∙_}
+use mathlib.Core.Path.{_≡_, refl, sym, ap, _∙_}
 use Prim.Native.Nat.{ℕ, _≤_, _<_, _-_}
 use native.Mathlib.Omega.{arith}
 use borrow.Author.Needs.{needs}
 use denote.Ref.{now}
 use lib.IntN.{ℤ}
+use lib.ListN.{length}
 use mir.Syntax.{w64}
 use mir.Val.{toZ, ofZ}
 use Rattle.numbers.specs.SignedBounds.{Bounded}
@@ -20,7 +21,7 @@ use Rattle.plan.proofs.balance.net_flows.Statement.{statement}
 use Rattle.plan.proofs.balance.net_flows.Tie as tie
 
 abbrev Inv-loop : tie.InvT-loop
-Inv-loop case row arcs net₀ e₀ net e = (e ≤ arcs) × Gathers (net .flows) (nodePart case row) e
+Inv-loop case row arcs net₀ e₀ net e = (e ≤ arcs) × Gathers net (nodePart case row) e × (length net ≡ 60)
 
 abbrev μ-loop : tie.MeasureT-loop
 μ-loop case row arcs net₀ e₀ net e = arcs - e
@@ -36,17 +37,20 @@ to-is : (c : tie.After-end-flows Inv-loop μ-loop) → Held (toZ w64 (ofZ w64 (c
 to-is c = let t = c .before .before in read (c .end-flows .ensures .1) (to-sized (t .before .before .pre .2) (t .before .loop .e) (arc-in t)) tt
 
 loop-holds : tie.Need-loop-holds Inv-loop μ-loop
-loop-holds c = (omega arith, gathers-none (nodePart (now (c .args .case)) (now (c .args .row))))
+loop-holds c = (omega arith, gathers-none (nodePart (now (c .args .case)) (now (c .args .row))), refl)
 
 arc-requires : tie.Need-arc-requires Inv-loop μ-loop
-arc-requires c κs = search needs
+arc-requires c κs = (c .before .before .pre .0, arc-in c)
 
 end-flows-requires : tie.Need-end-flows-requires Inv-loop μ-loop
 end-flows-requires c κs = let s = c .before .before .before in (s .pre .0, arc-in (c .before), s .pre .2)
 
+slice-aggregate-moved : tie.Need-slice-aggregate-moved Inv-loop μ-loop
+slice-aggregate-moved c = sym (c .before .before .before .before .loop .inv .2)
+
 moved-requires : tie.Need-moved-requires Inv-loop μ-loop
 moved-requires c κs =
-    let f = c .before .before in
+    let f = c .before .before .before in
     let a = f .before in
     let t = a .before in
     let h = t .before in
@@ -59,6 +63,7 @@ moved-requires c κs =
     let to : a .arc .result .to ≡ arcOf l e .to = ap (λ (x : Arc). x .to) (a .arc .ensures) in (
       omega (arith, from, from-node (s .pre .0) e p, n .nodes),
       omega (arith, to, to-node (s .pre .0) e p, n .nodes),
+      h .loop .inv .2,
       rw (from-is f .val) (record { bound = from-is f .bound }),
       rw (to-is f .val) (record { bound = to-is f .bound }),
       gathers-sized (h .loop .inv .1) (omega (arith, h .loop .inv .0, s .pre .1, n .arcs)) (λ i k q. part-sized (s .pre .2) i k (omega (arith, q, p))),
@@ -72,7 +77,7 @@ loop-less c = omega arith
 
 loop-again : tie.Need-loop-again Inv-loop μ-loop
 loop-again c =
-    let f = c .before .before .before in
+    let f = c .before .before .before .before .before in
     let a = f .before in
     let h = a .before .before in
     let s = h .before in
@@ -82,8 +87,9 @@ loop-again c =
     let from = ap (λ (x : Arc). x .from) (a .arc .ensures) in
     let to = ap (λ (x : Arc). x .to) (a .arc .ensures) in (
       omega arith,
-      gathers-more (h .loop .inv .1) (a .arc .result .from) (a .arc .result .to) (toZ w64 (ofZ w64 (f .end-flows .result .from))) (toZ w64 (ofZ w64 (f .end-flows .result .to))) (c .moved .ensures)
+      gathers-more (h .loop .inv .1) (a .arc .result .from) (a .arc .result .to) (toZ w64 (ofZ w64 (f .end-flows .result .from))) (toZ w64 (ofZ w64 (f .end-flows .result .to))) (c .before .moved .ensures .1)
           (λ i. node-part l r e i from to (from-is f .val) (to-is f .val)),
+      c .before .moved .ensures .0,
     )
 
 returns : tie.Need-returns Inv-loop μ-loop
@@ -104,6 +110,7 @@ net-flows-spec =
     loop-holds
     arc-requires
     end-flows-requires
+    slice-aggregate-moved
     moved-requires
     add-e
     loop-less

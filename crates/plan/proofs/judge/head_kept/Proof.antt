@@ -30,31 +30,16 @@ use Rattle.numbers.proofs.compare.same.Reads as same-reads
 
 -- the layout's counts are those of an accepted case, and the plan's length by them is small
 record Small (l : Layout) : Type 0 where
-  steps : SFits w64 (pos (l .steps))
-  nodes : Fits w64 (l .nodes * 6)
-  arcs : Fits w64 (l .arcs * 4)
-  two : Fits w64 (l .nodes * 6 + l .arcs * 4)
-  stations : Fits w64 (l .stations * 2)
-  width : Fits w64 (l .nodes * 6 + l .arcs * 4 + l .stations * 2)
-  all : Fits w64 (l .steps * (l .nodes * 6 + l .arcs * 4 + l .stations * 2))
-  long : Fits w64 (2 + l .steps * (l .nodes * 6 + l .arcs * 4 + l .stations * 2))
+  steps : l .steps ≤ 48
+  width : l .nodes * 6 + l .arcs * 4 + l .stations * 2 ≤ 856
+  all : l .steps * (l .nodes * 6 + l .arcs * 4 + l .stations * 2) ≤ 41088
 
 small : {case : List ℤ} (l : Layout) → AcceptedCase case → Laid case l → Small l
 small l a d =
     let k = counted a in
     let s : l .steps ≤ 48 = omega (arith, d .steps, k .steps) in
     let w : l .nodes * 6 + l .arcs * 4 + l .stations * 2 ≤ 856 = omega (arith, d .nodes, k .nodes, d .arcs, k .arcs, d .stations, k .stations) in
-    let p = mul-le-mul s w in
-    record {
-      steps = record { sfits = omega arith };
-      nodes = record { fits = omega arith };
-      arcs = record { fits = omega arith };
-      two = record { fits = omega arith };
-      stations = record { fits = omega arith };
-      width = record { fits = omega arith };
-      all = record { fits = omega (arith, p) };
-      long = record { fits = omega (arith, p) };
-    }
+    record { steps = s; width = w; all = mul-le-mul s w }
 
 kept : {z : ℤ} → mag z < 2 ^ 63 → toZ w64 (ofZ w64 z) ≡ z
 kept {z} h = toZ-ofZ {w = w64} {z = z} (record { sfits = h })
@@ -71,77 +56,54 @@ second-is c =
     let a = c .before .before in
     let s = a .before .before .before .before in
     let l = s .args .layout in
-    let t : toZ w64 (ofZ w64 (pos (l .steps))) ≡ pos (stepsOf (now (s .args .case))) = toZ-ofZ (small l (s .pre .0) (s .pre .1) .steps) ∙ ap pos (s .pre .1 .steps) in
+    let t : toZ w64 (ofZ w64 (pos (l .steps))) ≡ pos (stepsOf (now (s .args .case))) = toZ-ofZ {w = w64} {z = pos (l .steps)} (record { sfits = omega (arith, small l (s .pre .0) (s .pre .1) .steps) }) ∙ ap pos (s .pre .1 .steps) in
     let k : toZ w64 (ofZ w64 (a .at2 .result)) ≡ numberAt (now (s .args .plan)) 1 = kept {z = a .at2 .result} (a .at2 .ok) ∙ a .at2 .ensures in
     simp (k, t) at (c .same2 .ensures)
 
--- src/judge.rt:29:13
 at-requires : tie.Need-at-requires
 at-requires c κs = search needs
 
--- src/judge.rt:29:8
 same-requires : tie.Need-same-requires
 same-requires c κs = search needs
 
--- src/judge.rt:30:17
 at-requires-2 : tie.Need-at-requires-2
 at-requires-2 c κs = search needs
 
--- src/judge.rt:30:30
 cast-same : tie.Need-cast-same
-cast-same c = let s = c .before .before .before .before .before in small (s .args .layout) (s .pre .0) (s .pre .1) .steps
+cast-same c = let s = c .before .before .before .before .before in record { sfits = omega (arith, small (s .args .layout) (s .pre .0) (s .pre .1) .steps) }
 
--- src/judge.rt:30:12
 same-requires-2 : tie.Need-same-requires-2
 same-requires-2 c κs = search needs
 
--- src/judge.rt:31:25
-mul-width : tie.Need-mul-width
-mul-width c = let s = c .before .before .before .before .before .before .before .before in small (s .args .layout) (s .pre .0) (s .pre .1) .nodes
+step-width-requires : tie.Need-step-width-requires
+step-width-requires c κs =
+    let s = c .before .before .before .before .before .before .before in
+    let k = counted (s .pre .0) in
+    let d = s .pre .1 in
+    (omega (arith, d .nodes, k .nodes), omega (arith, d .arcs, k .arcs), omega (arith, d .stations, k .stations))
 
--- src/judge.rt:31:44
-mul-width-2 : tie.Need-mul-width-2
-mul-width-2 c = let s = c .before .before .before .before .before .before .before .before .before in small (s .args .layout) (s .pre .0) (s .pre .1) .arcs
-
--- src/judge.rt:31:25
-add-width : tie.Need-add-width
-add-width c = let s = c .before .before .before .before .before .before .before .before .before in small (s .args .layout) (s .pre .0) (s .pre .1) .two
-
--- src/judge.rt:31:62
-mul-width-3 : tie.Need-mul-width-3
-mul-width-3 c = let s = c .before .before .before .before .before .before .before .before .before .before in small (s .args .layout) (s .pre .0) (s .pre .1) .stations
-
--- src/judge.rt:31:25
-add-width-2 : tie.Need-add-width-2
-add-width-2 c = let s = c .before .before .before .before .before .before .before .before .before .before in small (s .args .layout) (s .pre .0) (s .pre .1) .width
-
--- src/judge.rt:32:38
 mul-result : tie.Need-mul-result
-mul-result c = let s = c .before .before .before .before .before .before .before .before .before .before .before in small (s .args .layout) (s .pre .0) (s .pre .1) .all
+mul-result c = let s = c .before .before .before .before .before .before .before .before .before in rw (c .before .step-width .ensures) (record { fits = omega (arith, small (s .args .layout) (s .pre .0) (s .pre .1) .all) })
 
--- src/judge.rt:32:34
 add-result : tie.Need-add-result
-add-result c = let s = c .before .before .before .before .before .before .before .before .before .before .before in small (s .args .layout) (s .pre .0) (s .pre .1) .long
+add-result c = let s = c .before .before .before .before .before .before .before .before .before in rw (c .before .step-width .ensures) (record { fits = omega (arith, small (s .args .layout) (s .pre .0) (s .pre .1) .all) })
 
--- src/judge.rt:32:13
 returns : tie.Need-returns
 returns c =
-    let t = c .before .before .before .before in
+    let t = c .before .before in
     let q = t .before in
     let o = q .before .before .before in
     let s = o .before .before .before in
     let plan = now (s .args .plan) in
-    ap (eqb (length plan)) (head-length (now (s .args .case)) plan (s .args .layout) (s .pre .1))
+    rw (c .before .step-width .ensures) (ap (eqb (length plan)) (head-length (now (s .args .case)) plan (s .args .layout) (s .pre .1)))
     ∙ head-yes (now (s .args .case)) plan (first-is (o .before)) (second-is q) (o .if1 .taken) (t .if2 .taken)
 
--- src/judge.rt:25:1
 returns-2 : tie.Need-returns-2
 returns-2 c =
     let q = c .before in
     let o = q .before .before .before in
     head-second _ _ (first-is (o .before)) (second-is q) (o .if1 .taken) (c .if2 .left)
 
--- src/judge.rt:25:1
 returns-3 : tie.Need-returns-3
 returns-3 c = head-first _ _ (first-is (c .before)) (c .if1 .left)
 
@@ -154,11 +116,7 @@ head-kept-spec =
     at-requires-2
     cast-same
     same-requires-2
-    mul-width
-    mul-width-2
-    add-width
-    mul-width-3
-    add-width-2
+    step-width-requires
     mul-result
     add-result
     returns

@@ -5,25 +5,20 @@ use Rattle.plan.proofs.Verdicts.{case-answer, judge-yes, judge-no}
 use Rattle.plan.proofs.judge.judge.Statement.{statement}
 use Rattle.plan.proofs.judge.judge.Tie as tie
 
--- src/judge.rt:59:9
 judge-case-requires : tie.Need-judge-case-requires
 judge-case-requires c κs = search needs
 
--- src/judge.rt:61:24
 enum-told : tie.Need-enum-told
 enum-told c = search needs
 
--- src/judge.rt:61:24
 judge-plan-requires : tie.Need-judge-plan-requires
 judge-plan-requires c κs =
     let j = c .before .before in
     record { yes = case-answer (now (j .before .args .case)) (j .judge-case .result) (j .judge-case .ensures) ∙ c .enum-told .given .1 }
 
--- src/judge.rt:63:13
 enum-known-a : tie.Need-enum-known-a
 enum-known-a c = search needs
 
--- src/judge.rt:56:1
 returns : tie.Need-returns
 returns c =
     let e = c .before in
@@ -31,7 +26,6 @@ returns c =
     judge-yes (now (j .before .args .case)) (now (j .before .args .plan))
     (case-answer (now (j .before .args .case)) (j .judge-case .result) (j .judge-case .ensures) ∙ e .enum-told .given .1) (c .judge-plan .ensures)
 
--- src/judge.rt:56:1
 returns-2 : tie.Need-returns-2
 returns-2 c =
     let a = c .before in

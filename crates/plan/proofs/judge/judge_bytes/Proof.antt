@@ -26,39 +26,30 @@ within g =
     let h = count-within (now (s .args .casebytes)) (length (now (s .args .caselist))) (g .got .given .0 .0) (ap readingTold (sym (g .got .given .1)) ∙ d .read .ensures .0) in
     omega (arith, h, d .read .kept .1 .0)
 
--- src/judge.rt:128:9
 read-requires : tie.Need-read-requires
 read-requires c κs = search needs
 
--- src/judge.rt:130:24
 enum-known-got : tie.Need-enum-known-got
 enum-known-got c = search needs
 
--- src/judge.rt:130:50
 slice-reshare-prefix-judge-case-list : tie.Need-slice-reshare-prefix-judge-case-list
 slice-reshare-prefix-judge-case-list c = within (c .before)
 
--- src/judge.rt:130:50
 slice-aggregate-judge-case-list : tie.Need-slice-aggregate-judge-case-list
 slice-aggregate-judge-case-list c = sym (length-take-le _ _ (within (c .before .before)))
 
--- src/judge.rt:130:34
 judge-case-list-requires : tie.Need-judge-case-list-requires
 judge-case-list-requires c κs = search needs
 
--- src/judge.rt:131:28
 enum-known-got-2 : tie.Need-enum-known-got-2
 enum-known-got-2 c = search needs
 
--- src/judge.rt:123:1
 same-length : tie.Need-same-length
 same-length c = search needs
 
--- src/judge.rt:123:1
 same-length-2 : tie.Need-same-length-2
 same-length-2 c = search needs
 
--- src/judge.rt:123:1
 returns : tie.Need-returns
 returns c =
     let b = c .before in
@@ -72,11 +63,9 @@ returns c =
       (d .read .ensures .1, list-of bytes (now (a .planbytes)) room (now (a .planlist)) (front g .ended) f (b .judge-case-list .ensures .1)),
     )
 
--- src/judge.rt:123:1
 same-length-3 : tie.Need-same-length-3
 same-length-3 c = search needs
 
--- src/judge.rt:123:1
 returns-2 : tie.Need-returns-2
 returns-2 c =
     let g = c .before in

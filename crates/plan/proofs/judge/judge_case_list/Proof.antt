@@ -5,30 +5,24 @@ use Rattle.plan.proofs.Verdicts.{case-answer, case-passed, list-reached
 use Rattle.plan.proofs.judge.judge_case_list.Statement.{statement}
 use Rattle.plan.proofs.judge.judge_case_list.Tie as tie
 
--- src/judge.rt:107:9
 judge-case-requires : tie.Need-judge-case-requires
 judge-case-requires c κs = search needs
 
--- src/judge.rt:109:58
 enum-told : tie.Need-enum-told
 enum-told c = search needs
 
--- src/judge.rt:109:24
 judge-plan-bytes-requires : tie.Need-judge-plan-bytes-requires
 judge-plan-bytes-requires c κs =
     let e = c .before in
     let j = e .before .before in
     record { yes = case-answer (now (j .before .before .args .case)) (j .judge-case .result) (j .judge-case .ensures) ∙ e .enum-told .given .1 }
 
--- src/judge.rt:111:13
 enum-known-a : tie.Need-enum-known-a
 enum-known-a c = search needs
 
--- src/judge.rt:103:1
 same-length : tie.Need-same-length
 same-length c = search needs
 
--- src/judge.rt:103:1
 returns : tie.Need-returns
 returns c =
     let b = c .before in
@@ -40,7 +34,6 @@ returns c =
       list-reached (now (a .case)) (now (a .planbytes)) (now (a .planlist)) y (b .judge-plan-bytes .ensures .1),
     )
 
--- src/judge.rt:103:1
 returns-2 : tie.Need-returns-2
 returns-2 c =
     let k = c .before in

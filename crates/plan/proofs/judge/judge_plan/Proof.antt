@@ -6,26 +6,21 @@ use Rattle.plan.proofs.Verdicts.{plan-laid, head-refused, head-passed}
 use Rattle.plan.proofs.judge.judge_plan.Statement.{statement}
 use Rattle.plan.proofs.judge.judge_plan.Tie as tie
 
--- src/judge.rt:43:9
 layout-requires : tie.Need-layout-requires
 layout-requires c κs = search needs
 
--- src/judge.rt:44:8
 head-kept-requires : tie.Need-head-kept-requires
-head-kept-requires c κs = (c .before .pre, c .layout .ensures (list-yes (c .before .pre)))
+head-kept-requires c κs = (c .before .pre, c .layout .ensures .passed (list-yes (c .before .pre)))
 
--- src/judge.rt:45:9
 steps-requires : tie.Need-steps-requires
 steps-requires c κs =
     let l = c .before .before in
     let p = l .before .pre in
-    (p, l .layout .ensures (list-yes p), plan-laid _ _ (sym (c .before .head-kept .ensures) ∙ c .if1 .taken))
+    (p, l .layout .ensures .passed (list-yes p), plan-laid _ _ (sym (c .before .head-kept .ensures) ∙ c .if1 .taken))
 
--- src/judge.rt:39:1
 returns : tie.Need-returns
 returns c = head-passed _ _ (sym (c .before .before .head-kept .ensures) ∙ c .before .if1 .taken) (c .steps .ensures)
 
--- src/judge.rt:39:1
 returns-2 : tie.Need-returns-2
 returns-2 c = head-refused _ _ (sym (c .before .head-kept .ensures) ∙ c .if1 .left)
 

@@ -26,39 +26,30 @@ within g =
     let h = count-within (now (s .args .planbytes)) (length (now (s .args .planlist))) (g .got .given .0 .0) (ap readingTold (sym (g .got .given .1)) ∙ d .read .ensures .0) in
     omega (arith, h, d .read .kept .1 .0)
 
--- src/judge.rt:91:9
 read-requires : tie.Need-read-requires
 read-requires c κs = search needs
 
--- src/judge.rt:93:24
 enum-known-got : tie.Need-enum-known-got
 enum-known-got c = search needs
 
--- src/judge.rt:93:51
 slice-reshare-prefix-judge-plan : tie.Need-slice-reshare-prefix-judge-plan
 slice-reshare-prefix-judge-plan c = within (c .before)
 
--- src/judge.rt:93:51
 slice-aggregate-judge-plan : tie.Need-slice-aggregate-judge-plan
 slice-aggregate-judge-plan c = sym (length-take-le _ _ (within (c .before .before)))
 
--- src/judge.rt:93:34
 judge-plan-requires : tie.Need-judge-plan-requires
 judge-plan-requires c κs = search needs
 
--- src/judge.rt:94:28
 enum-known-got-2 : tie.Need-enum-known-got-2
 enum-known-got-2 c = search needs
 
--- src/judge.rt:95:21
 plan-number-requires : tie.Need-plan-number-requires
 plan-number-requires c κs = search needs
 
--- src/judge.rt:86:1
 same-length : tie.Need-same-length
 same-length c = search needs
 
--- src/judge.rt:86:1
 returns : tie.Need-returns
 returns c =
     let g = c .before .before .before in
@@ -68,11 +59,9 @@ returns c =
     let old = now (s .args .planlist) in
     (plan-read (now (s .args .case)) bytes (length old) (d .read .last .1 .0) (s .pre .yes) (front g) (read-front bytes (length old) old (d .read .last .1 .0) (front g) (d .read .ensures .1)) (c .judge-plan .ensures), d .read .ensures .1)
 
--- src/judge.rt:86:1
 same-length-2 : tie.Need-same-length-2
 same-length-2 c = search needs
 
--- src/judge.rt:86:1
 returns-2 : tie.Need-returns-2
 returns-2 c =
     let g = c .before .before in

@@ -5,15 +5,12 @@ use Rattle.plan.proofs.judge.plan_number.Tie as tie
 use Rattle.plan.proofs.judge.plan_number.Reads as reads
 use Rattle.plan.proofs.judge.plan_number.Lts as lts
 
--- src/judge.rt:75:1
 returns : tie.Need-returns
 returns c = rw (eq-eqb _ _ (c .match .keys1))
 
--- src/judge.rt:75:1
 returns-2 : tie.Need-returns-2
 returns-2 c = let n = c .before .args .number in rw (ne-eqb n 1 (λ e. omega arith), eq-eqb n 2 (omega arith))
 
--- src/judge.rt:75:1
 returns-3 : tie.Need-returns-3
 returns-3 c = let n = c .before .args .number in rw (ne-eqb n 1 (λ e. omega arith), ne-eqb n 2 (λ e. omega arith))
 

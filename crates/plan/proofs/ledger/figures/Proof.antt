@@ -43,7 +43,7 @@ count-requires : tie.Need-count-requires
 count-requires c κs = search needs
 
 inner-pipes-requires : tie.Need-inner-pipes-requires
-inner-pipes-requires c κs = let s = c .before .before .before .before .before .before .before .before in let k = counted (record { yes = s .pre .laid .rules .case-yes }) in (s .pre .counted, omega (arith, s .pre .counted, k .arcs))
+inner-pipes-requires c κs = let s = c .before .before .before .before .before .before .before .before in (record { yes = s .pre .laid .rules .case-yes }, s .pre .counted)
 
 returns : tie.Need-returns
 returns c =

@@ -1,5 +1,6 @@
 use mathlib.Core.Path.{_≡_, sym, ap, ap₂, _∙_, subst}
 use mathlib.Core.Bool.{true, false}
+use native.Mathlib.Omega.{arith}
 use denote.Ref.{now}
 use lib.IntN.{pos, _+ℤ_}
 use lib.Signed.{leZ}
@@ -15,6 +16,7 @@ use Rattle.plan.specs.Machines.{machineGain}
 use Rattle.plan.specs.Setting.{homeOf}
 use Rattle.plan.specs.Sizes.{MachinesSized}
 use Rattle.plan.specs.ArcPressures.{outBound, basePressure, ratioOf, compressionKept}
+use Rattle.plan.specs.CaseFacts.{counted}
 use Rattle.plan.proofs.ArcLaws.{read, gain-sized}
 use borrow.Author.Needs.{needs}
 use Rattle.plan.proofs.pressures.compression_kept.Statement.{statement}
@@ -59,10 +61,10 @@ base : (c : tie.After-node) → Held (toZ w64 (ofZ w64 (c .node .result .p0))) (
 base c = read (ap (λ (n : Node). n .p0) (c .node .ensures)) (start (c .before) .pre .base) tt
 
 pressure-requires : tie.Need-pressure-requires
-pressure-requires c κs = search needs
+pressure-requires c κs = omega (arith, c .pre .in-node, counted (c .pre .accepted) .nodes)
 
 pressure-requires-2 : tie.Need-pressure-requires-2
-pressure-requires-2 c κs = search needs
+pressure-requires-2 c κs = let s = c .before in omega (arith, s .pre .out-node, counted (s .pre .accepted) .nodes)
 
 at-most-requires : tie.Need-at-most-requires
 at-most-requires c κs = search needs
@@ -77,7 +79,7 @@ at-most-requires-2 : tie.Need-at-most-requires-2
 at-most-requires-2 c κs = search needs
 
 arc-row-requires : tie.Need-arc-row-requires
-arc-row-requires c κs = search needs
+arc-row-requires c κs = let s = c .before .before .before .before .before .before .before .before in (counted (s .pre .accepted), s .pre .arc)
 
 machine-gain-requires : tie.Need-machine-gain-requires
 machine-gain-requires c κs = search needs

@@ -15,6 +15,7 @@ use Rattle.plan.specs.declared.rows.ArcRow.{ArcRow}
 use Rattle.plan.specs.PlanRecords.{arcRow}
 use Rattle.plan.specs.Machines.{machineFlow}
 use Rattle.plan.specs.ArcMachines.{machinesCarry}
+use Rattle.plan.specs.CaseFacts.{counted}
 use borrow.Author.Needs.{needs}
 use Rattle.plan.proofs.pressures.machines_carry.Statement.{statement}
 use Rattle.plan.proofs.pressures.machines_carry.Tie as tie
@@ -29,7 +30,7 @@ most-is : (c : tie.After-struct-known) → c .before .artificial .result .most �
 most-is c = ap (λ (x : Artificial). x .most) (c .before .artificial .ensures)
 
 arc-row-requires : tie.Need-arc-row-requires
-arc-row-requires c κs = search needs
+arc-row-requires c κs = (counted (c .pre .0), c .pre .1)
 
 count-requires : tie.Need-count-requires
 count-requires c κs = search needs

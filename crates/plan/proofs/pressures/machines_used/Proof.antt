@@ -17,7 +17,7 @@ use Rattle.plan.proofs.pressures.machines_used.Statement.{statement}
 use Rattle.plan.proofs.pressures.machines_used.Tie as tie
 
 abbrev start : tie.After-setting-of → tie.Start
-start c = c .before .before .before .before
+start c = c .before .before .before .before .before
 
 setting-is : (c : tie.After-setting-of) → c .setting-of .result ≡ settingIn (now (start c .args .case)) (now (start c .args .row)) (start c .args .e)
 setting-is c =
@@ -25,7 +25,7 @@ setting-is c =
     c .setting-of .ensures ∙ ap₂ settingOf (ap (λ (x : Arc). x .kind) (c .before .before .arc .ensures)) n
 
 arc-row-requires : tie.Need-arc-row-requires
-arc-row-requires c κs = let a = c .pre in (counted (a .at .accepted), a .arc)
+arc-row-requires c κs = let a = c .before .pre in (counted (a .at .accepted), a .arc)
 
 arc-requires : tie.Need-arc-requires
 arc-requires c κs = search needs

@@ -24,17 +24,17 @@ home-requires c κs = search needs
 
 machines-carry-requires : tie.Need-machines-carry-requires
 machines-carry-requires c κs =
-    let s = c .before .before .before .before in
+    let s = c .before .before .before .before .before in
     let a = s .pre .0 in
     let k = s .pre .1 (c .before .before .enum-told .given .1) in
     let h = home-is a k (c .before .artificial .ensures) (c .home .ensures) in
-    (counted (a .at .accepted), a .arc, h, home-machines a k h)
+    (a .at .accepted, a .arc, h, home-machines a k h)
 
 enum-told-2 : tie.Need-enum-told-2
 enum-told-2 c = search needs
 
 arc-row-requires : tie.Need-arc-row-requires
-arc-row-requires c κs = let a = c .before .before .pre .0 in (counted (a .at .accepted), a .arc)
+arc-row-requires c κs = let a = c .before .before .before .pre .0 in (counted (a .at .accepted), a .arc)
 
 same-requires : tie.Need-same-requires
 same-requires c κs = search needs
@@ -43,26 +43,26 @@ enum-told-3 : tie.Need-enum-told-3
 enum-told-3 c = search needs
 
 arc-row-requires-2 : tie.Need-arc-row-requires-2
-arc-row-requires-2 c κs = let a = c .before .before .pre .0 in (counted (a .at .accepted), a .arc)
+arc-row-requires-2 c κs = let a = c .before .before .before .pre .0 in (counted (a .at .accepted), a .arc)
 
 same-requires-2 : tie.Need-same-requires-2
 same-requires-2 c κs = search needs
 
 returns : tie.Need-returns
 returns c =
-    let s = c .before .before .before .before .before in
+    let s = c .before .before .before .before .before .before in
     rw (c .before .before .before .enum-told .given .1)
     (c .machines-carry .ensures ∙ ap (machinesCarry (now (s .args .case)) (now (s .args .row)) (s .args .e)) (toZ-ofZ (s .fits .flow)))
 
 returns-2 : tie.Need-returns-2
 returns-2 c =
-    let s = c .before .before .before .before .before in
+    let s = c .before .before .before .before .before .before in
     let m : toZ w64 (ofZ w64 (c .before .before .arc-row .result .machines)) ≡ arcRow (now (s .args .case)) (now (s .args .row)) (s .args .e) .machines = kept _ (c .before .struct-told .given .1 .1 .1 .0 .1) ∙ ap (λ (x : ArcRow). x .machines) (c .before .before .arc-row .ensures) in
     rw (c .before .before .before .enum-told2 .given .1) (simp m at (c .same .ensures))
 
 returns-3 : tie.Need-returns-3
 returns-3 c =
-    let s = c .before .before .before .before .before in
+    let s = c .before .before .before .before .before .before in
     let m : toZ w64 (ofZ w64 (c .before .before .arc-row2 .result .machines)) ≡ arcRow (now (s .args .case)) (now (s .args .row)) (s .args .e) .machines = kept _ (c .before .struct-told2 .given .1 .1 .1 .0 .1) ∙ ap (λ (x : ArcRow). x .machines) (c .before .before .arc-row2 .ensures) in
     rw (c .before .before .before .enum-told3 .given .1) (simp m at (c .same2 .ensures))
 

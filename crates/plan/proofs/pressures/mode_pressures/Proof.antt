@@ -22,10 +22,10 @@ enum-told : tie.Need-enum-told
 enum-told c = search needs
 
 pressure-requires : tie.Need-pressure-requires
-pressure-requires c κs = in-small (c .before .before)
+pressure-requires c κs = in-small (c .before .before .before)
 
 pressure-requires-2 : tie.Need-pressure-requires-2
-pressure-requires-2 c κs = out-small (c .before .before .before)
+pressure-requires-2 c κs = out-small (c .before .before .before .before)
 
 same-requires : tie.Need-same-requires
 same-requires c κs = search needs
@@ -34,10 +34,10 @@ enum-told-2 : tie.Need-enum-told-2
 enum-told-2 c = search needs
 
 pressure-requires-3 : tie.Need-pressure-requires-3
-pressure-requires-3 c κs = out-small (c .before .before)
+pressure-requires-3 c κs = out-small (c .before .before .before)
 
 pressure-requires-4 : tie.Need-pressure-requires-4
-pressure-requires-4 c κs = in-small (c .before .before .before)
+pressure-requires-4 c κs = in-small (c .before .before .before .before)
 
 at-most-requires : tie.Need-at-most-requires
 at-most-requires c κs = search needs
@@ -53,20 +53,20 @@ home-requires c κs = search needs
 
 compression-kept-requires : tie.Need-compression-kept-requires
 compression-kept-requires c κs =
-    let s = c .before .before .before .before in
+    let s = c .before .before .before .before .before in
     let k = s .pre .3 (c .before .before .enum-told3 .given .1) in
     compresses (s .pre .0) k (home-is (s .pre .0) k (c .before .artificial .ensures) (c .home .ensures)) (s .pre .1) (s .pre .2)
 
 returns : tie.Need-returns
 returns c =
-    let s = c .before .before .before .before .before in
+    let s = c .before .before .before .before .before .before in
     let p : toZ w64 (ofZ w64 (c .before .before .pressure .result)) ≡ pressureIn (now (s .args .row)) (s .args .u) = kept _ (c .before .before .pressure .ok) ∙ c .before .before .pressure .ensures in
     let q : toZ w64 (ofZ w64 (c .before .pressure2 .result)) ≡ pressureIn (now (s .args .row)) (s .args .w) = kept _ (c .before .pressure2 .ok) ∙ c .before .pressure2 .ensures in
     rw (c .before .before .before .enum-told .given .1) (simp (p, q) at (c .same .ensures))
 
 returns-2 : tie.Need-returns-2
 returns-2 c =
-    let s = c .before .before .before .before .before in
+    let s = c .before .before .before .before .before .before in
     let p : toZ w64 (ofZ w64 (c .before .before .pressure3 .result)) ≡ pressureIn (now (s .args .row)) (s .args .w) = kept _ (c .before .before .pressure3 .ok) ∙ c .before .before .pressure3 .ensures in
     let q : toZ w64 (ofZ w64 (c .before .pressure4 .result)) ≡ pressureIn (now (s .args .row)) (s .args .u) = kept _ (c .before .pressure4 .ok) ∙ c .before .pressure4 .ensures in
     rw (c .before .before .before .enum-told2 .given .1) (simp (p, q) at (c .at-most .ensures))

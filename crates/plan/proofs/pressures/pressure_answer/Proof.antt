@@ -1,7 +1,9 @@
 use mathlib.Core.Path.{sym, ap, ap₂, _∙_}
 use Prim.Native.Nat.{_+_}
+use native.Mathlib.Omega.{arith}
 use Rattle.numbers.specs.Question.{answer, orElse, orElse-yes}
 use Rattle.plan.specs.ArcRules.{pressureQuestions}
+use Rattle.plan.specs.CaseFacts.{counted}
 use borrow.Author.Needs.{needs}
 use Rattle.plan.proofs.pressures.pressure_answer.Statement.{statement}
 use Rattle.plan.proofs.pressures.pressure_answer.Tie as tie
@@ -10,7 +12,7 @@ pressures-kept-requires : tie.Need-pressures-kept-requires
 pressures-kept-requires c κs = search needs
 
 add-ask : tie.Need-add-ask
-add-ask c = search needs
+add-ask c = let s = c .before .before in omega (arith, s .pre .at .step, counted (s .pre .at .accepted) .steps)
 
 ask-requires : tie.Need-ask-requires
 ask-requires c κs = search needs
@@ -19,7 +21,7 @@ machines-used-requires : tie.Need-machines-used-requires
 machines-used-requires c κs = search needs
 
 add-ask-2 : tie.Need-add-ask-2
-add-ask-2 c = search needs
+add-ask-2 c = let s = c .before .before .before .before in omega (arith, s .pre .at .step, counted (s .pre .at .accepted) .steps)
 
 ask-requires-2 : tie.Need-ask-requires-2
 ask-requires-2 c κs = search needs
@@ -30,7 +32,7 @@ or-else-requires c κs = search needs
 returns : tie.Need-returns
 unfolding pressureQuestions
 returns c =
-    let s = c .before .before .before .before .before in
+    let s = c .before .before .before .before .before .before in
     let i = s .args .i in
     let e = s .args .e in
     let a = c .before .before .before .ask .ensures ∙ ap (λ b. answer b 26 (i + 1) e) (c .before .before .before .before .pressures-kept .ensures) in

@@ -29,7 +29,7 @@ enum-told-3 c = search needs
 mode-pressures-requires : tie.Need-mode-pressures-requires
 mode-pressures-requires c κs =
     let t = c .before .before .before .before in
-    let s = t .before .before in
+    let s = t .before .before .before in
     let a = s .pre .0 in
     let ac = a .at .accepted in
     let q = c .before .before .arc .ensures in
@@ -41,7 +41,7 @@ enum-told-4 c = search needs
 mode-pressures-requires-2 : tie.Need-mode-pressures-requires-2
 mode-pressures-requires-2 c κs =
     let t = c .before .before .before .before in
-    let s = t .before .before in
+    let s = t .before .before .before in
     let a = s .pre .0 in
     let ac = a .at .accepted in
     let q = c .before .before .arc .ensures in
@@ -59,14 +59,14 @@ returns-2 c = rw (c .enum-told2 .given .1)
 returns-3 : tie.Need-returns-3
 returns-3 c =
     let t = c .before .before .before .before .before in
-    let s = t .before .before in
+    let s = t .before .before .before in
     rw (t .setting .given .1, c .before .enum-told3 .given .1)
     (c .mode-pressures .ensures ∙ ap (λ (x : Arc). modePressures (now (s .args .case)) (now (s .args .row)) (s .args .i) (s .args .e) (t .setting .given .0 .1 .0) (x .from) (x .to)) (c .before .before .before .arc .ensures))
 
 returns-4 : tie.Need-returns-4
 returns-4 c =
     let t = c .before .before .before .before .before in
-    let s = t .before .before in
+    let s = t .before .before .before in
     rw (t .setting .given .1, c .before .enum-told4 .given .1)
     (c .mode-pressures2 .ensures ∙ ap (λ (x : Arc). modePressures (now (s .args .case)) (now (s .args .row)) (s .args .i) (s .args .e) (t .setting .given .0 .1 .0) (x .to) (x .from)) (c .before .before .before .arc .ensures))
 

@@ -1,6 +1,7 @@
 use mathlib.Core.Path.{_≡_, sym, ap, ap₂, _∙_}
 use Prim.Native.Nat.{ℕ, _+_, _-_, _≤_}
 use native.Mathlib.Omega.{arith}
+use Rattle.plan.specs.CaseFacts.{counted}
 use borrow.Author.Needs.{needs}
 use mir.Facts.{toZ-ofZ}
 use mir.Syntax.{w64}
@@ -37,7 +38,7 @@ add-n c =
     let l = c .before .before .before in
     let s = l .before in
     let z = toZ w64 (ofZ w64 (s .args .set)) in
-    addN-fits (λ j. onlyN (innerPipe (now (s .args .case)) z j) 1) (s .args .arcs) 1 (λ j b. onlyN-most (innerPipe (now (s .args .case)) z j)) (omega arith) (l .loop .e) (omega arith) (l .loop .inv .1)
+    addN-fits (λ j. onlyN (innerPipe (now (s .args .case)) z j) 1) (s .args .arcs) 1 (λ j b. onlyN-most (innerPipe (now (s .args .case)) z j)) (omega (arith, s .pre .1, counted (s .pre .0) .arcs)) (l .loop .e) (omega arith) (l .loop .inv .1)
     (c .one-if .ensures ∙ ap (λ (b : Bool). onlyN b 1) (c .before .inner-pipe .ensures))
 
 add-e : tie.Need-add-e Inv-loop μ-loop

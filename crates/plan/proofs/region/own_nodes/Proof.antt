@@ -33,8 +33,8 @@ loop-holds c = (omega arith, sym (sumN-none _))
 mul-own-node : tie.Need-mul-own-node Inv-loop μ-loop
 mul-own-node c = let s = c .before .before .before in let r = counted (s .pre .2 .accepted) in omega arith
 
-element-copy-out-own-node : tie.Need-element-copy-out-own-node Inv-loop μ-loop
-element-copy-out-own-node c = let s = c .before .before .before in let r = counted (s .pre .2 .accepted) in omega arith
+array-copy-out-own-node : tie.Need-array-copy-out-own-node Inv-loop μ-loop
+array-copy-out-own-node c = let s = c .before .before .before in let r = counted (s .pre .2 .accepted) in omega arith
 
 own-node-requires : tie.Need-own-node-requires Inv-loop μ-loop
 own-node-requires c κs =
@@ -48,7 +48,7 @@ own-node-requires c κs =
       flows = h .kept .flows;
       rows = h .kept .rows;
       is =
-          toZ-ofZ {w = w64} {z = getD (l .before .net-flows .result .flows) (l .loop .v) (pos 0)} (record { sfits = c .own-node-arg .given })
+          toZ-ofZ {w = w64} {z = getD (l .before .net-flows .result) (l .loop .v) (pos 0)} (record { sfits = c .own-node-arg .given })
           ∙ l .before .net-flows .ensures .each (l .loop .v) (omega arith);
     }
 
@@ -92,7 +92,7 @@ own-nodes-spec =
     net-flows-requires
     loop-holds
     mul-own-node
-    element-copy-out-own-node
+    array-copy-out-own-node
     own-node-requires
     add-sum
     add-v

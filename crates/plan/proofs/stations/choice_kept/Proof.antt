@@ -1,34 +1,38 @@
 use mathlib.Core.Path.{_≡_, sym, ap, ap₂, _∙_}
-use Prim.Native.Nat.{ℕ}
+use mathlib.Core.Bool.{Bool}
+use Prim.Native.Nat.{ℕ, _<_, _^_}
 use native.Mathlib.Omega.{arith}
 use borrow.Author.Needs.{needs}
 use denote.Ref.{now}
-use lib.ListN.{getD}
+use lib.IntN.{ℤ, pos}
+use mir.Facts.{toZ-pos}
 use mir.Syntax.{w64}
 use mir.Val.{toZ, ofZ}
 use Rattle.numbers.specs.SignedParts.{posPart}
-use Rattle.case.specs.Records.{stationRow, stationOf}
+use Rattle.case.specs.Records.{stationRow, stateRow, stationOf, stateOf}
 use Rattle.case.specs.declared.records.Station.{Station}
 use Rattle.case.proofs.Reading.{kept}
 use Rattle.plan.specs.declared.rows.Choice.{Choice}
-use Rattle.plan.specs.PlanRecords.{choiceOf}
-use Rattle.plan.specs.StationRules.{oneOf, stateObeyed, choiceKept}
-use Rattle.plan.specs.CaseFacts.{counted, station-size}
+use Rattle.plan.specs.PlanRecords.{choiceOf, stateIn}
+use Rattle.plan.specs.StationRules.{oneOf, activeSet, obeyed, choiceKept}
+use Rattle.plan.specs.StationPass.{activeBits}
+use Rattle.plan.specs.CaseFacts.{counted}
+use Rattle.plan.proofs.StationPasses.{active-bits}
 use Rattle.plan.proofs.stations.choice_kept.Statement.{statement}
 use Rattle.plan.proofs.stations.choice_kept.Tie as tie
 
 mul-first : tie.Need-mul-first
-mul-first c = omega (arith, c .pre .station, counted (c .pre .at .accepted) .stations)
+mul-first c = omega (arith, c .pre .0 .station, counted (c .pre .0 .at .accepted) .stations)
 
 element-copy-out-first : tie.Need-element-copy-out-first
-element-copy-out-first c = omega (arith, c .pre .station, counted (c .pre .at .accepted) .stations)
+element-copy-out-first c = omega (arith, c .pre .0 .station, counted (c .pre .0 .at .accepted) .stations)
 
 station-requires : tie.Need-station-requires
 station-requires c κs = search needs
 
 -- the station and the choice that were read
 station-is : (c : tie.After-station) → c .station .result ≡ stationOf (now (c .before .before .args .case)) (c .before .before .args .s)
-station-is c = let s = c .before .before in c .station .ensures ∙ ap (stationRow (now (s .args .case))) (s .pre .at .laid .rows .each (s .args .s) (s .pre .station))
+station-is c = let s = c .before .before in c .station .ensures ∙ ap (stationRow (now (s .args .case))) (s .pre .0 .at .laid .rows .each (s .args .s) (s .pre .0 .station))
 
 direction-is : (c : tie.After-struct-told) → toZ w64 (ofZ w64 (c .before .choice-of .result .direction)) ≡ choiceOf (now (c .before .before .before .before .args .case)) (now (c .before .before .before .before .args .row)) (c .before .before .before .before .args .s) .direction
 direction-is c = kept _ (c .struct-told .given .0 .1) ∙ ap (λ (x : Choice). x .direction) (c .before .choice-of .ensures)
@@ -43,7 +47,7 @@ state-in : (c : tie.After-one-of2) → c .one-of2 .result ≡ oneOf (choiceOf (n
 state-in c = let t = c .before .before .before .before in c .one-of2 .ensures ∙ ap₂ oneOf (state-is t) (ap (λ (x : Station). x .states) (station-is (t .before .before)))
 
 choice-of-requires : tie.Need-choice-of-requires
-choice-of-requires c κs = let s = c .before .before in (counted (s .pre .at .accepted), s .pre .station)
+choice-of-requires c κs = let s = c .before .before in (counted (s .pre .0 .at .accepted), s .pre .0 .station)
 
 one-of-requires : tie.Need-one-of-requires
 one-of-requires c κs = search needs
@@ -57,14 +61,20 @@ index-requires c κs = search needs
 index-requires-2 : tie.Need-index-requires-2
 index-requires-2 c κs = search needs
 
+-- the active arcs, as a signed number
+small : (c : tie.After-one-of2) → c .before .before .before .before .before .before .before .before .args .active < 2 ^ 63
+small c =
+    let s = c .before .before .before .before .before .before .before .before in
+    omega (arith, s .pre .1, active-bits (now (s .args .row)) (s .args .s) (s .pre .0 .at .accepted) (s .pre .0 .station))
+
+cast-state-obeyed : tie.Need-cast-state-obeyed
+cast-state-obeyed c = record { sfits = small (c .before) }
+
 state-obeyed-requires : tie.Need-state-obeyed-requires
-state-obeyed-requires c κs =
-    let s = c .before .before .before .before .before .before .before .before .before .before .before .before .before in
-    let a = s .pre .at .accepted in
-    (counted a, s .pre .at .laid .arcs, station-size a (s .args .s) (s .pre .station), s .pre .at .laid .rows .each (s .args .s) (s .pre .station))
+state-obeyed-requires c κs = search needs
 
 returns : tie.Need-returns
-unfolding choiceKept
+unfolding choiceKept activeSet activeBits
 returns c =
     let j = c .before in
     let i = j .before .before in
@@ -73,9 +83,15 @@ returns c =
     let q = o .before .before .before in
     let t = q .before in
     let s = t .before .before .before .before in
+    let l = now (s .args .case) in
+    let first = s .pre .0 .at .laid .rows .each (s .args .s) (s .pre .0 .station) in
+    let f = i .index .ensures ∙ ap posPart (direction-is t) in
+    let z = j .index2 .ensures ∙ ap posPart (state-is t) in
+    let on = toZ-pos w64 (small o) ∙ ap pos (s .pre .1) in
     rw (sym (direction-in q) ∙ o .before .before .if1 .taken, sym (state-in o) ∙ w .if2 .taken)
     (c .state-obeyed .ensures
-    ∙ ap₂ (stateObeyed (now (s .args .case)) (now (s .args .row)) (s .args .s)) (i .index .ensures ∙ ap posPart (direction-is t)) (j .index2 .ensures ∙ ap posPart (state-is t)))
+    ∙ ap₂ (λ (g : ℕ → ℤ → Bool) (x : ℤ). g (i .index .result) x) (ap obeyed (ap₂ (stateRow l) first z)) on
+    ∙ ap (λ (n : ℕ). obeyed (stateOf l (s .args .s) (stateIn l (now (s .args .row)) (s .args .s))) n (pos (activeBits l (now (s .args .row)) (s .args .s)))) f)
 
 returns-2 : tie.Need-returns-2
 unfolding choiceKept
@@ -97,6 +113,7 @@ choice-kept-spec =
     choice-of-requires
     one-of-requires
     one-of-requires-2
+    cast-state-obeyed
     index-requires
     index-requires-2
     state-obeyed-requires

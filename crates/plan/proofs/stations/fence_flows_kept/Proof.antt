@@ -1,6 +1,6 @@
 use mathlib.Core.Path.{_≡_, refl, sym, ap, ap₂, _∙_}
-use mathlib.Core.Bool.{true, false}
-use Prim.Native.Nat.{ℕ, _≤_, _<_, _-_}
+use mathlib.Core.Bool.{true}
+use Prim.Native.Nat.{_≤_, _<_, _-_}
 use native.Mathlib.Omega.{arith}
 use borrow.Author.Needs.{needs}
 use borrow.Author.Tests.{not-true, not-false}
@@ -20,22 +20,19 @@ use Rattle.plan.proofs.stations.fence_flows_kept.Statement.{statement}
 use Rattle.plan.proofs.stations.fence_flows_kept.Tie as tie
 
 abbrev Inv-loop : tie.InvT-loop
-Inv-loop case row i s net chosen inside plain nodes v₀ v = (v ≤ nodes) × (every v (fenceKept case row s (directionIn case row s)) ≡ true)
+Inv-loop case row i s flows chosen inside plain nodes v₀ v = (v ≤ nodes) × (every v (fenceKept case row s (directionIn case row s)) ≡ true)
 
 abbrev μ-loop : tie.MeasureT-loop
-μ-loop case row i s net chosen inside plain nodes v₀ v = nodes - v
-
-station-flows-requires : tie.Need-station-flows-requires Inv-loop μ-loop
-station-flows-requires c κs = (c .pre .at .accepted, c .pre .at .laid .arcs, c .pre .flows)
+μ-loop case row i s flows chosen inside plain nodes v₀ v = nodes - v
 
 mul-direction : tie.Need-mul-direction Inv-loop μ-loop
-mul-direction c = let s = c .before in omega (arith, s .pre .station, counted (s .pre .at .accepted) .stations)
+mul-direction c = let s = c in omega (arith, s .pre .0 .station, counted (s .pre .0 .at .accepted) .stations)
 
 element-copy-out-direction : tie.Need-element-copy-out-direction Inv-loop μ-loop
-element-copy-out-direction c = let s = c .before in omega (arith, s .pre .station, counted (s .pre .at .accepted) .stations)
+element-copy-out-direction c = let s = c in omega (arith, s .pre .0 .station, counted (s .pre .0 .at .accepted) .stations)
 
 choice-of-requires : tie.Need-choice-of-requires Inv-loop μ-loop
-choice-of-requires c κs = let s = c .before .before in (counted (s .pre .at .accepted), s .pre .station)
+choice-of-requires c κs = let s = c .before in (counted (s .pre .0 .at .accepted), s .pre .0 .station)
 
 index-requires : tie.Need-index-requires Inv-loop μ-loop
 index-requires c κs = search needs
@@ -44,29 +41,29 @@ direction-requires : tie.Need-direction-requires Inv-loop μ-loop
 direction-requires c κs = search needs
 
 mul-inside : tie.Need-mul-inside Inv-loop μ-loop
-mul-inside c = let s = c .before .before .before .before .before .before in omega (arith, s .pre .station, counted (s .pre .at .accepted) .stations)
+mul-inside c = let s = c .before .before .before .before .before in omega (arith, s .pre .0 .station, counted (s .pre .0 .at .accepted) .stations)
 
 element-copy-out-inside : tie.Need-element-copy-out-inside Inv-loop μ-loop
-element-copy-out-inside c = let s = c .before .before .before .before .before .before in omega (arith, s .pre .station, counted (s .pre .at .accepted) .stations)
+element-copy-out-inside c = let s = c .before .before .before .before .before in omega (arith, s .pre .0 .station, counted (s .pre .0 .at .accepted) .stations)
 
 -- the chosen direction
 chosen-is : (c : tie.After-direction Inv-loop μ-loop) →
-    c .direction .result ≡ directionOf (now (c .before .before .before .before .before .before .args .case)) (c .before .before .before .before .before .before .args .s)
-    (directionIn (now (c .before .before .before .before .before .before .args .case)) (now (c .before .before .before .before .before .before .args .row)) (c .before .before .before .before .before .before .args .s))
+    c .direction .result ≡ directionOf (now (c .before .before .before .before .before .args .case)) (c .before .before .before .before .before .args .s)
+    (directionIn (now (c .before .before .before .before .before .args .case)) (now (c .before .before .before .before .before .args .row)) (c .before .before .before .before .before .args .s))
 chosen-is c =
     let x = c .before in
     let t = x .before in
-    let s = t .before .before .before .before in
+    let s = t .before .before .before in
     c .direction .ensures
-    ∙ ap₂ (directionRow (now (s .args .case))) (s .pre .at .laid .rows .each (s .args .s) (s .pre .station)) (x .index .ensures ∙ ap posPart (kept _ (t .struct-told .given .0 .1) ∙ ap (λ (y : Choice). y .direction) (t .before .choice-of .ensures)))
+    ∙ ap₂ (directionRow (now (s .args .case))) (s .pre .0 .at .laid .rows .each (s .args .s) (s .pre .0 .station)) (x .index .ensures ∙ ap posPart (kept _ (t .struct-told .given .0 .1) ∙ ap (λ (y : Choice). y .direction) (t .before .choice-of .ensures)))
 
-node-in : (c : tie.In-loop Inv-loop μ-loop) → c .before .loop .v < nodesOf (now (c .before .before .before .before .before .before .before .before .before .before .args .case))
-node-in c = rw (← (c .before .before .before .before .before .before .before .before .before .before .pre .at .laid .nodes)) (c .loop-test .taken)
+node-in : (c : tie.In-loop Inv-loop μ-loop) → c .before .loop .v < nodesOf (now (c .before .before .before .before .before .before .before .before .before .args .case))
+node-in c = rw (← (c .before .before .before .before .before .before .before .before .before .pre .0 .at .laid .nodes)) (c .loop-test .taken)
 
 -- what was found of the node
 found : (c : tie.After-fence-kept Inv-loop μ-loop) →
-    c .fence-kept .result ≡ fenceKept (now (c .before .before .before .before .before .before .before .before .before .before .before .before .args .case)) (now (c .before .before .before .before .before .before .before .before .before .before .before .before .args .row)) (c .before .before .before .before .before .before .before .before .before .before .before .before .args .s)
-    (directionIn (now (c .before .before .before .before .before .before .before .before .before .before .before .before .args .case)) (now (c .before .before .before .before .before .before .before .before .before .before .before .before .args .row)) (c .before .before .before .before .before .before .before .before .before .before .before .before .args .s)) (c .before .before .before .loop .v)
+    c .fence-kept .result ≡ fenceKept (now (c .before .before .before .before .before .before .before .before .before .before .before .args .case)) (now (c .before .before .before .before .before .before .before .before .before .before .before .args .row)) (c .before .before .before .before .before .before .before .before .before .before .before .args .s)
+    (directionIn (now (c .before .before .before .before .before .before .before .before .before .before .before .args .case)) (now (c .before .before .before .before .before .before .before .before .before .before .before .args .row)) (c .before .before .before .before .before .before .before .before .before .before .before .args .s)) (c .before .before .before .loop .v)
 found c =
     let a = c .before in
     let t = a .before in
@@ -74,26 +71,25 @@ found c =
     let p = h .before in
     let n = p .before in
     let d = n .before in
-    let f = d .before .before .before .before .before in
-    let s = f .before in
+    let s = d .before .before .before .before .before in
     let l = now (s .args .case) in
     let r = now (s .args .row) in
     let k = s .args .s in
-    let y = s .pre .at .laid in
-    fence-node l r k (directionIn l r k) (h .loop .v) (chosen-is d)
-    (kept _ (n .inside .given) ∙ y .inside .each k (s .pre .station))
+    let y = s .pre .0 .at .laid in
+    fence-node (s .pre .0 .at .accepted) r k (directionIn l r k) (h .loop .v) (node-in t) (s .pre .0 .station) (chosen-is d)
+    (kept _ (n .inside .given) ∙ y .inside .each k (s .pre .0 .station))
     (kept _ (p .struct-told2 .given .1 .1 .1 .1 .1 .1 .0 .1) ∙ y .plain)
-    (kept _ (a .fence-kept-arg .given) ∙ f .station-flows .ensures .each (h .loop .v) (node-in t))
+    (kept _ (a .fence-kept-arg .given) ∙ s .pre .1 .holds .each (h .loop .v) (node-in t))
     (c .fence-kept .ensures)
 
 loop-holds : tie.Need-loop-holds Inv-loop μ-loop
 loop-holds c = (omega arith, refl)
 
 mul-fence-kept : tie.Need-mul-fence-kept Inv-loop μ-loop
-mul-fence-kept c = omega (arith, node-in c, counted (c .before .before .before .before .before .before .before .before .before .before .pre .at .accepted) .nodes)
+mul-fence-kept c = omega (arith, node-in c, counted (c .before .before .before .before .before .before .before .before .before .pre .0 .at .accepted) .nodes)
 
-element-copy-out-fence-kept : tie.Need-element-copy-out-fence-kept Inv-loop μ-loop
-element-copy-out-fence-kept c = omega (arith, node-in c, counted (c .before .before .before .before .before .before .before .before .before .before .pre .at .accepted) .nodes)
+shared-slice-copy-out-fence-kept : tie.Need-shared-slice-copy-out-fence-kept Inv-loop μ-loop
+shared-slice-copy-out-fence-kept c = omega (arith, node-in c, counted (c .before .before .before .before .before .before .before .before .before .pre .0 .at .accepted) .nodes)
 
 fence-kept-requires : tie.Need-fence-kept-requires Inv-loop μ-loop
 fence-kept-requires c κs = search needs
@@ -104,7 +100,7 @@ returns c =
     let b = c .before in
     let t = b .before .before in
     let h = t .before in
-    let s = h .before .before .before .before .before .before .before .before .before in
+    let s = h .before .before .before .before .before .before .before .before in
     let l = now (s .args .case) in
     let r = now (s .args .row) in
     let k = s .args .s in
@@ -120,7 +116,7 @@ loop-again : tie.Need-loop-again Inv-loop μ-loop
 loop-again c =
     let b = c .before in
     let h = b .before .before .before in
-    let s = h .before .before .before .before .before .before .before .before .before in
+    let s = h .before .before .before .before .before .before .before .before in
     let l = now (s .args .case) in
     let r = now (s .args .row) in
     let k = s .args .s in
@@ -130,8 +126,8 @@ returns-2 : tie.Need-returns-2 Inv-loop μ-loop
 unfolding fenceFlowsKept
 returns-2 c =
     let h = c .before in
-    let s = h .before .before .before .before .before .before .before .before .before in
-    let e : h .loop .v ≡ nodesOf (now (s .args .case)) = omega (arith, s .pre .at .laid .nodes, h .loop .inv .0, c .loop-test .left) in
+    let s = h .before .before .before .before .before .before .before .before in
+    let e : h .loop .v ≡ nodesOf (now (s .args .case)) = omega (arith, s .pre .0 .at .laid .nodes, h .loop .inv .0, c .loop-test .left) in
     sym (rw e at (h .loop .inv .1))
 
 pub fence-flows-kept-spec : {M : Type 1} → statement M
@@ -140,7 +136,6 @@ fence-flows-kept-spec =
     (tie.spec
     Inv-loop
     μ-loop
-    station-flows-requires
     mul-direction
     element-copy-out-direction
     choice-of-requires
@@ -150,7 +145,7 @@ fence-flows-kept-spec =
     element-copy-out-inside
     loop-holds
     mul-fence-kept
-    element-copy-out-fence-kept
+    shared-slice-copy-out-fence-kept
     fence-kept-requires
     returns
     add-v

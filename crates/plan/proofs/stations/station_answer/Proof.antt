@@ -13,9 +13,6 @@ add-ask c = search needs
 ask-requires : tie.Need-ask-requires
 ask-requires c κs = search needs
 
-machines-once-requires : tie.Need-machines-once-requires
-machines-once-requires c κs = search needs
-
 add-ask-2 : tie.Need-add-ask-2
 add-ask-2 c = search needs
 
@@ -43,11 +40,10 @@ returns c =
     let z = o .before in
     let f = z .before in
     let y = f .before in
-    let m = y .before in
-    let x = m .before in
+    let x = y .before in
     let k = x .before in
     let s = k .before in
-    station-asked (now (s .args .case)) (now (s .args .row)) (s .args .i) (s .args .s) (k .choice-kept .ensures) (m .machines-once .ensures) (f .fence-flows-kept .ensures) (x .ask .ensures) (y .ask2 .ensures) (z .ask3 .ensures) (o .or-else .ensures) (c .or-else2 .ensures)
+    station-asked (now (s .args .case)) (now (s .args .row)) (s .args .i) (s .args .s) (k .choice-kept .ensures) (s .pre .2) (f .fence-flows-kept .ensures) (x .ask .ensures) (y .ask2 .ensures) (z .ask3 .ensures) (o .or-else .ensures) (c .or-else2 .ensures)
 
 pub station-answer-spec : {M : Type 1} → statement M
 station-answer-spec =
@@ -56,7 +52,6 @@ station-answer-spec =
     choice-kept-requires
     add-ask
     ask-requires
-    machines-once-requires
     add-ask-2
     ask-requires-2
     fence-flows-kept-requires

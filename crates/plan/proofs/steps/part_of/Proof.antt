@@ -4,35 +4,27 @@ use borrow.Author.Needs.{needs}
 use Rattle.plan.proofs.steps.part_of.Statement.{statement}
 use Rattle.plan.proofs.steps.part_of.Tie as tie
 
--- src/steps.rt:106:21
 mul-first : tie.Need-mul-first
 mul-first c = search needs
 
--- src/steps.rt:106:17
 add-first : tie.Need-add-first
 add-first c = search needs
 
--- src/steps.rt:107:15
 add-end : tie.Need-add-end
 add-end c = search needs
 
--- src/steps.rt:108:5
 mul-result : tie.Need-mul-result
 mul-result c = search needs
 
--- src/steps.rt:108:5
 sub-result : tie.Need-sub-result
 sub-result c = search needs
 
--- src/steps.rt:108:5
 part-result-start : tie.Need-part-result-start
 part-result-start c = search needs
 
--- src/steps.rt:108:5
 part-result-end : tie.Need-part-result-end
 part-result-end c = search needs
 
--- src/steps.rt:102:1
 returns : tie.Need-returns
 returns c = let a = c .before .args in rw (add-sub-cancel-left (2 + a .i * a .width) (a .width))
 

@@ -32,46 +32,38 @@ flows-are c =
     let s = c .before .before .before .before .before .before .before .before in
     flows-sized (now (s .args .case)) (numberAt (s .args .previous .pressures)) (now (s .args .row)) (s .args .i) (s .pre .0 .accepted) (arcs-yes c)
 
--- src/steps.rt:34:9
 node-answers-requires : tie.Need-node-answers-requires
 node-answers-requires c κs = search needs
 
 enum-told : tie.Need-enum-told
 enum-told c = search needs
 
--- src/steps.rt:42:13
 enum-told-2 : tie.Need-enum-told-2
 enum-told-2 c = search needs
 
--- src/steps.rt:42:13
 returns : tie.Need-returns
 returns c =
     let n = c .before .before in
     let a = n .before .before .args in
     nodes-stop (now (a .case)) (numberAt (a .previous .pressures)) (now (a .row)) (a .i) (n .node-answers .ensures) (c .enum-told2 .given .1)
 
--- src/steps.rt:45:34
 slice-aggregate-arc-answers : tie.Need-slice-aggregate-arc-answers
 slice-aggregate-arc-answers c = search needs
 
--- src/steps.rt:45:9
 arc-answers-requires : tie.Need-arc-answers-requires
 arc-answers-requires c κs =
     let t = c .before in
     let s = t .before .before .before .before in
     (s .pre .0, s .pre .1, pressures-sized (nodes-are t))
 
--- src/steps.rt:48:13
 enum-told-3 : tie.Need-enum-told-3
 enum-told-3 c = search needs
 
--- src/steps.rt:48:13
 station-answers-requires : tie.Need-station-answers-requires
 station-answers-requires c κs =
     let s = c .before .before .before .before .before .before .before .before in
     (s .pre .0, flows-are c, machines-kept (now (s .args .case)) (numberAt (s .args .previous .pressures)) (now (s .args .row)) (s .args .i) (arcs-yes c))
 
--- src/steps.rt:49:13
 balance-answers-requires : tie.Need-balance-answers-requires
 balance-answers-requires c κs =
     let e = c .before in
@@ -79,15 +71,12 @@ balance-answers-requires c κs =
     let s = t .before .before .before .before in
     (s .pre .0, flows-are e, nodes-are t)
 
--- src/steps.rt:47:24
 or-else-requires : tie.Need-or-else-requires
 or-else-requires c κs = search needs
 
--- src/steps.rt:55:14
 enum-told-4 : tie.Need-enum-told-4
 enum-told-4 c = search needs
 
--- src/steps.rt:29:1
 returns-2 : tie.Need-returns-2
 returns-2 c =
     let b = c .before in
@@ -96,7 +85,6 @@ returns-2 c =
     let a = t .before .before .before .before .args in
     both-asked (now (a .case)) (numberAt (a .previous .pressures)) (now (a .row)) (a .i) (nodes-yes t) (arcs-yes e) (c .or-else .ensures) (b .before .station-answers .ensures) (b .balance-answers .ensures)
 
--- src/steps.rt:29:1
 returns-3 : tie.Need-returns-3
 returns-3 c =
     let r = c .before .before in

@@ -49,25 +49,20 @@ step-yes : (e : tie.After-enum-told Inv-loop μ-loop) → let p = e .before .bef
     firstNo (stepQuestions (now (l .before .before .before .before .args .case)) (numberAt (l .loop .previous .pressures)) (now (p .part-of .result)) (l .loop .i)) ≡ Yes
 step-yes e = sym (e .before .before .step .ensures) ∙ e .enum-told .given .1
 
--- src/steps.rt:118:9
 step-width-requires : tie.Need-step-width-requires Inv-loop μ-loop
 step-width-requires c κs = let d = c .pre .1 in let k = counted (c .pre .0) in (omega (arith, d .nodes, k .nodes), omega (arith, d .arcs, k .arcs), omega (arith, d .stations, k .stations))
 
--- src/steps.rt:119:9
 start-requires : tie.Need-start-requires Inv-loop μ-loop
 start-requires c κs = (counted (c .before .pre .0), c .before .pre .1)
 
--- src/steps.rt:120:9
 opened-requires : tie.Need-opened-requires Inv-loop μ-loop
 opened-requires c κs =
     let s = c .before .before in
     (s .pre .0, s .pre .1 .arcs, held-sized (c .start .ensures .pressures) (start-sized (s .pre .0)))
 
--- src/steps.rt:122:5
 loop-holds : tie.Need-loop-holds Inv-loop μ-loop
 loop-holds c = going (c .before .before .before .pre .0) (c .before .start .ensures) (c .opened .ensures)
 
--- src/steps.rt:123:13
 part-of-requires : tie.Need-part-of-requires Inv-loop μ-loop
 part-of-requires c κs =
     let w = c .before .before .before .before in
@@ -82,18 +77,15 @@ part-of-requires c κs =
       omega (arith, e, part-within i (stepsOf (now (s .args .case))) n (within c)),
     )
 
--- src/steps.rt:124:13
 step-requires : tie.Need-step-requires Inv-loop μ-loop
 step-requires c κs = (at-step (c .before), c .before .before .loop .inv .pressures)
 
 enum-told : tie.Need-enum-told Inv-loop μ-loop
 enum-told c = search needs
 
--- src/steps.rt:128:17
 enum-known-a : tie.Need-enum-known-a Inv-loop μ-loop
 enum-known-a c = search needs
 
--- src/steps.rt:132:17
 returns : tie.Need-returns Inv-loop μ-loop
 returns c =
     let p = c .before .before .before .before in
@@ -101,7 +93,6 @@ returns c =
     let s = t .before .before .before .before .before in
     refused (s .pre .0) (t .before .loop .inv) (within t) (row-is p) (c .before .before .before .step .ensures) (c .before .a .given .1)
 
--- src/steps.rt:139:9
 added-requires : tie.Need-added-requires Inv-loop μ-loop
 added-requires c κs =
     let p = c .before .before .before in
@@ -109,23 +100,19 @@ added-requires c κs =
     let s = t .before .before .before .before .before in
     (at-step t, kept (s .pre .0) (t .before .loop .inv) (within t) (row-is p) (step-yes c), room (s .pre .0) (t .before .loop .inv) (within t) (row-is p))
 
--- src/steps.rt:140:9
 after-requires : tie.Need-after-requires Inv-loop μ-loop
 after-requires c κs =
     let s = c .before .before .before .before .before .before .before .before .before .before in
     (counted (s .pre .0), s .pre .1)
 
--- src/steps.rt:141:9
 add-i : tie.Need-add-i Inv-loop μ-loop
 add-i c =
     let t = c .before .before .before .before .before .before in
     omega (arith, within t, counted (t .before .before .before .before .before .pre .0) .steps)
 
--- src/steps.rt:122:5
 loop-less : tie.Need-loop-less Inv-loop μ-loop
 loop-less c = omega (arith, c .before .before .before .before .before .before .loop-test .taken)
 
--- src/steps.rt:122:5
 loop-again : tie.Need-loop-again Inv-loop μ-loop
 loop-again c =
     let b = c .before in
@@ -135,13 +122,11 @@ loop-again c =
     let s = t .before .before .before .before .before in
     went-on (s .pre .0) (t .before .loop .inv) (within t) (row-is p) (step-yes e) (b .added .ensures) (c .after .ensures)
 
--- src/steps.rt:143:23
 closed-requires : tie.Need-closed-requires Inv-loop μ-loop
 closed-requires c κs =
     let s = c .before .before .before .before .before in
     (s .pre .0, s .pre .1 .arcs, c .before .loop .inv .pressures)
 
--- src/steps.rt:112:1
 returns-2 : tie.Need-returns-2 Inv-loop μ-loop
 returns-2 c =
     let l = c .before in

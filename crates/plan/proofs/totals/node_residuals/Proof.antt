@@ -28,8 +28,8 @@ loop-holds c = let s = c .before in (omega (arith, counted (s .pre .0 .accepted)
 mul-node-residual : tie.Need-mul-node-residual Inv-loop μ-loop
 mul-node-residual c = omega arith
 
-element-copy-out-node-residual : tie.Need-element-copy-out-node-residual Inv-loop μ-loop
-element-copy-out-node-residual c = omega arith
+array-copy-out-node-residual : tie.Need-array-copy-out-node-residual Inv-loop μ-loop
+array-copy-out-node-residual c = omega arith
 
 node-residual-requires : tie.Need-node-residual-requires Inv-loop μ-loop
 node-residual-requires c κs =
@@ -85,7 +85,7 @@ node-residuals-spec =
     net-flows-requires
     loop-holds
     mul-node-residual
-    element-copy-out-node-residual
+    array-copy-out-node-residual
     node-residual-requires
     add-sum
     add-v

@@ -10,8 +10,8 @@ use Rattle.case.proofs.Counting.{shifted}
 use Rattle.case.proofs.Reading.{kept}
 use Rattle.plan.specs.declared.rows.ArcRow.{ArcRow}
 use Rattle.plan.specs.PlanRecords.{activeIn}
-use Rattle.plan.proofs.stations.with_active.Statement.{statement}
-use Rattle.plan.proofs.stations.with_active.Tie as tie
+use Rattle.plan.proofs.passes.with_active.Statement.{statement}
+use Rattle.plan.proofs.passes.with_active.Tie as tie
 
 active : (c : tie.After-at-most) → c .at-most .result ≡ activeIn (now (c .before .before .before .args .case)) (now (c .before .before .before .args .row)) (c .before .before .before .args .e)
 active c =

@@ -1,10 +1,10 @@
-use mathlib.Core.Path.{_≡_, sym, ap, _∙_}
+use mathlib.Core.Path.{_≡_, refl, sym, ap, _∙_}
 use mathlib.Core.Logic.{⊎-elim}
-use Prim.Native.Nat.{ℕ, _≤_, _<_, _-_, _+_}
+use Prim.Native.Nat.{ℕ, _≤_, _<_, _-_}
 use native.Mathlib.Omega.{arith}
-use borrow.Author.Needs.{needs}
 use denote.Ref.{now}
-use lib.IntN.{ℤ, _-ℤ_}
+use lib.IntN.{_-ℤ_}
+use lib.ListN.{length}
 use mir.Syntax.{w64}
 use mir.Val.{toZ, ofZ}
 use Rattle.numbers.specs.SignedLocals.{Held, held, held-fits, _-ʳ_}
@@ -12,20 +12,19 @@ use Rattle.numbers.specs.Sum.{sum}
 use Rattle.case.specs.Layout.{arcsOf}
 use Rattle.case.specs.declared.records.Arc.{Arc}
 use Rattle.plan.specs.declared.rows.ArcRow.{ArcRow}
-use Rattle.plan.specs.declared.balance.Net.{Net}
 use Rattle.plan.specs.PlanRecords.{arcRow}
-use Rattle.plan.specs.StationRules.{stationPart, stationFlow}
+use Rattle.plan.specs.StationPass.{artificialPart, artificialFlow}
 use Rattle.plan.specs.CaseFacts.{counted, from-node, to-node}
 use Rattle.plan.proofs.NetFlows.{Gathers, gathers-none, gathers-same, gathers-more, gathers-sized, read}
-use Rattle.plan.proofs.StationParts.{station-part, station-none, station-sized}
-use Rattle.plan.proofs.stations.station_flows.Statement.{statement}
-use Rattle.plan.proofs.stations.station_flows.Tie as tie
+use Rattle.plan.proofs.StationParts.{artificial-part, artificial-none, artificial-sized}
+use Rattle.plan.proofs.passes.artificial_flows.Statement.{statement}
+use Rattle.plan.proofs.passes.artificial_flows.Tie as tie
 
 abbrev Inv-loop : tie.InvT-loop
-Inv-loop case row s arcs net₀ e₀ net e = (e ≤ arcs) × Gathers (net .flows) (stationPart case row s) e
+Inv-loop case row arcs net₀ e₀ net e = (e ≤ arcs) × Gathers net (artificialPart case row) e × (length net ≡ 60)
 
 abbrev μ-loop : tie.MeasureT-loop
-μ-loop case row s arcs net₀ e₀ net e = arcs - e
+μ-loop case row arcs net₀ e₀ net e = arcs - e
 
 -- an arc of the case
 arc-in : (c : tie.In-loop Inv-loop μ-loop) → c .before .loop .e < arcsOf (now (c .before .before .args .case))
@@ -39,13 +38,10 @@ flow-is t r e =
     read (ap (λ (x : ArcRow). x .a) e) (z .a) tt -ʳ read (ap (λ (x : ArcRow). x .b) e) (z .b) tt
 
 loop-holds : tie.Need-loop-holds Inv-loop μ-loop
-loop-holds c = (omega arith, gathers-none (stationPart (now (c .args .case)) (now (c .args .row)) (c .args .s)))
-
-belongs-requires : tie.Need-belongs-requires Inv-loop μ-loop
-belongs-requires c κs = search needs
+loop-holds c = (omega arith, gathers-none (artificialPart (now (c .args .case)) (now (c .args .row))), refl)
 
 arc-requires : tie.Need-arc-requires Inv-loop μ-loop
-arc-requires c κs = search needs
+arc-requires c κs = (c .before .before .pre .0, arc-in c)
 
 arc-row-requires : tie.Need-arc-row-requires Inv-loop μ-loop
 arc-row-requires c κs = let t = c .before .before .before in (counted (t .before .before .pre .0), arc-in t)
@@ -53,11 +49,14 @@ arc-row-requires c κs = let t = c .before .before .before in (counted (t .befor
 sub-flow : tie.Need-sub-flow Inv-loop μ-loop
 sub-flow c = let r = c .before .before in held-fits (flow-is (r .before .before .before .before) (r .arc-row .result) (r .arc-row .ensures)) tt
 
+slice-aggregate-moved : tie.Need-slice-aggregate-moved Inv-loop μ-loop
+slice-aggregate-moved c = sym (c .before .before .before .before .before .before .before .before .loop .inv .2)
+
 moved-requires : tie.Need-moved-requires Inv-loop μ-loop
 moved-requires c κs =
-    let r = c .before .before in
-    let a = r .before in
-    let t = a .before .before .before in
+    let r = c .before .before .before in
+    let a = r .before .before .before in
+    let t = a .before in
     let h = t .before in
     let s = h .before in
     let e = h .loop .e in
@@ -66,9 +65,10 @@ moved-requires c κs =
     let f = held (flow-is t (r .arc-row .result) (r .arc-row .ensures)) tt in (
       omega (arith, ap (λ (x : Arc). x .from) (a .arc .ensures), from-node (s .pre .0) e p, n .nodes),
       omega (arith, ap (λ (x : Arc). x .to) (a .arc .ensures), to-node (s .pre .0) e p, n .nodes),
+      h .loop .inv .2,
       rw (f .val) (record { bound = f .bound }),
       rw (f .val) (record { bound = f .bound }),
-      gathers-sized (h .loop .inv .1) (omega (arith, h .loop .inv .0, s .pre .1, n .arcs)) (λ i k q. station-sized (now (s .args .case)) (now (s .args .row)) (s .args .s) k i (s .pre .2) (omega (arith, q, p))),
+      gathers-sized (h .loop .inv .1) (omega (arith, h .loop .inv .0, s .pre .1, n .arcs)) (λ i k q. artificial-sized (now (s .args .case)) (now (s .args .row)) k i (s .pre .2) (omega (arith, q, p))),
     )
 
 add-e : tie.Need-add-e Inv-loop μ-loop
@@ -79,48 +79,47 @@ loop-less c = omega arith
 
 loop-again : tie.Need-loop-again Inv-loop μ-loop
 loop-again c =
-    let b = c .before in
-    let t = b .before in
+    let a = c .before .before in
+    let t = a .before in
     let h = t .before in
     let s = h .before in
     let e = h .loop .e in
     let l = now (s .args .case) in
     let r = now (s .args .row) in
-    let k = s .args .s in
-    let f = sym (b .belongs .ensures) in (
+    let kind = ap (λ (y : Arc). y .kind) (a .arc .ensures) in
+    let from = ap (λ (y : Arc). y .from) (a .arc .ensures) in
+    let to = ap (λ (y : Arc). y .to) (a .arc .ensures) in (
       omega arith,
       ⊎-elim
           (λ x.
-          let v = toZ w64 (ofZ w64 (toZ w64 (ofZ w64 (x .2 .result .a)) -ℤ toZ w64 (ofZ w64 (x .2 .result .b)))) in
-          let from = ap (λ (y : Arc). y .from) (x .1 .ensures) in
-          let to = ap (λ (y : Arc). y .to) (x .1 .ensures) in
-          let g : Gathers (x .5 .result .flows) (stationPart l r k) (e + 1) =
-          gathers-more (h .loop .inv .1) (x .1 .result .from) (x .1 .result .to) v v (x .5 .ensures) (λ i. station-part l r k e i (f ∙ x .0 .taken) from to ((held (flow-is t (x .2 .result) (x .2 .ensures)) tt) .val)) in
-          rw (x .6) g)
-          (λ x. rw (x .1) (gathers-same (h .loop .inv .1) (λ i. station-none l r k e i (f ∙ x .0 .left))))
+          let v = toZ w64 (ofZ w64 (toZ w64 (ofZ w64 (x .1 .result .a)) -ℤ toZ w64 (ofZ w64 (x .1 .result .b)))) in
+          rw (x .7) (gathers-more (h .loop .inv .1) (a .arc .result .from) (a .arc .result .to) v v (x .5 .ensures .1) (λ i. artificial-part l r e i kind (x .0 .taken) from to ((held (flow-is t (x .1 .result) (x .1 .ensures)) tt) .val))))
+          (λ x. rw (x .1) (gathers-same (h .loop .inv .1) (λ i. artificial-none l r e i kind (x .0 .left))))
           (c .if1 .came),
+      ⊎-elim (λ x. rw (x .7) (x .5 .ensures .0)) (λ x. rw (x .1) (h .loop .inv .2)) (c .if1 .came),
     )
 
 returns : tie.Need-returns Inv-loop μ-loop
-unfolding stationFlow
+unfolding artificialFlow
 returns c =
     let h = c .before in
     let s = h .before in
     let l = now (s .args .case) in
+    let r = now (s .args .row) in
     let e : h .loop .e ≡ arcsOf l = omega (arith, s .pre .1, h .loop .inv .0, c .loop-test .left) in
-    record { each = λ i p. h .loop .inv .1 .each i (omega (arith, p, counted (s .pre .0) .nodes)) ∙ ap (λ (n : ℕ). sum n (stationPart l (now (s .args .row)) (s .args .s) i)) e }
+    record { each = λ i p. h .loop .inv .1 .each i (omega (arith, p, counted (s .pre .0) .nodes)) ∙ ap (λ (n : ℕ). sum n (artificialPart l r i)) e }
 
-pub station-flows-spec : {M : Type 1} → statement M
-station-flows-spec =
+pub artificial-flows-spec : {M : Type 1} → statement M
+artificial-flows-spec =
     tie.close
     (tie.spec
     Inv-loop
     μ-loop
     loop-holds
-    belongs-requires
     arc-requires
     arc-row-requires
     sub-flow
+    slice-aggregate-moved
     moved-requires
     add-e
     loop-less

@@ -1,0 +1,45 @@
+use mathlib.Core.Path.{_≡_, ap, _∙_}
+use Prim.Native.Nat.{ℕ, _+_, _*_, _≤_}
+use native.Mathlib.Omega.{arith}
+use denote.Ref.{now}
+use Rattle.case.specs.Layout.{nodesOf, nodeAt, arcAt}
+use Rattle.case.specs.Passed.{arcs-begin}
+use Rattle.plan.specs.CaseFacts.{counted, head-there}
+use Rattle.plan.proofs.accepted.arc_at.Statement.{statement}
+use Rattle.plan.proofs.accepted.arc_at.Tie as tie
+
+nodes-are : (c : tie.After-count) → c .count .result ≡ nodesOf (now (c .before .args .case))
+nodes-are c = c .count .ensures
+
+first-is : (c : tie.After-node-at) → c .node-at .result ≡ nodeAt (now (c .before .before .args .case)) (nodesOf (now (c .before .before .args .case)))
+first-is c = c .node-at .ensures ∙ ap (nodeAt (now (c .before .before .args .case))) (nodes-are (c .before))
+
+count-requires : tie.Need-count-requires
+count-requires c κs = omega (arith, head-there (c .pre .0))
+
+node-at-requires : tie.Need-node-at-requires
+node-at-requires c κs = (c .before .pre .0, omega (arith, nodes-are c))
+
+mul-result : tie.Need-mul-result
+mul-result c = let s = c .before .before in omega (arith, s .pre .1, counted (s .pre .0) .arcs)
+
+add-result : tie.Need-add-result
+unfolding arcAt
+add-result c =
+    let s = c .before .before in
+    let n = counted (s .pre .0) in
+    omega (arith, s .pre .1, n .arcs, first-is c, arcs-begin (now (s .args .case)) n)
+
+returns : tie.Need-returns
+unfolding arcAt
+returns c = rw (first-is c)
+
+pub arc-at-spec : {M : Type 1} → statement M
+arc-at-spec =
+    tie.close
+    (tie.spec
+    count-requires
+    node-at-requires
+    mul-result
+    add-result
+    returns)

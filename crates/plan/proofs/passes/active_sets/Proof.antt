@@ -1,0 +1,122 @@
+use mathlib.Core.Path.{_≡_, refl, ap, _∙_}
+use mathlib.Core.Logic.{⊎-elim}
+use Prim.Native.Nat.{ℕ, _≤_, _<_, _-_}
+use native.Mathlib.Omega.{arith}
+use denote.Ref.{now}
+use Rattle.case.specs.Layout.{arcsOf}
+use Rattle.case.specs.StationArcs.{arcSet}
+use Rattle.plan.specs.PlanRecords.{activeIn}
+use Rattle.plan.specs.StationPass.{activeBits}
+use Rattle.plan.specs.CaseFacts.{counted}
+use Rattle.plan.proofs.StationPasses.{ActivePass, active-none, active-same, active-more, active-few, active-small}
+use Rattle.plan.proofs.passes.active_sets.Statement.{statement}
+use Rattle.plan.proofs.passes.active_sets.Tie as tie
+
+abbrev Inv-loop : tie.InvT-loop
+Inv-loop case row arcs sets₀ counts₀ e₀ sets counts e = (e ≤ arcs) × ActivePass case row sets counts e
+
+abbrev μ-loop : tie.MeasureT-loop
+μ-loop case row arcs sets₀ counts₀ e₀ sets counts e = arcs - e
+
+-- an arc of the case
+arc-in : (c : tie.In-loop Inv-loop μ-loop) → c .before .loop .e < arcsOf (now (c .before .before .args .case))
+arc-in c = rw (← (c .before .before .pre .1)) (c .loop-test .taken)
+
+loop-holds : tie.Need-loop-holds Inv-loop μ-loop
+loop-holds c = (omega arith, active-none (now (c .args .case)) (now (c .args .row)))
+
+own-station-requires : tie.Need-own-station-requires Inv-loop μ-loop
+own-station-requires c κs = (c .before .before .pre .0, arc-in c)
+
+mul-n : tie.Need-mul-n Inv-loop μ-loop
+mul-n c = omega arith
+
+array-read-n : tie.Need-array-read-n Inv-loop μ-loop
+array-read-n c = omega arith
+
+mul-with-active : tie.Need-mul-with-active Inv-loop μ-loop
+mul-with-active c = omega arith
+
+array-read-with-active : tie.Need-array-read-with-active Inv-loop μ-loop
+array-read-with-active c = omega arith
+
+with-active-requires : tie.Need-with-active-requires Inv-loop μ-loop
+with-active-requires c κs =
+    let o = c .before in
+    let t = o .before in
+    let s = t .before .before in
+    let g = t .before .loop .inv .1 in
+    let p = arc-in t in
+    let l = c .if1 .taken in
+    (counted (s .pre .0), p, omega (arith, active-few g (o .own-station .ensures) (s .pre .0) p l), active-small g (o .own-station .ensures) l)
+
+mul-sets : tie.Need-mul-sets Inv-loop μ-loop
+mul-sets c = omega arith
+
+array-write-sets : tie.Need-array-write-sets Inv-loop μ-loop
+array-write-sets c = omega arith
+
+add-counts : tie.Need-add-counts Inv-loop μ-loop
+add-counts c =
+    let b = c .before in
+    let o = b .before in
+    let t = o .before in
+    omega (arith, active-few (t .before .loop .inv .1) (o .own-station .ensures) (t .before .before .pre .0) (arc-in t) (b .if1 .taken))
+
+mul-counts : tie.Need-mul-counts Inv-loop μ-loop
+mul-counts c = omega arith
+
+array-write-counts : tie.Need-array-write-counts Inv-loop μ-loop
+array-write-counts c = omega arith
+
+add-e : tie.Need-add-e Inv-loop μ-loop
+add-e c = omega arith
+
+loop-less : tie.Need-loop-less Inv-loop μ-loop
+loop-less c = omega arith
+
+loop-again : tie.Need-loop-again Inv-loop μ-loop
+loop-again c =
+    let o = c .before in
+    let h = o .before .before in
+    let g = h .loop .inv .1 in
+    let q = o .own-station .ensures in (
+      omega arith,
+      ⊎-elim
+          (λ x. rw (x .2, x .3) (active-more g q (x .0 .taken) refl (x .1 .ensures)))
+          (λ x. rw (x .1, x .2) (active-same g q (x .0 .left)))
+          (c .if1 .came),
+    )
+
+returns : tie.Need-returns Inv-loop μ-loop
+unfolding activeBits
+returns c =
+    let h = c .before in
+    let s = h .before in
+    let l = now (s .args .case) in
+    let r = now (s .args .row) in
+    let e : h .loop .e ≡ arcsOf l = omega (arith, s .pre .1, h .loop .inv .0, c .loop-test .left) in
+    record { each = λ i p. h .loop .inv .1 .sets-hold .each i (omega (arith, p, counted (s .pre .0) .stations)) ∙ ap (λ (n : ℕ). arcSet l i (activeIn l r) n) e }
+
+pub active-sets-spec : {M : Type 1} → statement M
+active-sets-spec =
+    tie.close
+    (tie.spec
+    Inv-loop
+    μ-loop
+    loop-holds
+    own-station-requires
+    mul-n
+    array-read-n
+    mul-with-active
+    array-read-with-active
+    with-active-requires
+    mul-sets
+    array-write-sets
+    add-counts
+    mul-counts
+    array-write-counts
+    add-e
+    loop-less
+    loop-again
+    returns)

@@ -1,0 +1,110 @@
+use mathlib.Core.Path.{_≡_, ap, _∙_}
+use mathlib.Core.Logic.{⊎-elim}
+use Prim.Native.Nat.{_≤_, _<_, _-_, _^_}
+use native.Mathlib.Omega.{arith}
+use borrow.Author.Needs.{needs}
+use denote.Ref.{now}
+use Rattle.numbers.specs.SignedParts.{posPart}
+use Rattle.case.specs.Layout.{arcsOf}
+use Rattle.case.proofs.Reading.{kept}
+use Rattle.plan.specs.declared.rows.ArcRow.{ArcRow}
+use Rattle.plan.specs.PlanRecords.{arcRow}
+use Rattle.plan.specs.CaseFacts.{counted}
+use Rattle.plan.proofs.StationPasses.{OncePass, once-none, once-same, once-more, once-twice, once-last}
+use Rattle.plan.proofs.passes.machines_once.Statement.{statement}
+use Rattle.plan.proofs.passes.machines_once.Tie as tie
+
+abbrev Inv-loop : tie.InvT-loop
+Inv-loop case row arcs once₀ taken₀ e₀ once taken e = (e ≤ arcs) × OncePass case row once taken e
+
+abbrev μ-loop : tie.MeasureT-loop
+μ-loop case row arcs once₀ taken₀ e₀ once taken e = arcs - e
+
+-- an arc of the case
+arc-in : (c : tie.In-loop Inv-loop μ-loop) → c .before .loop .e < arcsOf (now (c .before .before .args .case))
+arc-in c = rw (← (c .before .before .pre .1)) (c .loop-test .taken)
+
+-- the machines that were read
+machines-are : (c : tie.After-index Inv-loop μ-loop) → c .index .result ≡ posPart (arcRow (now (c .before .before .before .before .before .before .before .args .case)) (now (c .before .before .before .before .before .before .before .args .row)) (c .before .before .before .before .before .before .loop .e) .machines)
+machines-are c = c .index .ensures ∙ ap posPart (kept _ (c .before .struct-told .given .1 .1 .1 .0 .1) ∙ ap (λ (r : ArcRow). r .machines) (c .before .before .arc-row .ensures))
+
+loop-holds : tie.Need-loop-holds Inv-loop μ-loop
+loop-holds c = (omega arith, once-none (now (c .args .case)) (now (c .args .row)))
+
+own-station-requires : tie.Need-own-station-requires Inv-loop μ-loop
+own-station-requires c κs = (c .before .before .pre .0, arc-in c)
+
+arc-row-requires : tie.Need-arc-row-requires Inv-loop μ-loop
+arc-row-requires c κs = let t = c .before .before in (counted (t .before .before .pre .0), arc-in t)
+
+index-requires : tie.Need-index-requires Inv-loop μ-loop
+index-requires c κs = search needs
+
+mul-had : tie.Need-mul-had Inv-loop μ-loop
+mul-had c = omega arith
+
+array-read-had : tie.Need-array-read-had Inv-loop μ-loop
+array-read-had c = omega arith
+
+array-write-once : tie.Need-array-write-once Inv-loop μ-loop
+array-write-once c = omega arith
+
+mul-taken : tie.Need-mul-taken Inv-loop μ-loop
+mul-taken c = omega arith
+
+array-write-taken : tie.Need-array-write-taken Inv-loop μ-loop
+array-write-taken c = omega arith
+
+add-e : tie.Need-add-e Inv-loop μ-loop
+add-e c = omega arith
+
+loop-less : tie.Need-loop-less Inv-loop μ-loop
+loop-less c = omega arith
+
+loop-again : tie.Need-loop-again Inv-loop μ-loop
+loop-again c =
+    let o = c .before in
+    let t = o .before in
+    let h = t .before in
+    let s = h .before in
+    let g = h .loop .inv .1 in
+    let q = o .own-station .ensures in (
+      omega arith,
+      ⊎-elim
+          (λ x.
+          let m = machines-are (record { before = record { before = record { before = record { before = o; if1 = x .0 }; arc-row = x .1 }; struct-told = x .2 }; index = x .3 }) in
+          let small : x .3 .result < 2 ^ 64 = omega (arith, x .3 .ok) in
+          ⊎-elim
+          (λ y. rw (x .5, x .6, y .1) (once-twice g q (x .0 .taken) m (s .pre .0) (s .pre .2) (arc-in t) small (y .0 .taken)))
+          (λ y. rw (x .5, x .6, y .1) (once-more g q (x .0 .taken) m (y .0 .left)))
+          (x .4 .came))
+          (λ x. rw (x .1, x .2) (once-same g q (x .0 .left)))
+          (c .if1 .came),
+    )
+
+returns : tie.Need-returns Inv-loop μ-loop
+returns c =
+    let h = c .before in
+    let s = h .before in
+    let e : h .loop .e ≡ arcsOf (now (s .args .case)) = omega (arith, s .pre .1, h .loop .inv .0, c .loop-test .left) in
+    once-last (rw e at (h .loop .inv .1)) (counted (s .pre .0) .stations)
+
+pub machines-once-spec : {M : Type 1} → statement M
+machines-once-spec =
+    tie.close
+    (tie.spec
+    Inv-loop
+    μ-loop
+    loop-holds
+    own-station-requires
+    arc-row-requires
+    index-requires
+    mul-had
+    array-read-had
+    array-write-once
+    mul-taken
+    array-write-taken
+    add-e
+    loop-less
+    loop-again
+    returns)

@@ -1,0 +1,116 @@
+// Nodes and arcs of an accepted case, read where they stand: 10 to 12 have seen that they are there.
+ghost use mathlib.Core.Path.{_≡_};
+ghost use Prim.Native.Nat.{_+_, _<_, _≤_};
+ghost use lib.ListN.{length};
+ghost use Rattle.case.specs.Layout.{numberAt, countAt, nodesOf, arcsOf, stepsOf, nodeAt, arcAt};
+ghost use Rattle.case.specs.Records.{nodeOf, arcOf, pipeOf, artificialOf};
+ghost use Rattle.plan.specs.StationPass.{ownStation};
+ghost use Rattle.plan.specs.Handed.{AcceptedCase};
+use case::offsets::ARC;
+use case::offsets::HEAD;
+use case::offsets::NODE;
+use case::records::Arc;
+use case::records::Artificial;
+use case::records::Node;
+use case::records::Pipe;
+use numbers::compare::index;
+
+// The number `j` places into the row that begins at `row`.
+fn number(case: &[i64], row: usize, j: usize) -> i64
+    requires { ⌜ row + j < length (now case) ⌝ }
+    ensures { λ r. ⌜ r ≡ numberAt (now (case .entry)) (row + j) ⌝ }
+{
+    case[row + j]
+}
+
+fn count(case: &[i64], row: usize, j: usize) -> usize
+    requires { ⌜ row + j < length (now case) ⌝ }
+    ensures { λ r. ⌜ r ≡ countAt (now (case .entry)) (row + j) ⌝ }
+{
+    index(number(case, row, j))
+}
+
+fn node_at(case: &[i64], v: usize) -> usize
+    requires { ⌜ (AcceptedCase (now case)) × (v ≤ nodesOf (now case)) ⌝ }
+    ensures { λ r. ⌜ r ≡ nodeAt (now (case .entry)) v ⌝ }
+{
+    let steps = count(case, 0, 4);
+    HEAD + steps + v * (NODE + steps)
+}
+
+fn arc_at(case: &[i64], e: usize) -> usize
+    requires { ⌜ (AcceptedCase (now case)) × (e < arcsOf (now case)) ⌝ }
+    ensures { λ r. ⌜ r ≡ arcAt (now (case .entry)) e ⌝ }
+{
+    node_at(case, count(case, 0, 1)) + e * ARC
+}
+
+pub(crate) fn node(case: &[i64], v: usize, i: usize) -> Node
+    requires { ⌜ (AcceptedCase (now case)) × (v < nodesOf (now case)) × (i < stepsOf (now case)) ⌝ }
+    ensures { λ r. ⌜ r ≡ nodeOf (now (case .entry)) v i ⌝ }
+{
+    let row = node_at(case, v);
+    Node {
+        kind: count(case, row, 0),
+        p0: number(case, row, 1),
+        low: number(case, row, 2),
+        high: number(case, row, 3),
+        actlow: number(case, row, 4),
+        acthigh: number(case, row, 5),
+        demand: number(case, row, NODE + i),
+    }
+}
+
+pub(crate) fn arc(case: &[i64], e: usize) -> Arc
+    requires { ⌜ (AcceptedCase (now case)) × (e < arcsOf (now case)) ⌝ }
+    ensures { λ r. ⌜ r ≡ arcOf (now (case .entry)) e ⌝ }
+{
+    let row = arc_at(case, e);
+    Arc {
+        kind: count(case, row, 0),
+        from: count(case, row, 1),
+        to: count(case, row, 2),
+        qmax: number(case, row, 3),
+    }
+}
+
+pub(crate) fn pipe(case: &[i64], e: usize) -> Pipe
+    requires { ⌜ (AcceptedCase (now case)) × (e < arcsOf (now case)) ⌝ }
+    ensures { λ r. ⌜ r ≡ pipeOf (now (case .entry)) e ⌝ }
+{
+    let row = arc_at(case, e);
+    Pipe {
+        c: number(case, row, 4),
+        f: number(case, row, 5),
+        g: number(case, row, 6),
+        h: number(case, row, 7),
+    }
+}
+
+pub(crate) fn artificial(case: &[i64], e: usize) -> Artificial
+    requires { ⌜ (AcceptedCase (now case)) × (e < arcsOf (now case)) ⌝ }
+    ensures { λ r. ⌜ r ≡ artificialOf (now (case .entry)) e ⌝ }
+{
+    let row = arc_at(case, e);
+    Artificial {
+        station: count(case, row, 4),
+        bothways: count(case, row, 5),
+        weight: count(case, row, 6),
+        active: count(case, row, 7),
+        machines: number(case, row, 8),
+        most: count(case, row, 9),
+        outbound: number(case, row, 10),
+    }
+}
+
+// The station of an artificial arc, and 8 of any other arc.
+pub(crate) fn own_station(case: &[i64], e: usize) -> usize
+    requires { ⌜ (AcceptedCase (now case)) × (e < arcsOf (now case)) ⌝ }
+    ensures { λ r. ⌜ r ≡ ownStation (now (case .entry)) e ⌝ }
+{
+    if 3 <= arc(case, e).kind {
+        artificial(case, e).station
+    } else {
+        8
+    }
+}

@@ -1,0 +1,94 @@
+// What 30 to 32 ask of a step's arcs: one pass over them for all stations.
+ghost use mathlib.Core.Path.{_≡_};
+ghost use mathlib.Core.Bool.{true};
+ghost use Prim.Native.Nat.{_+_, _<_, _^_};
+ghost use lib.IntN.{pos};
+ghost use Rattle.numbers.specs.Sum.{onlyN};
+ghost use Rattle.case.specs.Layout.{nodesOf, arcsOf, stationsOf};
+ghost use Rattle.case.specs.Bounds.{Counted};
+ghost use Rattle.case.specs.Laid.{Holds};
+ghost use Rattle.plan.specs.PlanRecords.{activeIn};
+ghost use Rattle.plan.specs.StationRules.{machinesOnce};
+ghost use Rattle.plan.specs.StationPass.{activeBits, artificialFlow};
+ghost use Rattle.plan.specs.Sizes.{FlowsSized};
+ghost use Rattle.plan.specs.Handed.{AcceptedCase, MachinesKept};
+use super::accepted::arc;
+use super::accepted::own_station;
+use super::balance::moved;
+use super::rows::arc_row;
+use numbers::compare::at_most;
+use numbers::compare::index;
+
+// The set with arc `e` in it, if that is active. It is the station's arc `n`, and the arcs before it make up `set`.
+fn with_active(case: &[i64], row: &[i64], set: usize, n: usize, e: usize) -> usize
+    requires { ⌜ (Counted (now case)) × (e < arcsOf (now case)) × (n < 62) × (set < 2 ^ n) ⌝ }
+    ensures { λ r. ⌜ r ≡ set + onlyN (activeIn (now (case .entry)) (now (row .entry)) e) (2 ^ n) ⌝ }
+{
+    if at_most(1, arc_row(case, row, e).setting) {
+        set + (1usize << n)
+    } else {
+        set
+    }
+}
+
+// Each station's active arcs, a set.
+pub(crate) fn active_sets(case: &[i64], row: &[i64], arcs: usize) -> [usize; 8]
+    requires { ⌜ (AcceptedCase (now case)) × (arcs ≡ arcsOf (now case)) ⌝ }
+    ensures { λ r. ⌜ Holds 0 r (activeBits (now (case .entry)) (now (row .entry))) (stationsOf (now (case .entry))) ⌝ }
+{
+    let mut sets = [0usize; 8];
+    let mut counts = [0usize; 8]; // how many of its arcs each station has had
+    let mut e: usize = 0;
+    while e < arcs {
+        let s = own_station(case, e);
+        if s < 8 {
+            let n = counts[s];
+            sets[s] = with_active(case, row, sets[s], n, e);
+            counts[s] = n + 1;
+        }
+        e += 1;
+    }
+    sets
+}
+
+// 31: a machine that an arc of its station has and an arc before it had is on two.
+pub(crate) fn machines_once(case: &[i64], row: &[i64], arcs: usize) -> [bool; 8]
+    requires { ⌜ (AcceptedCase (now case)) × (arcs ≡ arcsOf (now case)) × (MachinesKept (now case) (now row)) ⌝ }
+    ensures { λ r. ⌜ Holds true r (machinesOnce (now (case .entry)) (now (row .entry))) (stationsOf (now (case .entry))) ⌝ }
+{
+    let mut once = [true; 8];
+    let mut taken = [0usize; 8]; // the machines that each station's arcs have had
+    let mut e: usize = 0;
+    while e < arcs {
+        let s = own_station(case, e);
+        if s < 8 {
+            let machines = index(arc_row(case, row, e).machines);
+            let had = taken[s];
+            if machines & had != 0 {
+                once[s] = false;
+            }
+            taken[s] = had | machines;
+        }
+        e += 1;
+    }
+    once
+}
+
+// The net flow from each node into artificial arcs. By 14 these are one station's.
+pub(crate) fn artificial_flows(case: &[i64], row: &[i64], arcs: usize) -> [i64; 60]
+    requires { ⌜ (AcceptedCase (now case)) × (arcs ≡ arcsOf (now case)) × (FlowsSized (now case) (now row)) ⌝ }
+    ensures { λ r. ⌜ Holds (pos 0) r (artificialFlow (now (case .entry)) (now (row .entry))) (nodesOf (now (case .entry))) ⌝ }
+{
+    let mut net = [0i64; 60];
+    let mut e: usize = 0;
+    while e < arcs {
+        let c = arc(case, e);
+        if 3 <= c.kind {
+            let r = arc_row(case, row, e);
+            let flow = r.a - r.b;
+            moved(&mut net, c.from, c.to, flow, flow);
+        }
+        e += 1;
+    }
+    net
+}
