@@ -7,7 +7,7 @@ ghost use Rattle.numbers.specs.Told.{overlay};
 ghost use Rattle.case.specs.Judged.{judgedCase};
 ghost use Rattle.plan.specs.Judged.{judgeOf, verdictTold};
 ghost use Rattle.plan.specs.JudgedBytes.{bytesTold, planListOf};
-ghost use Rattle.plan.proofs.VerdictSizes.{Fit};
+ghost use Rattle.plan.specs.VerdictSizes.{Fit};
 ghost use Rattle.api.specs.Code.{codeOf, outOf, ifRoom};
 use numbers::answer::Answer;
 use plan::verdict::Verdict;

@@ -3,7 +3,7 @@ ghost use mathlib.Core.Path.{_≡_};
 ghost use Prim.Native.Nat.{_≤_, _^_};
 ghost use lib.ListN.{length};
 ghost use Rattle.plan.specs.Ledger.{ledgerOf, ledgerTold};
-ghost use Rattle.plan.proofs.VerdictSizes.{FitLedger};
+ghost use Rattle.plan.specs.VerdictSizes.{FitLedger};
 ghost use Rattle.api.specs.Code.{codeOf, outOf};
 use plan::figures::Ledger;
 

@@ -2,13 +2,11 @@
 -- Assumes nothing.
 use mathlib.Core.Path.{_≡_, ap, _∙_}
 use mathlib.Core.List.{List}
-use Prim.Native.Nat.{ℕ, _+_, _*_, _-_, _%_, _^_, _<_, _≤_}
+use Prim.Native.Nat.{ℕ, _+_, _*_, _-_, _<_, _≤_}
 use native.Mathlib.Nat.{add-zero, mul-le-mul}
 use native.Mathlib.Numerals.{add-one}
 use native.Mathlib.Omega.{arith}
 use lib.IntN.{ℤ, pos, _+ℤ_}
-use lib.Pow.{pow-lt}
-use native.Mathlib.Nat.{mod-eq-of-lt, one-mul}
 use Rattle.numbers.specs.SignedParts.{ints, added, size}
 use Rattle.numbers.specs.SignedBounds.{Bounded}
 use Rattle.numbers.specs.Question.{firstNo}
@@ -30,14 +28,6 @@ time-grows case i b e =
     let r = field-yes case (timeAt i) (timeBefore case i +ℤ pos 1) (timeBefore case i +ℤ pos 86400) e in
     let t = timeBefore case i in
     rw (add-one i) (record { bound = omega (ints, r .least, r .most, added t (pos 1), added t (pos 86400), size t, size (timeOf case i), b .bound) })
-
--- a shift that does not leave the word
-pub shifted : (n : ℕ) → n < 64 → 1 * 2 ^ n % 18446744073709551616 ≡ 2 ^ n
-shifted n h = let p : 2 ^ n < 2 ^ 64 = pow-lt h in rw (one-mul, mod-eq-of-lt p)
-
--- a set of the first n items fits
-pub items-fit : (n : ℕ) → n < 62 → 2 ^ n - 1 < 2 ^ 63
-items-fit n h = let p : 2 ^ n < 2 ^ 62 = pow-lt h in omega arith
 
 -- the row of node v begins within the first 10,000 numbers
 pub node-row : (v k : ℕ) → v < 60 → k ≤ 48 → 7 + k + v * (6 + k) < 4000

@@ -11,9 +11,6 @@ use borrow.Author.Tests.{leb-true, leb-false}
 use lib.IntN.{ℤ, pos, negsuc}
 use lib.Signed.{mag}
 use lib.ListN.{length, getD, List·getD-eq-default}
-use mir.Syntax.{w64}
-use mir.Val.{toZ, ofZ}
-use mir.Facts.{toZ-ofZ}
 use Rattle.numbers.specs.SignedParts.{posPart}
 
 -- a number past the end
@@ -43,10 +40,6 @@ rows-fit room count width h l = le-div-iff-mul-le h .0 l
 pub count-small : (z : ℤ) → mag z < 2 ^ 63 → posPart z < 2 ^ 63
 count-small (pos n) h = h
 count-small (negsuc n) h = omega arith
-
--- a signed number is what the machine reads back from its bits
-pub kept : (z : ℤ) → mag z < 2 ^ 63 → toZ w64 (ofZ w64 z) ≡ z
-kept z h = toZ-ofZ {w = w64} {z = z} (record { sfits = h })
 
 -- a number j places into a row, read from where `r` says that the row begins
 pub number-in : (case : List ℤ) (row j : ℕ) {r : ℕ} {z : ℤ} → r ≡ min row (length case) → z ≡ getD case (r + j) (pos 0) → z ≡ getD case (row + j) (pos 0)

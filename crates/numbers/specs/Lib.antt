@@ -4,6 +4,7 @@ pub mod Items
 pub mod Places
 pub mod Sum
 pub mod Sets
+pub mod ItemBits
 pub mod Mapping
 pub mod Groups
 pub mod Reading

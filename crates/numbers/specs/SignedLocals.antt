@@ -13,12 +13,16 @@ use lib.Signed.{mag, nonNeg, leZ, ltZ}
 use mir.Syntax.{w64}
 use mir.Val.{SFits, Fits, toZ, ofZ}
 use mir.Facts.{toZ-ofZ, fits-natAbs}
-use Rattle.numbers.specs.SignedParts.{posPart, negPart, taken, size, ints, ltZ-t, ltZ-f, f-leZ, t-leZ}
+use Rattle.numbers.specs.SignedParts.{posPart, negPart, size, ints, ltZ-t, ltZ-f, f-leZ, t-leZ}
 use Rattle.numbers.specs.SignedBounds.{Bounded, abs-add, abs-neg, abs-mul, mag≤, abs-below, abs-above}
 
 -- `fit BOUND tt`: the bound is a numeral once computed
 pub fit : {z : ℤ} {n : ℕ} → Bounded z n → T (ltb n (2 ^ 63)) → SFits w64 z
 fit {z} {n} h t = record { sfits = omega (arith, mag≤ z, ltb→lt n (2 ^ 63) t) }
+
+-- a value that fits is read back as it is
+pub kept : (z : ℤ) → mag z < 2 ^ 63 → toZ w64 (ofZ w64 z) ≡ z
+kept z h = toZ-ofZ {w = w64} {z = z} (record { sfits = h })
 
 -- ---- what a signed local holds. The machine reads a local back from its bits, `toZ w64 (ofZ w64 z)`. `Held r z n`: what is read, r, is z, and |z| ≤ n.
 -- One term of these follows the code's expression, and answers both that it fits (`held-fits`) and what it is (`val`).

@@ -1,8 +1,6 @@
-pub mod Values
 pub mod Sums
 pub mod Filled
 pub mod Adding
-pub mod StepSizes
 pub mod ArcLaws
 pub mod NetFlows
 pub mod NodeParts
@@ -13,7 +11,5 @@ pub mod StationPasses
 pub mod Alike
 pub mod Going
 pub mod Stepped
-pub mod Verdicts
 pub mod RegionSums
 pub mod RegionTests
-pub mod VerdictSizes

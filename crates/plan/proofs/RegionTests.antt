@@ -4,10 +4,8 @@ use mathlib.Core.Path.{_≡_, refl, ap₂}
 use mathlib.Core.Bool.{Bool, true, false, cond, _&&_}
 use mathlib.Core.List.{List}
 use lib.IntN.{ℤ, pos}
-use Prim.Native.Nat.{ℕ, suc, _+_, _*_, _-_, _%_, _^_, _<_, _≤_}
-use native.Mathlib.Nat.{one-mul, mod-eq-of-lt}
+use Prim.Native.Nat.{ℕ, suc, _+_, _-_, _<_, _≤_}
 use native.Mathlib.Numerals.{add-one}
-use lib.Pow.{pow-lt}
 use Rattle.numbers.specs.Sets.{memberOf}
 use Rattle.numbers.specs.SignedParts.{posPart}
 use Rattle.numbers.specs.Question.{firstNo}
@@ -57,12 +55,6 @@ pub cond-no : {b : Bool} (m n : ℕ) → b ≡ false → n ≡ cond b m n
 cond-no m n e = rw e
 
 -- ---- the sets of the first n nodes
-
-pub shifted : (n : ℕ) → n ≤ 60 → 1 * 2 ^ n % 18446744073709551616 ≡ 2 ^ n
-shifted n h = let k : n < 64 = omega arith in let p : 2 ^ n < 2 ^ 64 = pow-lt k in rw (one-mul, mod-eq-of-lt p)
-
-pub items-fit : (n : ℕ) → n ≤ 60 → 2 ^ n - 1 < 2 ^ 63
-items-fit n h = let k : n < 62 = omega arith in let p : 2 ^ n < 2 ^ 62 = pow-lt k in omega arith
 
 -- ---- a search for the lowest item of a set
 

@@ -1,18 +1,17 @@
 -- What an accepted case gives the judge of a plan: counts and sizes.
 -- Assumes nothing.
-use mathlib.Core.Path.{_≡_, refl, sym, ap, _∙_, subst}
-use mathlib.Core.Bool.{Bool, true, false, cond, not, _&&_, _||_}
+use mathlib.Core.Path.{_≡_, subst}
+use mathlib.Core.Bool.{Bool, true, false, cond}
 use mathlib.Core.List.{List, _++_}
 use Prim.Native.Nat.{ℕ, _+_, _-_, _<_, _≤_}
 use native.Mathlib.Omega.{arith}
-use borrow.Author.Tests.{leb-true, eq-eqb, le-leb, lt-leb, ne-eqb}
+use borrow.Author.Tests.{leb-true, eq-eqb, lt-leb, ne-eqb}
 use lib.Dec.{eqb, leb}
 use lib.IntN.{ℤ, pos, negsuc, natAbs, _+ℤ_, _-ℤ_}
 use lib.ListN.{length}
-use lib.Signed.{leZ}
-use Rattle.numbers.specs.SignedParts.{posPart, ints, size, added, taken}
+use Rattle.numbers.specs.SignedParts.{ints, size, added, taken}
 use Rattle.numbers.specs.SignedBounds.{Bounded}
-use Rattle.numbers.specs.Question.{Question, firstNo, all-yes}
+use Rattle.numbers.specs.Question.{firstNo, all-yes}
 use Rattle.numbers.specs.Items.{over}
 use Rattle.numbers.specs.Sets.{subsetOf}
 use Rattle.numbers.specs.declared.answer.Answer.the-variants.{Yes}

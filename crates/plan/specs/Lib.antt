@@ -45,3 +45,6 @@ pub mod RegionSizes
 pub mod RegionSame
 pub mod RegionGathering
 pub mod PlanPlaces
+pub mod StepSizes
+pub mod VerdictSizes
+pub mod Verdicts

@@ -2,10 +2,9 @@
 -- Assumes nothing.
 use mathlib.Core.Path.{_≡_, refl}
 use mathlib.Core.List.{List, [], _∷_, _++_}
-use Prim.Native.Nat.{ℕ}
 use lib.Count.{ones}
 use lib.IntN.{ℤ, pos, negsuc}
-use Rattle.numbers.specs.Told.{Told, gives, refuses}
+use Rattle.numbers.specs.Told.{gives, refuses}
 use Rattle.numbers.specs.Sum.{sum, sumN, count}
 use Rattle.case.specs.Layout.{nodeAt, arcAt, stationAt, directionAt, stateAt, machineAt}
 use Rattle.case.specs.Field.{field, fields}

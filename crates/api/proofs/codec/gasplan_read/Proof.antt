@@ -1,4 +1,4 @@
-use mathlib.Core.Path.{_≡_, refl, ap, sym, _∙_}
+use mathlib.Core.Path.{refl, ap, sym, _∙_}
 use borrow.Author.Tests.{le-leb, lt-leb}
 use native.Mathlib.Omega.{arith}
 use borrow.Author.Needs.{needs}
@@ -9,11 +9,6 @@ use Rattle.numbers.specs.ReadingBounds.{count-within, refusal-within}
 use Rattle.api.proofs.Coded.{coded}
 use Rattle.api.proofs.codec.gasplan_read.Statement.{statement}
 use Rattle.api.proofs.codec.gasplan_read.Tie as tie
-use Rattle.api.proofs.codec.gasplan_read.Reads as reads
-use Rattle.api.proofs.codec.gasplan_read.Lts as lts
-use Rattle.api.proofs.tell.count.Reads as count-reads
-use Rattle.api.proofs.tell.refusal.Reads as refusal-reads
-use Rattle.numbers.proofs.reader.read.Reads as read-reads
 
 returns : tie.Need-returns
 returns c = rw (lt-leb _ _ (c .if1 .taken)) (refl, (refl, refl))

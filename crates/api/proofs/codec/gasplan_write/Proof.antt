@@ -1,4 +1,4 @@
-use mathlib.Core.Path.{_≡_, refl, ap, sym, _∙_}
+use mathlib.Core.Path.{refl, ap, sym, _∙_}
 use borrow.Author.Tests.{le-leb, lt-leb}
 use native.Mathlib.Omega.{arith}
 use borrow.Author.Needs.{needs}
@@ -9,11 +9,6 @@ use Rattle.numbers.specs.Groups.{write-within, write-refusal}
 use Rattle.api.proofs.Coded.{coded}
 use Rattle.api.proofs.codec.gasplan_write.Statement.{statement}
 use Rattle.api.proofs.codec.gasplan_write.Tie as tie
-use Rattle.api.proofs.codec.gasplan_write.Reads as reads
-use Rattle.api.proofs.codec.gasplan_write.Lts as lts
-use Rattle.api.proofs.tell.count.Reads as count-reads
-use Rattle.api.proofs.tell.refusal.Reads as refusal-reads
-use Rattle.numbers.proofs.writer.write.Reads as write-reads
 
 returns : tie.Need-returns
 returns c = rw (lt-leb _ _ (c .if1 .taken)) (refl, (refl, refl))

@@ -1,8 +1,8 @@
-use Rattle.plan.proofs.Values.{kept}
+use Rattle.numbers.specs.SignedLocals.{kept}
 use mathlib.Core.Path.{refl, ap, _∙_}
 use borrow.Author.Tests.{lt-leb}
 use denote.Ref.{now}
-use Rattle.plan.proofs.VerdictSizes.{judge-fits}
+use Rattle.plan.specs.VerdictSizes.{judge-fits}
 use Rattle.api.specs.Code.{codeOf, outOf}
 use borrow.Author.Needs.{needs}
 use Rattle.api.proofs.judge.gasplan_judge.Statement.{statement}

@@ -1,10 +1,10 @@
-use Rattle.plan.proofs.Values.{kept}
+use Rattle.numbers.specs.SignedLocals.{kept}
 use mathlib.Core.Path.{refl, ap, _∙_}
 use borrow.Author.Tests.{le-leb, lt-leb}
 use native.Mathlib.Omega.{arith}
 use denote.Ref.{now}
 use lib.ListN.{length}
-use Rattle.plan.proofs.VerdictSizes.{bytes-fit}
+use Rattle.plan.specs.VerdictSizes.{bytes-fit}
 use Rattle.api.specs.Code.{codeOf, outOf}
 use borrow.Author.Needs.{needs}
 use Rattle.api.proofs.judge.gasplan_judge_bytes.Statement.{statement}

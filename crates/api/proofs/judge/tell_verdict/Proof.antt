@@ -1,5 +1,5 @@
 use native.Mathlib.Omega.{arith}
-use Rattle.plan.proofs.Values.{kept}
+use Rattle.numbers.specs.SignedLocals.{kept}
 use mathlib.Core.Path.{ap, sym, subst}
 use Prim.Native.Nat.{_^_}
 use mir.Facts.{toZ-pos}
@@ -7,7 +7,7 @@ use mir.Syntax.{w64}
 use borrow.Author.Tests.{le-leb}
 use denote.Ref.{now}
 use Rattle.plan.specs.Judged.{verdictTold}
-use Rattle.plan.proofs.VerdictSizes.{Fit}
+use Rattle.plan.specs.VerdictSizes.{Fit}
 use Rattle.api.proofs.Coded.{coded}
 use borrow.Author.Needs.{needs}
 use Rattle.api.proofs.judge.tell_verdict.Statement.{statement}

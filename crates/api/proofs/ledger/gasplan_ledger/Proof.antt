@@ -1,9 +1,9 @@
-use Rattle.plan.proofs.Values.{kept}
+use Rattle.numbers.specs.SignedLocals.{kept}
 use mathlib.Core.Path.{refl, ap, _∙_}
 use mir.Facts.{toZ-ofZ}
 use borrow.Author.Tests.{lt-leb}
 use denote.Ref.{now}
-use Rattle.plan.proofs.VerdictSizes.{ledger-fits}
+use Rattle.plan.specs.VerdictSizes.{ledger-fits}
 use Rattle.api.specs.Code.{codeOf, outOf}
 use borrow.Author.Needs.{needs}
 use Rattle.api.proofs.ledger.gasplan_ledger.Statement.{statement}

@@ -6,8 +6,8 @@ use mir.Syntax.{w64}
 use borrow.Author.Tests.{le-leb}
 use denote.Ref.{now}
 use Rattle.plan.specs.Ledger.{ledgerTold}
-use Rattle.plan.proofs.Values.{kept}
-use Rattle.plan.proofs.VerdictSizes.{FitLedger}
+use Rattle.numbers.specs.SignedLocals.{kept}
+use Rattle.plan.specs.VerdictSizes.{FitLedger}
 use Rattle.api.proofs.Coded.{coded}
 use borrow.Author.Needs.{needs}
 use Rattle.api.proofs.ledger.tell_ledger.Statement.{statement}

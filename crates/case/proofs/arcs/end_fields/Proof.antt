@@ -8,7 +8,7 @@ use Rattle.case.specs.ArcFields.{endFields}
 use Rattle.case.specs.Field.{lastOf}
 use Rattle.case.specs.Layout.{nodesOf}
 use Rattle.case.proofs.Asked.{chain}
-use Rattle.case.proofs.Reading.{kept}
+use Rattle.numbers.specs.SignedLocals.{kept}
 use Rattle.case.proofs.arcs.end_fields.Statement.{statement}
 use Rattle.case.proofs.arcs.end_fields.Tie as tie
 

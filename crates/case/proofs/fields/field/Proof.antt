@@ -8,7 +8,7 @@ use mir.Facts.{toZ-ofZ}
 use Rattle.numbers.specs.Question.{orElse-yes}
 use Rattle.case.specs.Field.{field}
 use Rattle.case.specs.Layout.{numberAt}
-use Rattle.case.proofs.Reading.{kept}
+use Rattle.numbers.specs.SignedLocals.{kept}
 use Rattle.case.proofs.fields.field.Statement.{statement}
 use Rattle.case.proofs.fields.field.Tie as tie
 

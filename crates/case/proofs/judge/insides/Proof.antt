@@ -11,7 +11,7 @@ use Rattle.case.specs.Laid.{Holds}
 use Rattle.case.specs.LaidLaws.{holds-none, holds-more, holds-to}
 use Rattle.case.specs.StationArcs.{belongs}
 use Rattle.case.specs.StationNodes.{endsOf, stationNodes}
-use Rattle.case.proofs.Reading.{kept}
+use Rattle.numbers.specs.SignedLocals.{kept}
 use Rattle.case.proofs.judge.insides.Statement.{statement}
 use Rattle.case.proofs.judge.insides.Tie as tie
 

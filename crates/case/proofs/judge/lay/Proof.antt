@@ -7,7 +7,7 @@ use lib.IntN.{pos}
 use Rattle.case.specs.Layout.{nodesOf, arcsOf, stationsOf, stepsOf}
 use Rattle.case.specs.Passed.{arcs-begin, stations-begin}
 use Rattle.case.specs.StationNodes.{endsOf, plain, plainNodes}
-use Rattle.case.proofs.Reading.{kept}
+use Rattle.numbers.specs.SignedLocals.{kept}
 use Rattle.case.proofs.Rows.{first-arc, first-station}
 use Rattle.case.proofs.judge.lay.Statement.{statement}
 use Rattle.case.proofs.judge.lay.Tie as tie

@@ -8,7 +8,7 @@ use Rattle.numbers.specs.Question.{firstNo-append}
 use Rattle.case.specs.Layout.{numberAt}
 use Rattle.case.specs.NodeFields.{boundFields}
 use Rattle.case.proofs.Asked.{chain}
-use Rattle.case.proofs.Reading.{kept}
+use Rattle.numbers.specs.SignedLocals.{kept}
 use Rattle.case.proofs.nodes.bound_fields.Statement.{statement}
 use Rattle.case.proofs.nodes.bound_fields.Tie as tie
 

@@ -3,7 +3,8 @@ use borrow.Author.Needs.{needs}
 use mir.Syntax.{w64}
 use mir.Val.{toZ, ofZ}
 use Rattle.numbers.specs.SignedParts.{posPart}
-use Rattle.case.proofs.Reading.{kept, count-small}
+use Rattle.numbers.specs.SignedLocals.{kept}
+use Rattle.case.proofs.Reading.{count-small}
 use Rattle.case.proofs.offsets.count.Statement.{statement}
 use Rattle.case.proofs.offsets.count.Tie as tie
 

@@ -3,7 +3,8 @@ use Prim.Native.Nat.{_+_}
 use borrow.Author.Needs.{needs}
 use denote.Ref.{now}
 use Rattle.case.specs.Layout.{nodeAt}
-use Rattle.case.proofs.Reading.{number-in, first-count, kept}
+use Rattle.numbers.specs.SignedLocals.{kept}
+use Rattle.case.proofs.Reading.{number-in, first-count}
 use Rattle.case.proofs.read.node.Statement.{statement}
 use Rattle.case.proofs.read.node.Tie as tie
 

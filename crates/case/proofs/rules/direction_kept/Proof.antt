@@ -10,7 +10,7 @@ use Rattle.case.specs.Directions.{directionKept}
 use Rattle.case.specs.Records.{directionRow}
 use Rattle.case.specs.StationNodes.{onlyFence}
 use Rattle.case.specs.declared.records.Direction.{Direction}
-use Rattle.case.proofs.Reading.{kept}
+use Rattle.numbers.specs.SignedLocals.{kept}
 use Rattle.case.proofs.rules.direction_kept.Statement.{statement}
 use Rattle.case.proofs.rules.direction_kept.Tie as tie
 

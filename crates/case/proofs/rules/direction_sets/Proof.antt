@@ -12,7 +12,7 @@ use Rattle.numbers.specs.Items.{rest, rest-on, rest-no, rest-end}
 use Rattle.numbers.specs.Question.{firstNo}
 use Rattle.case.specs.Directions.{directionSets, allDirectionSets}
 use Rattle.case.specs.Layout.{stationsOf}
-use Rattle.case.proofs.Reading.{kept}
+use Rattle.numbers.specs.SignedLocals.{kept}
 use Rattle.case.proofs.Ruled.{directions-asked}
 use Rattle.case.proofs.rules.direction_sets.Statement.{statement}
 use Rattle.case.proofs.rules.direction_sets.Tie as tie

@@ -15,7 +15,7 @@ use Rattle.case.specs.Records.{artificialOf}
 use Rattle.case.specs.States.{machinesKept}
 use Rattle.case.specs.StationArcs.{belongs, every}
 use Rattle.case.specs.declared.records.Artificial.{Artificial}
-use Rattle.case.proofs.Reading.{kept}
+use Rattle.numbers.specs.SignedLocals.{kept}
 use Rattle.case.proofs.rules.machines_kept.Statement.{statement}
 use Rattle.case.proofs.rules.machines_kept.Tie as tie
 

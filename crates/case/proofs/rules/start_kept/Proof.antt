@@ -10,7 +10,7 @@ use Rattle.case.specs.Records.{stateRow, stationRow}
 use Rattle.case.specs.States.{startKept}
 use Rattle.case.specs.declared.records.State.{State}
 use Rattle.case.specs.declared.records.Station.{Station}
-use Rattle.case.proofs.Reading.{kept}
+use Rattle.numbers.specs.SignedLocals.{kept}
 use Rattle.case.proofs.rules.start_kept.Statement.{statement}
 use Rattle.case.proofs.rules.start_kept.Tie as tie
 

@@ -9,7 +9,7 @@ use Rattle.numbers.specs.Sets.{disjointOf, subsetOf}
 use Rattle.case.specs.Records.{stateRow}
 use Rattle.case.specs.States.{stateKept}
 use Rattle.case.specs.declared.records.State.{State}
-use Rattle.case.proofs.Reading.{kept}
+use Rattle.numbers.specs.SignedLocals.{kept}
 use Rattle.case.proofs.rules.state_kept.Statement.{statement}
 use Rattle.case.proofs.rules.state_kept.Tie as tie
 

@@ -13,7 +13,7 @@ use Rattle.case.specs.States.{stateKept, machinesKept, activeAtStart, st
 use Rattle.case.specs.StationArcs.{arcsBefore, stationArcs, arcSet, every}
 use Rattle.case.specs.StationFields.{firstItems}
 use Rattle.case.specs.declared.records.Station.{Station}
-use Rattle.case.proofs.Reading.{kept}
+use Rattle.numbers.specs.SignedLocals.{kept}
 use Rattle.case.proofs.rules.station_kept.Statement.{statement}
 use Rattle.case.proofs.rules.station_kept.Tie as tie
 

@@ -8,7 +8,7 @@ use lib.ListN.{getD}
 use Rattle.numbers.specs.Sum.{count}
 use Rattle.case.specs.CountLaws.{count-none, count-yes, count-no, count-le}
 use Rattle.case.specs.Laid.{inSet}
-use Rattle.case.proofs.Reading.{kept}
+use Rattle.numbers.specs.SignedLocals.{kept}
 use Rattle.case.proofs.rules.stations_with.Statement.{statement}
 use Rattle.case.proofs.rules.stations_with.Tie as tie
 

@@ -9,7 +9,7 @@ use Rattle.numbers.specs.Items.{over, rest, rest-on, rest-no, rest-end}
 use Rattle.numbers.specs.Question.{firstNo}
 use Rattle.case.specs.Layout.{directionsAt}
 use Rattle.case.specs.StationFields.{stateFields, firstItems}
-use Rattle.case.proofs.Reading.{kept}
+use Rattle.numbers.specs.SignedLocals.{kept}
 use Rattle.case.proofs.Rows.{state-row}
 use Rattle.case.proofs.stations.state_rows.Statement.{statement}
 use Rattle.case.proofs.stations.state_rows.Tie as tie

@@ -9,7 +9,7 @@ use Rattle.case.specs.Layout.{directionsAt, statesAt}
 use Rattle.case.specs.StationFields.{stationHead}
 use Rattle.case.proofs.Asked.{chain}
 use Rattle.case.proofs.Counting.{first-is}
-use Rattle.case.proofs.Reading.{kept}
+use Rattle.numbers.specs.SignedLocals.{kept}
 use Rattle.case.proofs.stations.station_head.Statement.{statement}
 use Rattle.case.proofs.stations.station_head.Tie as tie
 

@@ -1,20 +1,13 @@
 -- The bytes before `at` make up `value`; what the whole number is stays the same. The measure is how many bytes may come before the tenth.
-use mathlib.Core.Path.{_≡_, sym, ap, subst, _∙_}
+use mathlib.Core.Path.{subst, _∙_}
 use Prim.Native.Nat.{ℕ, _<_, _≤_, _-_, _*_, _^_}
 use native.Mathlib.Omega.{arith}
 use borrow.Author.Needs.{needs}
 use denote.Ref.{now}
 use lib.ListN.{getD}
-use Rattle.numbers.specs.Shifted.{shifted}
-use Rattle.numbers.specs.Reading.{lastByte}
 use Rattle.numbers.proofs.Gathered.{Gathering, gathering, gather-none, scale-most, gathered, gather-on, scale-last, gather-tenth, product-small}
 use Rattle.numbers.proofs.reader.later.Statement.{statement}
 use Rattle.numbers.proofs.reader.later.Tie as tie
-use Rattle.numbers.proofs.reader.later.Reads as reads
-use Rattle.numbers.proofs.reader.later.Lts as lts
-use Rattle.numbers.proofs.reader.last.Reads as last-reads
-use Rattle.numbers.proofs.reader.tenth.Reads as tenth-reads
-use Rattle.numbers.proofs.reader.wide.Reads as wide-reads
 
 abbrev Inv-loop : tie.InvT-loop
 Inv-loop bytes start group value₀ scale₀ at₀ more₀ value scale at more = Gathering bytes start group value scale at more

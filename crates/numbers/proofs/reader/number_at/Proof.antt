@@ -1,15 +1,10 @@
-use mathlib.Core.Path.{_≡_, sym, ap, subst, _∙_}
+use mathlib.Core.Path.{sym, subst, _∙_}
 use Prim.Native.Nat.{ℕ, _<_, _≤_, _-_}
 use native.Mathlib.Omega.{arith}
 use borrow.Author.Needs.{needs}
-use lib.ListN.{getD}
 use Rattle.numbers.proofs.Gathered.{number-one, number-more}
 use Rattle.numbers.proofs.reader.number_at.Statement.{statement}
 use Rattle.numbers.proofs.reader.number_at.Tie as tie
-use Rattle.numbers.proofs.reader.number_at.Reads as reads
-use Rattle.numbers.proofs.reader.number_at.Lts as lts
-use Rattle.numbers.proofs.reader.later.Reads as later-reads
-use Rattle.numbers.proofs.reader.wide.Reads as wide-reads
 
 shared-slice-read-wide : tie.Need-shared-slice-read-wide
 shared-slice-read-wide c = search needs

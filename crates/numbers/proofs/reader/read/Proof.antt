@@ -1,6 +1,6 @@
 -- What the list holds at the end stays the same: what is read from `at` on is still to be stored from `count` on.
-use mathlib.Core.Path.{_≡_, sym, ap, _∙_}
-use Prim.Native.Nat.{ℕ, _-_}
+use mathlib.Core.Path.{_≡_, sym, _∙_}
+use Prim.Native.Nat.{_-_}
 use native.Mathlib.Omega.{arith}
 use borrow.Author.Needs.{needs}
 use denote.Ref.{now}
@@ -15,10 +15,6 @@ use lib.ListN.{length, drop, length-drop}
 use Rattle.numbers.proofs.Stored.{Storing, storing, store-end, store-full, store-no, store-turn}
 use Rattle.numbers.proofs.reader.read.Statement.{statement}
 use Rattle.numbers.proofs.reader.read.Tie as tie
-use Rattle.numbers.proofs.reader.read.Reads as reads
-use Rattle.numbers.proofs.reader.read.Lts as lts
-use Rattle.numbers.proofs.mapping.signed.Reads as signed-reads
-use Rattle.numbers.proofs.reader.number_at.Reads as number-at-reads
 
 abbrev Inv-loop : tie.InvT-loop
 Inv-loop bytes list₀ at₀ count₀ list at count = Storing bytes list₀ list at count

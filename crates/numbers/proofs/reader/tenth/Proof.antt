@@ -1,15 +1,10 @@
-use mathlib.Core.Path.{_≡_, sym, ap, _∙_}
-use native.Mathlib.Omega.{arith}
+use mathlib.Core.Path.{sym, ap, _∙_}
 use borrow.Author.Needs.{needs}
-use denote.Ref.{now}
 use Prim.Native.Nat.{_^_}
 use Rattle.numbers.specs.Shifted.{shifted}
 use Rattle.numbers.proofs.Gathered.{later-none, tenth-one, tenth-other}
 use Rattle.numbers.proofs.reader.tenth.Statement.{statement}
 use Rattle.numbers.proofs.reader.tenth.Tie as tie
-use Rattle.numbers.proofs.reader.tenth.Reads as reads
-use Rattle.numbers.proofs.reader.tenth.Lts as lts
-use Rattle.numbers.proofs.reader.wide.Reads as wide-reads
 
 returns : tie.Need-returns
 returns c = sym (ap (shifted _ (2 ^ 63) 9) (later-none 0 _ _ (c .if1 .taken)))

@@ -1,14 +1,10 @@
 -- The count is known before the first byte is placed.
-use mathlib.Core.Path.{_≡_, sym, ap, _∙_}
+use mathlib.Core.Path.{sym, _∙_}
 use borrow.Author.Needs.{needs}
 use denote.Ref.{now}
-use Rattle.numbers.proofs.Listed.{Fitting, fitting, too-long, told-fits, written-fits, told-over, written-over}
+use Rattle.numbers.proofs.Listed.{fitting, too-long, told-fits, written-fits, told-over, written-over}
 use Rattle.numbers.proofs.writer.write.Statement.{statement}
 use Rattle.numbers.proofs.writer.write.Tie as tie
-use Rattle.numbers.proofs.writer.write.Reads as reads
-use Rattle.numbers.proofs.writer.write.Lts as lts
-use Rattle.numbers.proofs.writer.put_all.Reads as put-all-reads
-use Rattle.numbers.proofs.writer.size_of.Reads as size-of-reads
 
 size-of-requires : tie.Need-size-of-requires
 size-of-requires c κs = search needs

@@ -5,7 +5,7 @@ use borrow.Author.Needs.{needs}
 use denote.Ref.{now}
 use Rattle.case.specs.Layout.{countAt, arcAt}
 use Rattle.plan.specs.CaseFacts.{arc-there}
-use Rattle.plan.proofs.Values.{kept}
+use Rattle.numbers.specs.SignedLocals.{kept}
 use Rattle.plan.proofs.accepted.arc.Statement.{statement}
 use Rattle.plan.proofs.accepted.arc.Tie as tie
 

@@ -1,11 +1,10 @@
 use mathlib.Core.Path.{_≡_, ap, _∙_}
 use Prim.Native.Nat.{_+_}
 use native.Mathlib.Omega.{arith}
-use borrow.Author.Needs.{needs}
 use denote.Ref.{now}
 use Rattle.case.specs.Layout.{countAt, nodeAt}
 use Rattle.plan.specs.CaseFacts.{counted, node-there}
-use Rattle.plan.proofs.Values.{kept}
+use Rattle.numbers.specs.SignedLocals.{kept}
 use Rattle.plan.proofs.accepted.node.Statement.{statement}
 use Rattle.plan.proofs.accepted.node.Tie as tie
 

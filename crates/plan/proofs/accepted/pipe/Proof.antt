@@ -1,10 +1,8 @@
-use mathlib.Core.Path.{_≡_, _∙_}
+use mathlib.Core.Path.{_∙_}
 use native.Mathlib.Omega.{arith}
 use borrow.Author.Needs.{needs}
-use denote.Ref.{now}
-use Rattle.case.specs.Layout.{arcAt}
 use Rattle.plan.specs.CaseFacts.{arc-there}
-use Rattle.plan.proofs.Values.{kept}
+use Rattle.numbers.specs.SignedLocals.{kept}
 use Rattle.plan.proofs.accepted.pipe.Statement.{statement}
 use Rattle.plan.proofs.accepted.pipe.Tie as tie
 

@@ -8,7 +8,6 @@ use Rattle.case.specs.Layout.{numberAt, arcsOf}
 use Rattle.plan.specs.ArcRules.{arcQuestions, allArcQuestions}
 use Rattle.plan.specs.CaseFacts.{counted}
 use borrow.Author.Needs.{needs}
-use borrow.Author.Needs.{needs}
 use Rattle.plan.proofs.arcs.arc_answers.Statement.{statement}
 use Rattle.plan.proofs.arcs.arc_answers.Tie as tie
 

@@ -1,11 +1,11 @@
 use mathlib.Core.Path.{_≡_, refl, sym, ap, _∙_}
 use mathlib.Core.Bool.{Bool}
-use Prim.Native.Nat.{ℕ, _≤_, _<_, _-_, _+_}
+use Prim.Native.Nat.{_≤_, _<_, _-_, _+_}
 use native.Mathlib.Omega.{arith}
 use borrow.Author.Needs.{needs}
 use borrow.Author.Tests.{not-true, not-false}
 use denote.Ref.{now}
-use lib.IntN.{ℤ, pos}
+use lib.IntN.{pos}
 use lib.ListN.{getD}
 use mir.Facts.{toZ-pos}
 use mir.Syntax.{w64}
@@ -13,7 +13,7 @@ use mir.Val.{toZ, ofZ}
 use Rattle.numbers.specs.Items.{rest, rest-on, rest-no, rest-end}
 use Rattle.numbers.specs.Question.{firstNo, answer}
 use Rattle.case.specs.Layout.{nodesOf}
-use Rattle.plan.specs.Balance.{netFlow, nodeResidual, balanceQuestions, allBalanceQuestions}
+use Rattle.plan.specs.Balance.{balanceQuestions, allBalanceQuestions}
 use Rattle.plan.specs.Handed.{AtBalance}
 use Rattle.plan.specs.CaseFacts.{counted, mass-sized}
 use Rattle.plan.proofs.NetFlows.{read}

@@ -5,7 +5,7 @@ use native.Mathlib.Omega.{arith}
 use borrow.Author.Needs.{needs}
 use denote.Ref.{now}
 use lib.Dec.{eqb}
-use lib.IntN.{ℤ, pos, _+ℤ_, _-ℤ_}
+use lib.IntN.{ℤ, _+ℤ_, _-ℤ_}
 use lib.ListN.{length, set, length-set}
 use mir.Syntax.{w64}
 use mir.Val.{toZ, ofZ}

@@ -1,19 +1,16 @@
 use mathlib.Core.Path.{_≡_, refl, sym, ap, _∙_}
 use Prim.Native.Nat.{ℕ, _≤_, _<_, _-_}
 use native.Mathlib.Omega.{arith}
-use borrow.Author.Needs.{needs}
 use denote.Ref.{now}
-use lib.IntN.{ℤ}
 use lib.ListN.{length}
 use mir.Syntax.{w64}
 use mir.Val.{toZ, ofZ}
-use Rattle.numbers.specs.SignedBounds.{Bounded}
 use Rattle.numbers.specs.SignedLocals.{Held}
 use Rattle.numbers.specs.Sum.{sum}
 use Rattle.case.specs.Layout.{arcsOf}
 use Rattle.case.specs.Records.{arcOf}
 use Rattle.case.specs.declared.records.Arc.{Arc}
-use Rattle.plan.specs.Balance.{flowAtFrom, flowAtTo, netFlow}
+use Rattle.plan.specs.Balance.{flowAtFrom, flowAtTo}
 use Rattle.plan.specs.CaseFacts.{counted, from-node, to-node}
 use Rattle.plan.proofs.NetFlows.{Gathers, gathers-none, gathers-more, gathers-sized, read}
 use Rattle.plan.proofs.NodeParts.{nodePart, node-part, net-flow, from-sized, to-sized, part-sized}

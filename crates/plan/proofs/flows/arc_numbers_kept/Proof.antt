@@ -1,6 +1,6 @@
 use mathlib.Core.Path.{_≡_, ap, ap₂, _∙_}
 use mathlib.Core.Bool.{_&&_}
-use Rattle.plan.proofs.Values.{kept}
+use Rattle.numbers.specs.SignedLocals.{kept}
 use borrow.Author.Needs.{needs}
 use lib.Dec.{leb}
 use Rattle.plan.specs.ArcFlows.{machinesWithin, settingAllowed, arcNumbersKept}

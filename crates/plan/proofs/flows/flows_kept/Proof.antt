@@ -1,8 +1,7 @@
 use mathlib.Core.Path.{_≡_, _∙_}
 use mathlib.Core.Bool.{_&&_}
 use lib.IntN.{ℤ, pos}
-use Rattle.numbers.specs.SignedLocals.{held, param, literal, held-fits, _-ʳ_}
-use Rattle.plan.proofs.Values.{kept}
+use Rattle.numbers.specs.SignedLocals.{held, param, literal, held-fits, _-ʳ_, kept}
 use borrow.Author.Tests.{ne-eqb}
 use borrow.Author.Needs.{needs}
 use Rattle.plan.specs.ArcFlows.{flowsKept}

@@ -1,6 +1,6 @@
 use mathlib.Core.Path.{_≡_, refl, ap₂, _∙_}
 use mathlib.Core.Bool.{true, false, _&&_}
-use Rattle.plan.proofs.Values.{kept}
+use Rattle.numbers.specs.SignedLocals.{kept}
 use borrow.Author.Needs.{needs}
 use Rattle.plan.specs.Compared.{isZero}
 use Rattle.plan.specs.declared.rows.ArcRow.{ArcRow}

@@ -1,32 +1,26 @@
-use mathlib.Core.Path.{_≡_, ap, sym, _∙_}
+use mathlib.Core.Path.{_≡_, ap, _∙_}
 use mathlib.Core.List.{List}
-use Prim.Native.Nat.{ℕ, _≤_, _<_, _+_, _*_, _^_}
+use Prim.Native.Nat.{_≤_, _<_, _+_, _*_, _^_}
 use native.Mathlib.Nat.{mul-le-mul}
 use native.Mathlib.Omega.{arith}
 use denote.Ref.{now}
 use lib.IntN.{ℤ, pos}
 use mir.Syntax.{w64}
 use mir.Facts.{toZ-ofZ}
-use mir.Val.{Fits, SFits, toZ, ofZ}
+use mir.Val.{toZ, ofZ}
 use lib.Dec.{eqb}
 use lib.ListN.{length}
 use lib.Signed.{mag}
 use Rattle.case.specs.Layout.{numberAt, stepsOf}
 use Rattle.plan.specs.Compared.{same}
-use Rattle.plan.proofs.Verdicts.{head-length, head-yes, head-second, head-first}
+use Rattle.plan.specs.Verdicts.{head-length, head-yes, head-second, head-first}
 use Rattle.case.specs.declared.records.Layout.{Layout}
 use Rattle.case.specs.Laid.{Laid}
 use Rattle.plan.specs.Handed.{AcceptedCase}
 use Rattle.plan.specs.CaseFacts.{counted}
-use Rattle.plan.specs.PlanHead.{headKept}
-use Rattle.plan.specs.PlanLayout.{stepAt, stepWidth}
 use borrow.Author.Needs.{needs}
 use Rattle.plan.proofs.judge.head_kept.Statement.{statement}
 use Rattle.plan.proofs.judge.head_kept.Tie as tie
-use Rattle.plan.proofs.judge.head_kept.Reads as reads
-use Rattle.plan.proofs.judge.head_kept.Lts as lts
-use Rattle.numbers.proofs.compare.at.Reads as at-reads
-use Rattle.numbers.proofs.compare.same.Reads as same-reads
 
 -- the layout's counts are those of an accepted case, and the plan's length by them is small
 record Small (l : Layout) : Type 0 where

@@ -1,7 +1,7 @@
-use mathlib.Core.Path.{_≡_, ap, sym, _∙_}
+use mathlib.Core.Path.{_∙_}
 use denote.Ref.{now}
 use borrow.Author.Needs.{needs}
-use Rattle.plan.proofs.Verdicts.{case-answer, judge-yes, judge-no}
+use Rattle.plan.specs.Verdicts.{case-answer, judge-yes, judge-no}
 use Rattle.plan.proofs.judge.judge.Statement.{statement}
 use Rattle.plan.proofs.judge.judge.Tie as tie
 

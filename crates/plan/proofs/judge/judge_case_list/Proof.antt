@@ -1,7 +1,7 @@
-use mathlib.Core.Path.{_≡_, refl, ap, sym, _∙_}
+use mathlib.Core.Path.{_∙_}
 use borrow.Author.Needs.{needs}
 use denote.Ref.{now}
-use Rattle.plan.proofs.Verdicts.{case-answer, case-passed, list-reached, case-stopped}
+use Rattle.plan.specs.Verdicts.{case-answer, case-passed, list-reached, case-stopped}
 use Rattle.plan.proofs.judge.judge_case_list.Statement.{statement}
 use Rattle.plan.proofs.judge.judge_case_list.Tie as tie
 

@@ -1,8 +1,7 @@
-use mathlib.Core.Path.{_≡_, sym, _∙_}
-use denote.Ref.{now}
+use mathlib.Core.Path.{sym, _∙_}
 use borrow.Author.Needs.{needs}
 use Rattle.plan.specs.CaseFacts.{list-yes}
-use Rattle.plan.proofs.Verdicts.{plan-laid, head-refused, head-passed}
+use Rattle.plan.specs.Verdicts.{plan-laid, head-refused, head-passed}
 use Rattle.plan.proofs.judge.judge_plan.Statement.{statement}
 use Rattle.plan.proofs.judge.judge_plan.Tie as tie
 

@@ -1,13 +1,13 @@
-use mathlib.Core.Path.{_≡_, refl, ap, sym, _∙_}
-use Prim.Native.Nat.{ℕ, _≤_}
+use mathlib.Core.Path.{ap, sym, _∙_}
+use Prim.Native.Nat.{_≤_}
 use native.Mathlib.Omega.{arith}
 use borrow.Author.Needs.{needs}
 use denote.Ref.{now}
-use lib.ListN.{length, take}
+use lib.ListN.{length}
 use lib.Seq.{length-take-le}
 use Rattle.numbers.specs.Reported.{readingTold}
 use Rattle.numbers.specs.ReadingBounds.{count-within}
-use Rattle.plan.proofs.Verdicts.{ReadAll, read-all, read-no, read-front, plan-read, plan-unread}
+use Rattle.plan.specs.Verdicts.{ReadAll, read-all, read-no, read-front, plan-read, plan-unread}
 use Rattle.plan.proofs.judge.judge_plan_bytes.Statement.{statement}
 use Rattle.plan.proofs.judge.judge_plan_bytes.Tie as tie
 

@@ -2,8 +2,6 @@ use native.Mathlib.Omega.{arith}
 use borrow.Author.Tests.{eq-eqb, ne-eqb}
 use Rattle.plan.proofs.judge.plan_number.Statement.{statement}
 use Rattle.plan.proofs.judge.plan_number.Tie as tie
-use Rattle.plan.proofs.judge.plan_number.Reads as reads
-use Rattle.plan.proofs.judge.plan_number.Lts as lts
 
 returns : tie.Need-returns
 returns c = rw (eq-eqb _ _ (c .match .keys1))

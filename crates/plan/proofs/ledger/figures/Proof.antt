@@ -10,7 +10,7 @@ use Rattle.plan.specs.CaseFacts.{counted}
 use Rattle.plan.specs.Region.{innerPipes, regionGas}
 use Rattle.plan.specs.RegionGathering.{Gathering, pressures-held, gas-held}
 use Rattle.plan.specs.LedgerKept.{figures-are}
-use Rattle.plan.proofs.Values.{kept}
+use Rattle.numbers.specs.SignedLocals.{kept}
 use Rattle.plan.proofs.RegionSums.{read-back}
 use Rattle.plan.proofs.ledger.figures.Statement.{statement}
 use Rattle.plan.proofs.ledger.figures.Tie as tie

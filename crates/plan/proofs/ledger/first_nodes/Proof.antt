@@ -1,8 +1,9 @@
 use borrow.Author.Needs.{needs}
+use native.Mathlib.Omega.{arith}
 use mir.Syntax.{w64}
 use lib.Pow.{pow-pos}
 use mir.Facts.{toZ-pos}
-use Rattle.plan.proofs.RegionTests.{shifted, items-fit}
+use Rattle.numbers.specs.ItemBits.{shifted, items-fit}
 use Rattle.plan.proofs.ledger.first_nodes.Statement.{statement}
 use Rattle.plan.proofs.ledger.first_nodes.Tie as tie
 
@@ -10,13 +11,13 @@ shl-result : tie.Need-shl-result
 shl-result c = search needs
 
 sub-result : tie.Need-sub-result
-sub-result c = rw (shifted (c .args .n) (c .pre)) (pow-pos (c .args .n))
+sub-result c = rw (shifted (c .args .n) (omega (arith, c .pre))) (pow-pos (c .args .n))
 
 cast-result : tie.Need-cast-result
-cast-result c = rw (shifted (c .args .n) (c .pre)) (record { sfits = items-fit (c .args .n) (c .pre) })
+cast-result c = rw (shifted (c .args .n) (omega (arith, c .pre))) (record { sfits = items-fit (c .args .n) (omega (arith, c .pre)) })
 
 returns : tie.Need-returns
-returns c = rw (shifted (c .args .n) (c .pre)) (toZ-pos w64 (items-fit (c .args .n) (c .pre)))
+returns c = rw (shifted (c .args .n) (omega (arith, c .pre))) (toZ-pos w64 (items-fit (c .args .n) (omega (arith, c .pre))))
 
 pub first-nodes-spec : {M : Type 1} → statement M
 first-nodes-spec = tie.close (tie.spec shl-result sub-result cast-result returns)

@@ -9,7 +9,7 @@ use Rattle.case.specs.Layout.{nodesOf}
 use Rattle.numbers.specs.SignedParts.{posPart}
 use Rattle.plan.specs.Compared.{within}
 use Rattle.plan.specs.Ledger.{lowestOf, foreignNode}
-use Rattle.plan.proofs.Values.{kept}
+use Rattle.numbers.specs.SignedLocals.{kept}
 use Rattle.plan.proofs.RegionTests.{cond-yes, cond-no}
 use Rattle.plan.proofs.ledger.foreign_node.Statement.{statement}
 use Rattle.plan.proofs.ledger.foreign_node.Tie as tie

@@ -10,7 +10,7 @@ use Rattle.numbers.specs.Sets.{subsetOf}
 use Rattle.case.specs.StationFields.{firstItems}
 use Rattle.plan.specs.Compared.{within}
 use Rattle.plan.specs.Ledger.{namesNodes}
-use Rattle.plan.proofs.Values.{kept}
+use Rattle.numbers.specs.SignedLocals.{kept}
 use Rattle.plan.proofs.RegionTests.{and-yes, not-first}
 use Rattle.plan.proofs.ledger.names_nodes.Statement.{statement}
 use Rattle.plan.proofs.ledger.names_nodes.Tie as tie

@@ -15,7 +15,7 @@ use Rattle.plan.specs.RegionFigures.{figuresOf}
 use Rattle.plan.specs.Ledger.{regionQuestions, ledgerBy}
 use Rattle.plan.specs.LedgerJudged.{times-kept}
 use Rattle.plan.specs.LedgerKept.{in-order}
-use Rattle.plan.proofs.Values.{kept}
+use Rattle.numbers.specs.SignedLocals.{kept}
 use Rattle.plan.proofs.RegionTests.{same-questions, same-figures}
 use Rattle.plan.proofs.ledger.region_ledger.Statement.{statement}
 use Rattle.plan.proofs.ledger.region_ledger.Tie as tie

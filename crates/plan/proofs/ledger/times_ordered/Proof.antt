@@ -10,7 +10,7 @@ use mir.Facts.{toZ-pos}
 use Rattle.case.specs.Layout.{stepsOf}
 use Rattle.numbers.specs.SignedParts.{posPart}
 use Rattle.plan.specs.Ledger.{timesOrdered}
-use Rattle.plan.proofs.Values.{kept}
+use Rattle.numbers.specs.SignedLocals.{kept}
 use Rattle.plan.proofs.RegionTests.{all-three, not-first, not-second}
 use Rattle.plan.proofs.ledger.times_ordered.Statement.{statement}
 use Rattle.plan.proofs.ledger.times_ordered.Tie as tie

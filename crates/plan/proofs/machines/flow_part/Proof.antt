@@ -8,7 +8,7 @@ use mir.Facts.{toZ-ofZ}
 use Rattle.numbers.specs.Sets.{memberOf}
 use Rattle.case.specs.declared.records.Machine.{Machine}
 use Rattle.case.specs.Records.{machineRow}
-use Rattle.plan.proofs.Values.{kept}
+use Rattle.numbers.specs.SignedLocals.{kept}
 use Rattle.plan.proofs.Adding.{fits, taken-part, left-part}
 use Rattle.plan.specs.Machines.{flowPart}
 use Rattle.plan.proofs.machines.flow_part.Statement.{statement}

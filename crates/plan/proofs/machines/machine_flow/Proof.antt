@@ -12,7 +12,7 @@ use Rattle.numbers.specs.Sum.{sum, abs-only-le}
 use Rattle.numbers.specs.Sets.{memberOf}
 use Rattle.case.specs.declared.records.Station.{Station}
 use Rattle.case.specs.Layout.{machinesAt}
-use Rattle.plan.proofs.Values.{kept}
+use Rattle.numbers.specs.SignedLocals.{kept}
 use Rattle.plan.proofs.Adding.{Adding, start, fits, turn, end, got}
 use Rattle.plan.specs.Machines.{flowPart, machineFlow}
 use Rattle.plan.proofs.machines.machine_flow.Statement.{statement}

@@ -8,12 +8,11 @@ use lib.IntN.{ℤ, pos}
 use mir.Syntax.{w64}
 use mir.Val.{toZ, ofZ}
 use mir.Facts.{toZ-ofZ}
-use Rattle.numbers.specs.SignedLocals.{literal, _-ʳ_}
+use Rattle.numbers.specs.SignedLocals.{literal, _-ʳ_, kept}
 use Rattle.numbers.specs.Sum.{sum, abs-only-le}
 use Rattle.numbers.specs.Sets.{memberOf}
 use Rattle.case.specs.declared.records.Station.{Station}
 use Rattle.case.specs.Layout.{machinesAt}
-use Rattle.plan.proofs.Values.{kept}
 use Rattle.plan.proofs.Adding.{Adding, start, fits, turn, end, got}
 use Rattle.plan.specs.Machines.{gainPart, machineGain}
 use Rattle.plan.proofs.machines.machine_gain.Statement.{statement}

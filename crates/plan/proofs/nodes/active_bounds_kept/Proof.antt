@@ -1,8 +1,7 @@
 use mathlib.Core.Path.{_≡_, sym, ap₂, _∙_}
 use mathlib.Core.Bool.{true, false, _&&_}
 use lib.IntN.{_+ℤ_, _-ℤ_}
-use Rattle.numbers.specs.SignedLocals.{held, param, held-fits, _+ʳ_, _-ʳ_}
-use Rattle.plan.proofs.Values.{kept}
+use Rattle.numbers.specs.SignedLocals.{held, param, held-fits, _+ʳ_, _-ʳ_, kept}
 use borrow.Author.Needs.{needs}
 use lib.Signed.{leZ}
 use Rattle.plan.specs.NodeRules.{activeBoundsKept}

@@ -1,6 +1,5 @@
 -- `plan::nodes::demand_met` meets its contract. Assumes nothing.
-use Rattle.numbers.specs.SignedLocals.{held, param, held-fits, _+ʳ_, _-ʳ_}
-use Rattle.plan.proofs.Values.{kept}
+use Rattle.numbers.specs.SignedLocals.{held, param, held-fits, _+ʳ_, _-ʳ_, kept}
 use borrow.Author.Needs.{needs}
 use borrow.Author.Tests.{eq-eqb, ne-eqb}
 use Rattle.plan.specs.NodeRules.{demandMet}

@@ -1,8 +1,7 @@
 use mathlib.Core.Path.{_≡_, ap, ap₂, _∙_}
 use mathlib.Core.Bool.{_&&_}
 use lib.IntN.{pos, _-ℤ_}
-use Rattle.numbers.specs.SignedLocals.{held, param, held-fits, _-ʳ_}
-use Rattle.plan.proofs.Values.{kept}
+use Rattle.numbers.specs.SignedLocals.{held, param, held-fits, _-ʳ_, kept}
 use borrow.Author.Needs.{needs}
 use Rattle.plan.specs.NodeRules.{slackLimit, slacksKept}
 use Rattle.plan.specs.Compared.{within}

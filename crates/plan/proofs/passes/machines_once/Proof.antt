@@ -6,7 +6,7 @@ use borrow.Author.Needs.{needs}
 use denote.Ref.{now}
 use Rattle.numbers.specs.SignedParts.{posPart}
 use Rattle.case.specs.Layout.{arcsOf}
-use Rattle.case.proofs.Reading.{kept}
+use Rattle.numbers.specs.SignedLocals.{kept}
 use Rattle.plan.specs.declared.rows.ArcRow.{ArcRow}
 use Rattle.plan.specs.PlanRecords.{arcRow}
 use Rattle.plan.specs.CaseFacts.{counted}

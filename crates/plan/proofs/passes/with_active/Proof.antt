@@ -6,8 +6,8 @@ use denote.Ref.{now}
 use lib.IntN.{pos}
 use lib.Pow.{pow-lt}
 use lib.Signed.{leZ}
-use Rattle.case.proofs.Counting.{shifted}
-use Rattle.case.proofs.Reading.{kept}
+use Rattle.numbers.specs.SignedLocals.{kept}
+use Rattle.numbers.specs.ItemBits.{shifted}
 use Rattle.plan.specs.declared.rows.ArcRow.{ArcRow}
 use Rattle.plan.specs.PlanRecords.{activeIn}
 use Rattle.plan.proofs.passes.with_active.Statement.{statement}

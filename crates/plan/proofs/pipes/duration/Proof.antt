@@ -3,8 +3,7 @@ use denote.Ref.{now}
 use lib.IntN.{_-ℤ_}
 use mir.Syntax.{w64}
 use mir.Val.{toZ, ofZ}
-use Rattle.numbers.specs.SignedLocals.{Held, held, held-fits}
-use Rattle.case.proofs.Reading.{kept}
+use Rattle.numbers.specs.SignedLocals.{Held, held, held-fits, kept}
 use Rattle.plan.specs.Pipes.{duration}
 use Rattle.plan.specs.CaseFacts.{duration-sized}
 use borrow.Author.Needs.{needs}

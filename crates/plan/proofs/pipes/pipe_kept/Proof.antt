@@ -9,8 +9,7 @@ use lib.Signed.{leZ}
 use mir.Syntax.{w64}
 use mir.Val.{toZ, ofZ}
 use Rattle.numbers.specs.Question.{answer, orElse, orElse-yes}
-use Rattle.numbers.specs.SignedLocals.{Held, held, held-fits, fit, param, literal, _*ʳ_}
-use Rattle.case.proofs.Reading.{kept}
+use Rattle.numbers.specs.SignedLocals.{Held, held, held-fits, fit, param, literal, _*ʳ_, kept}
 use Rattle.plan.specs.Pipes.{isPipe, pipeResidual, pressureBalance, pipeMassKept, pipePressuresKept}
 use Rattle.plan.specs.ArcRules.{pipeQuestions}
 use Rattle.plan.specs.CaseFacts.{counted, tolerance-sized}

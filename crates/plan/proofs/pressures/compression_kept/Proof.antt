@@ -6,10 +6,9 @@ use lib.IntN.{pos, _+ℤ_}
 use lib.Signed.{leZ}
 use mir.Syntax.{w64}
 use mir.Val.{toZ, ofZ}
-use Rattle.numbers.specs.SignedLocals.{Held, held, held-fits, literal, _+ʳ_, _*ʳ_}
+use Rattle.numbers.specs.SignedLocals.{Held, held, held-fits, literal, _+ʳ_, _*ʳ_, kept}
 use Rattle.case.specs.declared.records.Node.{Node}
 use Rattle.case.specs.Records.{artificialOf}
-use Rattle.case.proofs.Reading.{kept}
 use Rattle.plan.specs.declared.rows.ArcRow.{ArcRow}
 use Rattle.plan.specs.PlanRecords.{pressureIn, arcRow}
 use Rattle.plan.specs.Machines.{machineGain}

@@ -10,7 +10,7 @@ use mir.Val.{toZ, ofZ}
 use Rattle.numbers.specs.Sets.{countOf}
 use Rattle.case.specs.declared.records.Artificial.{Artificial}
 use Rattle.case.specs.Records.{artificialOf}
-use Rattle.case.proofs.Reading.{kept}
+use Rattle.numbers.specs.SignedLocals.{kept}
 use Rattle.plan.specs.declared.rows.ArcRow.{ArcRow}
 use Rattle.plan.specs.PlanRecords.{arcRow}
 use Rattle.plan.specs.Machines.{machineFlow}

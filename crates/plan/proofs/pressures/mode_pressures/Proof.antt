@@ -4,7 +4,7 @@ use native.Mathlib.Omega.{arith}
 use denote.Ref.{now}
 use mir.Syntax.{w64}
 use mir.Val.{toZ, ofZ}
-use Rattle.case.proofs.Reading.{kept}
+use Rattle.numbers.specs.SignedLocals.{kept}
 use Rattle.plan.specs.PlanRecords.{pressureIn}
 use Rattle.plan.specs.CaseFacts.{counted}
 use Rattle.plan.proofs.ArcLaws.{home-is, compresses}

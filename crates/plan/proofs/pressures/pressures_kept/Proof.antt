@@ -9,7 +9,7 @@ use mir.Syntax.{w64}
 use mir.Val.{toZ, ofZ}
 use Rattle.case.specs.declared.records.Arc.{Arc}
 use Rattle.case.specs.Records.{arcOf}
-use Rattle.case.proofs.Reading.{kept}
+use Rattle.numbers.specs.SignedLocals.{kept}
 use Rattle.plan.specs.declared.rows.ArcRow.{ArcRow}
 use Rattle.plan.specs.PlanRecords.{pressureIn}
 use Rattle.plan.specs.Setting.{settingOf, settingIn}

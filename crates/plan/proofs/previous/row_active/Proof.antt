@@ -6,7 +6,7 @@ use borrow.Author.Needs.{needs}
 use mathlib.Core.Bool.{false}
 use lib.IntN.{pos}
 use lib.Signed.{leZ}
-use Rattle.plan.proofs.Values.{kept}
+use Rattle.numbers.specs.SignedLocals.{kept}
 use Rattle.plan.specs.declared.rows.ArcRow.{ArcRow}
 use Rattle.plan.specs.PlanRecords.{activeIn}
 use Rattle.plan.proofs.Filled.{Filling, start, turn, end}

@@ -2,7 +2,7 @@ use mathlib.Core.Path.{_≡_, ap, _∙_}
 use Prim.Native.Nat.{_-_}
 use native.Mathlib.Omega.{arith}
 use denote.Ref.{now}
-use Rattle.plan.proofs.Values.{kept}
+use Rattle.numbers.specs.SignedLocals.{kept}
 use borrow.Author.Needs.{needs}
 use Rattle.case.specs.Layout.{nodesOf, arcsOf}
 use Rattle.numbers.specs.SignedParts.{posPart}

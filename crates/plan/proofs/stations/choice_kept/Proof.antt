@@ -11,7 +11,7 @@ use mir.Val.{toZ, ofZ}
 use Rattle.numbers.specs.SignedParts.{posPart}
 use Rattle.case.specs.Records.{stationRow, stateRow, stationOf, stateOf}
 use Rattle.case.specs.declared.records.Station.{Station}
-use Rattle.case.proofs.Reading.{kept}
+use Rattle.numbers.specs.SignedLocals.{kept}
 use Rattle.plan.specs.declared.rows.Choice.{Choice}
 use Rattle.plan.specs.PlanRecords.{choiceOf, stateIn}
 use Rattle.plan.specs.StationRules.{oneOf, activeSet, obeyed, choiceKept}

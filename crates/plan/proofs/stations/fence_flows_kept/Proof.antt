@@ -10,7 +10,7 @@ use Rattle.case.specs.CountLaws.{every-more, every-not}
 use Rattle.case.specs.Layout.{nodesOf}
 use Rattle.case.specs.Records.{directionRow, directionOf}
 use Rattle.case.specs.StationArcs.{every}
-use Rattle.case.proofs.Reading.{kept}
+use Rattle.numbers.specs.SignedLocals.{kept}
 use Rattle.plan.specs.declared.rows.Choice.{Choice}
 use Rattle.plan.specs.PlanRecords.{directionIn}
 use Rattle.plan.specs.StationRules.{fenceKept, fenceFlowsKept}

@@ -3,7 +3,7 @@ use borrow.Author.Needs.{needs}
 use lib.IntN.{ℤ}
 use mir.Facts.{toZ-ofZ}
 use Rattle.numbers.specs.Sets.{memberOf}
-use Rattle.case.proofs.Reading.{kept}
+use Rattle.numbers.specs.SignedLocals.{kept}
 use Rattle.plan.specs.StationRules.{fenceFlowKept, fenceNodeKept}
 use Rattle.plan.proofs.stations.fence_kept.Statement.{statement}
 use Rattle.plan.proofs.stations.fence_kept.Tie as tie

@@ -1,7 +1,6 @@
 use mathlib.Core.Path.{_≡_, sym, ap, _∙_}
-use mathlib.Core.Bool.{Bool, true, false}
 use borrow.Author.Needs.{needs}
-use lib.IntN.{ℤ, pos}
+use lib.IntN.{pos}
 use lib.Signed.{leZ}
 use mir.Facts.{toZ-ofZ}
 use Rattle.numbers.specs.SignedParts.{posPart}

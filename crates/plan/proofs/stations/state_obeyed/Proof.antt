@@ -6,7 +6,7 @@ use mir.Facts.{toZ-ofZ}
 use Rattle.numbers.specs.Sets.{memberOf, subsetOf, disjointOf}
 use Rattle.case.specs.Records.{stateRow}
 use Rattle.case.specs.declared.records.State.{State}
-use Rattle.case.proofs.Reading.{kept}
+use Rattle.numbers.specs.SignedLocals.{kept}
 use Rattle.plan.specs.StationRules.{obeyed}
 use Rattle.plan.proofs.stations.state_obeyed.Statement.{statement}
 use Rattle.plan.proofs.stations.state_obeyed.Tie as tie

@@ -10,12 +10,12 @@ use lib.Signed.{leZ}
 use Rattle.case.specs.declared.records.Arc.{Arc}
 use Rattle.case.specs.declared.records.Artificial.{Artificial}
 use Rattle.case.specs.Records.{arcOf, artificialOf}
-use Rattle.plan.proofs.Values.{kept}
+use Rattle.numbers.specs.SignedLocals.{kept}
 use Rattle.plan.specs.declared.rows.ArcRow.{ArcRow}
 use Rattle.plan.specs.PlanRecords.{activeIn}
 use Rattle.plan.specs.CaseFacts.{counted}
 use Rattle.plan.specs.Totals.{changed, activityCost}
-use Rattle.plan.proofs.StepSizes.{both-yes, first-no, second-no}
+use Rattle.plan.specs.StepSizes.{both-yes, first-no, second-no}
 use Rattle.plan.proofs.totals.activity_cost.Statement.{statement}
 use Rattle.plan.proofs.totals.activity_cost.Tie as tie
 

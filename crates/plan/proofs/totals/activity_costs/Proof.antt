@@ -9,7 +9,7 @@ use Rattle.plan.specs.Carried.{activeOf}
 use Rattle.plan.specs.CaseFacts.{counted}
 use Rattle.plan.specs.Totals.{activityPart, activityCosts}
 use Rattle.plan.proofs.Adding.{Counting, startN, turnN, endN}
-use Rattle.plan.proofs.StepSizes.{activity-le}
+use Rattle.plan.specs.StepSizes.{activity-le}
 use Rattle.plan.proofs.totals.activity_costs.Statement.{statement}
 use Rattle.plan.proofs.totals.activity_costs.Tie as tie
 

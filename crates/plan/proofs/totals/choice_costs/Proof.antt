@@ -9,7 +9,7 @@ use Rattle.plan.specs.Carried.{indexOf}
 use Rattle.plan.specs.CaseFacts.{counted}
 use Rattle.plan.specs.Totals.{directionCost, choiceCost, choiceCosts}
 use Rattle.plan.proofs.Adding.{Counting, startN, turnN, endN}
-use Rattle.plan.proofs.StepSizes.{direction-le, state-le}
+use Rattle.plan.specs.StepSizes.{direction-le, state-le}
 use Rattle.plan.proofs.totals.choice_costs.Statement.{statement}
 use Rattle.plan.proofs.totals.choice_costs.Tie as tie
 

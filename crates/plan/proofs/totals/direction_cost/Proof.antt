@@ -6,12 +6,12 @@ use denote.Ref.{now}
 use Rattle.numbers.specs.SignedParts.{posPart}
 use Rattle.case.specs.declared.records.Direction.{Direction}
 use Rattle.case.specs.Records.{directionRow, directionOf}
-use Rattle.plan.proofs.Values.{kept}
+use Rattle.numbers.specs.SignedLocals.{kept}
 use Rattle.plan.specs.declared.rows.Choice.{Choice}
 use Rattle.plan.specs.PlanRecords.{directionIn}
 use Rattle.plan.specs.CaseFacts.{counted}
 use Rattle.plan.specs.Totals.{directionCost}
-use Rattle.plan.proofs.StepSizes.{cost-same, cost-new}
+use Rattle.plan.specs.StepSizes.{cost-same, cost-new}
 use Rattle.plan.proofs.totals.direction_cost.Statement.{statement}
 use Rattle.plan.proofs.totals.direction_cost.Tie as tie
 

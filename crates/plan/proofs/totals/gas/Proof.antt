@@ -5,11 +5,11 @@ use native.Mathlib.Omega.{arith}
 use denote.Ref.{now}
 use Rattle.numbers.specs.Sum.{sum}
 use Rattle.case.specs.Layout.{numberAt, arcsOf}
-use Rattle.plan.proofs.Values.{kept}
+use Rattle.numbers.specs.SignedLocals.{kept}
 use Rattle.plan.specs.CaseFacts.{counted}
 use Rattle.plan.specs.Totals.{gasPart, gasAt}
 use Rattle.plan.proofs.Adding.{Adding, start, fits, turn, end, got}
-use Rattle.plan.proofs.StepSizes.{gas-sized}
+use Rattle.plan.specs.StepSizes.{gas-sized}
 use Rattle.plan.proofs.totals.gas.Statement.{statement}
 use Rattle.plan.proofs.totals.gas.Tie as tie
 

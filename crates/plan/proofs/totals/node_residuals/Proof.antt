@@ -5,7 +5,7 @@ use native.Mathlib.Omega.{arith}
 use denote.Ref.{now}
 use Rattle.numbers.specs.Sum.{sum, sumN}
 use Rattle.case.specs.Layout.{nodesOf}
-use Rattle.plan.proofs.Values.{kept}
+use Rattle.numbers.specs.SignedLocals.{kept}
 use Rattle.plan.specs.CaseFacts.{counted}
 use Rattle.plan.specs.Balance.{nodeResidual}
 use Rattle.plan.specs.Totals.{nodeResiduals}

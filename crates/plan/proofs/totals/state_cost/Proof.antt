@@ -6,12 +6,12 @@ use denote.Ref.{now}
 use Rattle.numbers.specs.SignedParts.{posPart}
 use Rattle.case.specs.declared.records.State.{State}
 use Rattle.case.specs.Records.{stateRow, stateOf}
-use Rattle.plan.proofs.Values.{kept}
+use Rattle.numbers.specs.SignedLocals.{kept}
 use Rattle.plan.specs.declared.rows.Choice.{Choice}
 use Rattle.plan.specs.PlanRecords.{stateIn}
 use Rattle.plan.specs.CaseFacts.{counted}
 use Rattle.plan.specs.Totals.{stateCost}
-use Rattle.plan.proofs.StepSizes.{cost-same, cost-new}
+use Rattle.plan.specs.StepSizes.{cost-same, cost-new}
 use Rattle.plan.proofs.totals.state_cost.Statement.{statement}
 use Rattle.plan.proofs.totals.state_cost.Tie as tie
 

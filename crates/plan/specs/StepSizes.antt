@@ -1,19 +1,19 @@
 -- How large what a step adds to the totals can be, and the parts of a cost by the code's tests.
 -- Assumes nothing.
-use mathlib.Core.Path.{_≡_, refl, sym, ap, _∙_}
+use mathlib.Core.Path.{_≡_, refl, sym, ap}
 use mathlib.Core.Bool.{Bool, true, false, not, _&&_}
 use mathlib.Core.List.{List}
 use Prim.Native.Nat.{ℕ, _+_, _*_, _<_, _≤_}
 use native.Mathlib.Omega.{arith}
 use borrow.Author.Tests.{leb-true, eqb-true, eq-eqb, ne-eqb}
 use lib.Dec.{eqb, leb}
-use lib.IntN.{ℤ, natAbs, _+ℤ_, _*ℤ_}
+use lib.IntN.{ℤ, _+ℤ_, _*ℤ_}
 use Rattle.numbers.specs.SignedBounds.{Bounded}
 use Rattle.numbers.specs.SignedLocals.{Held, plain, _+ʳ_, _*ʳ_}
 use Rattle.numbers.specs.Sum.{only, onlyN, abs-sum-le, sumN-bound}
 use Rattle.case.specs.Layout.{numberAt, nodesOf, arcsOf, stationsOf}
 use Rattle.case.specs.Records.{arcOf, pipeOf, artificialOf, directionOf, stateOf}
-use Rattle.plan.specs.PlanRecords.{nodeRow, directionIn, stateIn, activeIn}
+use Rattle.plan.specs.PlanRecords.{directionIn, stateIn, activeIn}
 use Rattle.plan.specs.Sizes.{NodesSized, PressuresSized}
 use Rattle.plan.specs.Handed.{AcceptedCase, ChoicesKept, StepKept}
 use Rattle.plan.specs.CaseFacts.{counted, from-node, to-node, pipe-sized, weight-in, direction-weight, state-weight}

@@ -1,8 +1,8 @@
 -- From the answer on a case to the verdict, over plain lists.
 -- Assumes nothing.
 use mathlib.Core.Path.{_≡_, refl, ap, sym, _∙_}
-use mathlib.Core.Bool.{Bool, true, false, _&&_}
-use mathlib.Core.List.{List, [], _∷_, _++_}
+use mathlib.Core.Bool.{Bool, true, false}
+use mathlib.Core.List.{List, [], _∷_}
 use Prim.Native.Nat.{ℕ, _+_, _*_}
 use native.Mathlib.Omega.{arith}
 use borrow.Author.Tests.{eqb-true}
@@ -21,14 +21,14 @@ use Rattle.case.specs.Judged.{caseQuestions, judgedCase}
 use Rattle.case.specs.declared.records.Layout.{Layout}
 use Rattle.case.specs.Laid.{Laid}
 use Rattle.plan.specs.Compared.{same}
-use Rattle.plan.specs.Handed.{AcceptedCase, PlanLaid}
+use Rattle.plan.specs.Handed.{PlanLaid}
 use Rattle.plan.specs.PlanLayout.{stepAt, stepWidth}
 use Rattle.plan.specs.PlanHead.{headKept}
 use Rattle.plan.specs.Totals.{totalsOf}
 use Rattle.plan.specs.Judged.{planStep, planQuestions, questions, verdictOf, verdictTold, judgeOf}
-use Rattle.plan.specs.JudgedBytes.{planEnding, planBytesTold, planNumber, caseBytesTold, caseAnswer, bytesTold, planListAfter, planListOf}
+use Rattle.plan.specs.JudgedBytes.{planBytesTold, planNumber, caseBytesTold, bytesTold, planListAfter, planListOf}
 use Rattle.plan.specs.declared.verdict.Verdict.{Verdict}
-use Rattle.plan.specs.declared.verdict.Verdict.the-variants.{Accepted, Refused}
+use Rattle.plan.specs.declared.verdict.Verdict.the-variants.{Refused}
 use Rattle.numbers.specs.Items.{over}
 
 -- the answer that was told is the first no of the case's questions

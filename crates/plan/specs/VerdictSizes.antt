@@ -2,7 +2,7 @@
 -- Assumes nothing.
 use mathlib.Core.Path.{_≡_, refl, ap, sym, subst, _∙_}
 use mathlib.Core.Bool.{Bool, true, false, cond}
-use mathlib.Core.List.{List, [], _∷_, _++_}
+use mathlib.Core.List.{List, [], _∷_}
 use Prim.Native.Nat.{ℕ, _+_, _*_, _<_, _≤_, _^_}
 use native.Mathlib.Nat.{mul-le-mul}
 use native.Mathlib.Omega.{arith}
@@ -10,16 +10,16 @@ use lib.IntN.{ℤ, pos, natAbs, _-ℤ_, _*ℤ_}
 use lib.Dec.{eqb}
 use lib.ListN.{length, getD}
 use lib.Signed.{_≤ℤ_}
-use Rattle.numbers.specs.Told.{Told, gives, refuses}
+use Rattle.numbers.specs.Told.{Told, refuses}
 use Rattle.numbers.specs.Question.{firstNo, all-yes}
 use Rattle.numbers.specs.Sets.{memberOf, countOf}
 use Rattle.numbers.specs.SignedParts.{posPart, ints, taken, size}
-use Rattle.numbers.specs.SignedBounds.{Bounded, abs-mul}
+use Rattle.numbers.specs.SignedBounds.{abs-mul}
 use Rattle.numbers.specs.Items.{over}
 use Rattle.numbers.specs.Places.{Small}
 use Rattle.numbers.specs.Reading.{Ending, all, no, readOf, readTold}
 use Rattle.numbers.specs.ReadingBounds.{refusal-within}
-use Rattle.numbers.specs.Sum.{sumN, sumN-bound, onlyN, count}
+use Rattle.numbers.specs.Sum.{sumN-bound, onlyN, count}
 use Rattle.numbers.specs.declared.answer.Answer.{Answer}
 use Rattle.numbers.specs.declared.answer.Answer.the-variants.{Yes, No}
 use Rattle.case.specs.Layout.{nodesOf, arcsOf, stepsOf, massTolerance}
@@ -28,7 +28,7 @@ use Rattle.case.specs.Judged.{caseQuestions}
 use Rattle.case.specs.Places.{limit, case-small}
 use Rattle.plan.specs.Handed.{AcceptedCase}
 use Rattle.plan.specs.CaseFacts.{counted, mass-sized}
-use Rattle.plan.specs.Kept.{nodes-yes, arcs-yes, stations-yes, balances-yes, choices-kept, pipe-small, node-small}
+use Rattle.plan.specs.Kept.{arcs-yes, stations-yes, balances-yes, choices-kept, pipe-small, node-small}
 use Rattle.plan.specs.PlanLayout.{stepRow}
 use Rattle.plan.specs.Before.{pressureAt, activeAt, directionAt, stateAt}
 use Rattle.plan.specs.PlanHead.{headQuestion}
@@ -43,14 +43,13 @@ use Rattle.plan.specs.RegionSet.{nodes-counted}
 use Rattle.plan.specs.RegionBalanced.{times-of, region-balanced}
 use Rattle.plan.specs.Ledger.{regionQuestions, ledgerQuestions, ledgerBy, ledgerTold, ledgerOf}
 use Rattle.plan.specs.PlanPlaces.{judge-small, ledger-small}
-use Rattle.plan.specs.declared.totals.Totals.{Totals}
 use Rattle.plan.specs.declared.verdict.Verdict.{Verdict}
 use Rattle.plan.specs.declared.verdict.Verdict.the-variants.{Accepted, Refused}
 use Rattle.plan.specs.declared.figures.Figures.{Figures}
 use Rattle.plan.specs.declared.figures.Ledger.{Ledger}
 use Rattle.plan.specs.declared.figures.Ledger.the-variants.{Given}
 use Rattle.plan.specs.declared.figures.Ledger.the-variants as stopped
-use Rattle.plan.proofs.StepSizes.{choice-costs-le, activity-costs-le}
+use Rattle.plan.specs.StepSizes.{choice-costs-le, activity-costs-le}
 
 -- the counts of a verdict are below b
 abbrev pub Fit : ℕ → Verdict → Type 0
