@@ -33,15 +33,15 @@ pub(crate) fn plain(case: &[i64], e: usize) -> bool
 pub(crate) fn station_arcs(case: &[i64], s: usize, arcs: usize) -> usize
     ensures { λ r. ⌜ r ≡ arcsBefore (now (case .entry)) s arcs ⌝ }
 {
-    let mut n: usize = 0;
+    let mut own: usize = 0;
     let mut e: usize = 0;
     while e < arcs {
         if belongs(case, s, e) {
-            n += 1;
+            own += 1;
         }
         e += 1;
     }
-    n
+    own
 }
 
 // A set of the station's arcs, with arc `e`, its `n`-th, in it if the arc is active at step 0.
@@ -101,15 +101,15 @@ fn with_ends(case: &[i64], set: usize, e: usize) -> usize
 pub(crate) fn station_nodes(case: &[i64], s: usize, arcs: usize) -> i64
     ensures { λ r. ⌜ r ≡ pos (endsOf (now (case .entry)) (belongs (now (case .entry)) s) arcs) ⌝ }
 {
-    let mut set: usize = 0;
+    let mut nodes: usize = 0;
     let mut e: usize = 0;
     while e < arcs {
         if belongs(case, s, e) {
-            set = with_ends(case, set, e);
+            nodes = with_ends(case, nodes, e);
         }
         e += 1;
     }
-    set as i64
+    nodes as i64
 }
 
 // The ends of the first `arcs` arcs of kind 0 to 2, as a node set.

@@ -10,10 +10,10 @@ use Rattle.case.proofs.members.station_arcs.Statement.{statement}
 use Rattle.case.proofs.members.station_arcs.Tie as tie
 
 abbrev Inv-loop : tie.InvT-loop
-Inv-loop case s arcs n₀ e₀ n e = (e ≤ arcs) × (n ≡ arcsBefore case s e)
+Inv-loop case s arcs own₀ e₀ own e = (e ≤ arcs) × (own ≡ arcsBefore case s e)
 
 abbrev μ-loop : tie.MeasureT-loop
-μ-loop case s arcs n₀ e₀ n e = arcs - e
+μ-loop case s arcs own₀ e₀ own e = arcs - e
 
 loop-holds : tie.Need-loop-holds Inv-loop μ-loop
 loop-holds c = (omega arith, sym (before-none (now (c .args .case)) (c .args .s)))
@@ -21,8 +21,8 @@ loop-holds c = (omega arith, sym (before-none (now (c .args .case)) (c .args .s)
 belongs-requires : tie.Need-belongs-requires Inv-loop μ-loop
 belongs-requires c κs = search needs
 
-add-n : tie.Need-add-n Inv-loop μ-loop
-add-n c = let h = c .before .before .before in omega (arith, before-le (now (h .before .args .case)) (h .before .args .s) (h .loop .e))
+add-own : tie.Need-add-own Inv-loop μ-loop
+add-own c = let h = c .before .before .before in omega (arith, before-le (now (h .before .args .case)) (h .before .args .s) (h .loop .e))
 
 add-e : tie.Need-add-e Inv-loop μ-loop
 add-e c = omega arith
@@ -49,4 +49,4 @@ returns c = let e : c .before .loop .e ≡ c .before .before .args .arcs = omega
 pub station-arcs-spec : {M : Type 1} → statement M
 station-arcs-spec =
     tie.close
-    (tie.spec Inv-loop μ-loop loop-holds belongs-requires add-n add-e loop-less loop-again returns)
+    (tie.spec Inv-loop μ-loop loop-holds belongs-requires add-own add-e loop-less loop-again returns)

@@ -14,10 +14,10 @@ use Rattle.case.proofs.members.station_nodes.Statement.{statement}
 use Rattle.case.proofs.members.station_nodes.Tie as tie
 
 abbrev Inv-loop : tie.InvT-loop
-Inv-loop case s arcs set₀ e₀ set e = (e ≤ arcs) × (set ≡ endsOf case (belongs case s) e)
+Inv-loop case s arcs nodes₀ e₀ nodes e = (e ≤ arcs) × (nodes ≡ endsOf case (belongs case s) e)
 
 abbrev μ-loop : tie.MeasureT-loop
-μ-loop case s arcs set₀ e₀ set e = arcs - e
+μ-loop case s arcs nodes₀ e₀ nodes e = arcs - e
 
 loop-holds : tie.Need-loop-holds Inv-loop μ-loop
 loop-holds c = let l = now (c .args .case) in let a = c .args in (omega arith, sym (ends-none l (belongs l (a .s))))
@@ -58,7 +58,7 @@ returns c = let h = c .before in
     let a = h .before .args in
     let l = now (a .case) in
     let e : h .loop .e ≡ a .arcs = omega arith in
-    let f : h .loop .set < 2 ^ 63 = omega (arith, h .loop .inv .1, ends-lt l (belongs l (a .s)) (h .loop .e)) in
+    let f : h .loop .nodes < 2 ^ 63 = omega (arith, h .loop .inv .1, ends-lt l (belongs l (a .s)) (h .loop .e)) in
     toZ-pos w64 f ∙ ap pos (rw e at (h .loop .inv .1))
 
 pub station-nodes-spec : {M : Type 1} → statement M
