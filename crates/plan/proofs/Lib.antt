@@ -10,6 +10,6 @@ pub mod Taken
 pub mod StationPasses
 pub mod Alike
 pub mod Going
-pub mod Stepped
+pub mod StepGroups
 pub mod RegionSums
 pub mod RegionTests

@@ -13,6 +13,7 @@ pub mod Pipes
 pub mod ArcRules
 pub mod StationRules
 pub mod StationPass
+pub mod SteppedBy
 pub mod Balance
 pub mod Step
 pub mod Totals

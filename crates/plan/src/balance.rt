@@ -10,14 +10,16 @@ ghost use Rattle.case.specs.Laid.{Holds};
 ghost use Rattle.plan.specs.Balance.{flowAtFrom, flowAtTo, netFlow, nodeResidual, allBalanceQuestions};
 ghost use Rattle.plan.specs.Moved.{movedAt, NetSized};
 ghost use Rattle.plan.specs.Sizes.{FlowsSized, NodesSized};
+ghost use Rattle.plan.specs.SteppedBy.{steppedBy};
+ghost use Rattle.plan.specs.Totals.{nodeResiduals};
 ghost use Rattle.plan.specs.Handed.{AcceptedCase, AtStep, AtBalance};
 use super::accepted::arc;
 use super::pipes::duration;
 use super::pipes::size;
 use super::rows::arc_row;
 use super::rows::node_row;
+use super::stepped::Stepped;
 use case::records::Layout;
-use numbers::answer::Answer;
 use numbers::compare::at;
 use numbers::compare::at_most;
 
@@ -78,24 +80,27 @@ pub(crate) fn node_residual(case: &[i64], row: &[i64], i: usize, v: usize, net: 
     size(duration(case, i)) * size(net - node_row(row, v).d)
 }
 
-pub(crate) fn balance_answers(case: &[i64], row: &[i64], layout: Layout, i: usize) -> Answer
+// 33 of every node, and the sum of its left sides.
+pub(crate) fn balance(case: &[i64], row: &[i64], layout: Layout, i: usize) -> Stepped
     requires { ⌜ (AtStep (now case) layout i) × (FlowsSized (now case) (now row)) × (NodesSized (now case) (now row)) ⌝ }
-    ensures { λ r. ⌜ r ≡ firstNo (allBalanceQuestions (now (case .entry)) (now (row .entry)) i) ⌝ }
+    ensures { λ r. ⌜ r ≡ steppedBy (firstNo (allBalanceQuestions (now (case .entry)) (now (row .entry)) i)) (nodeResiduals (now (case .entry)) (now (row .entry)) i) ⌝ }
 {
     let nodes = layout.nodes;
     let most = at(case, 5);
     let net = net_flows(case, row, layout.arcs);
+    let mut sum: usize = 0;
     let mut v: usize = 0;
     while v < nodes {
         let residual = node_residual(case, row, i, v, net[v]);
         if !at_most(residual as i64, most) {
-            return Answer::No {
+            return Stepped::No {
                 number: 33,
                 step: i + 1,
                 place: v,
             };
         }
+        sum += residual;
         v += 1;
     }
-    Answer::Yes
+    Stepped::Kept { residual: sum }
 }

@@ -11,6 +11,7 @@ pub mod pipes; // pipes.rt: 28 and 29
 pub mod arcs; // arcs.rt: 24 to 29 of every arc
 pub mod passes; // passes.rt: what 30 to 32 ask of the arcs, for all stations in one pass
 pub mod stations; // stations.rt: 30 to 32
+pub mod stepped; // stepped.rt: what a step's judge finds
 pub mod balance; // balance.rt: 33
 pub mod previous; // previous.rt: what is carried from step to step
 pub mod totals; // totals.rt: the six totals

@@ -1,36 +1,57 @@
 // One step, and every step of a plan, one after the other.
 ghost use mathlib.Core.Path.{_≡_};
+ghost use mathlib.Core.List.{_++_};
 ghost use Prim.Native.Nat.{_+_, _*_, _≤_};
 ghost use lib.ListN.{length, take, drop};
 ghost use Rattle.numbers.specs.Question.{firstNo};
 ghost use Rattle.numbers.specs.Items.{over};
 ghost use Rattle.case.specs.Layout.{numberAt, nodesOf, arcsOf, stepsOf};
 ghost use Rattle.case.specs.Laid.{Laid};
+ghost use Rattle.plan.specs.StationRules.{allStationQuestions};
+ghost use Rattle.plan.specs.Balance.{allBalanceQuestions};
 ghost use Rattle.plan.specs.Step.{stepQuestions};
+ghost use Rattle.plan.specs.SteppedBy.{steppedBy};
 ghost use Rattle.plan.specs.Judged.{planStep, verdictOf};
-ghost use Rattle.plan.specs.Totals.{totalsOf};
-ghost use Rattle.plan.specs.Sizes.{PressuresSized};
+ghost use Rattle.plan.specs.Totals.{nodeResiduals, totalsOf};
+ghost use Rattle.plan.specs.Sizes.{PressuresSized, FlowsSized, NodesSized};
 ghost use Rattle.plan.specs.Summed.{Opened, Closed};
-ghost use Rattle.plan.specs.Handed.{AcceptedCase, AtStep, PlanLaid};
+ghost use Rattle.plan.specs.Handed.{AcceptedCase, AtStep, MachinesKept, PlanLaid};
 use super::arcs::arc_answers;
-use super::balance::balance_answers;
+use super::balance::balance;
 use super::nodes::node_answers;
 use super::previous::Previous;
 use super::previous::after;
 use super::previous::start;
 use super::stations::station_answers;
+use super::stepped::Stepped;
+use super::stepped::stopped;
 use super::totals::Totals;
 use super::totals::added;
 use super::totals::gas;
 use super::verdict::Verdict;
 use case::records::Layout;
 use numbers::answer::Answer;
-use numbers::answer::or_else;
+
+// Past the arcs: every station, and then the balance of every node.
+fn past_arcs(case: &[i64], row: &[i64], layout: Layout, i: usize) -> Stepped
+    requires { ⌜ (AtStep (now case) layout i) × (FlowsSized (now case) (now row)) × (NodesSized (now case) (now row)) × (MachinesKept (now case) (now row)) ⌝ }
+    ensures { λ r. ⌜ r ≡ steppedBy (firstNo (allStationQuestions (now (case .entry)) (now (row .entry)) i ++ allBalanceQuestions (now (case .entry)) (now (row .entry)) i)) (nodeResiduals (now (case .entry)) (now (row .entry)) i) ⌝ }
+{
+    let stations = station_answers(case, row, layout, i);
+    match stations {
+        Answer::Yes => balance(case, row, layout, i),
+        Answer::No {
+            number: _,
+            step: _,
+            place: _,
+        } => stopped(stations),
+    }
+}
 
 // Every question of a step, whose part of the plan is `row`.
-fn step(case: &[i64], row: &[i64], previous: Previous, layout: Layout, i: usize) -> Answer
+fn step(case: &[i64], row: &[i64], previous: Previous, layout: Layout, i: usize) -> Stepped
     requires { ⌜ (AtStep (now case) layout i) × (PressuresSized (numberAt (previous .pressures)) (nodesOf (now case))) ⌝ }
-    ensures { λ r. ⌜ r ≡ firstNo (stepQuestions (now (case .entry)) (numberAt (previous .pressures)) (now (row .entry)) i) ⌝ }
+    ensures { λ r. ⌜ r ≡ steppedBy (firstNo (stepQuestions (now (case .entry)) (numberAt (previous .pressures)) (now (row .entry)) i)) (nodeResiduals (now (case .entry)) (now (row .entry)) i) ⌝ }
 {
     let old = previous.pressures;
     let nodes = node_answers(case, row, i, layout.nodes);
@@ -41,20 +62,17 @@ fn step(case: &[i64], row: &[i64], previous: Previous, layout: Layout, i: usize)
             step: _,
             place: _,
         } => {
-            return nodes;
+            return stopped(nodes);
         }
     }
     let arcs = arc_answers(case, &old, row, layout, i);
     match arcs {
-        Answer::Yes => or_else(
-            station_answers(case, row, layout, i),
-            balance_answers(case, row, layout, i),
-        ),
+        Answer::Yes => past_arcs(case, row, layout, i),
         Answer::No {
             number: _,
             step: _,
             place: _,
-        } => arcs,
+        } => stopped(arcs),
     }
 }
 
@@ -123,8 +141,11 @@ pub(crate) fn steps(case: &[i64], plan: &[i64], layout: Layout) -> Verdict
         let row = part_of(plan, i, width);
         let a = step(case, row, previous, layout, i);
         match a {
-            Answer::Yes => {}
-            Answer::No {
+            Stepped::Kept { residual } => {
+                totals = added(totals, case, row, previous, layout, i, residual);
+                previous = after(previous, case, row, layout);
+            }
+            Stepped::No {
                 number,
                 step,
                 place,
@@ -136,8 +157,6 @@ pub(crate) fn steps(case: &[i64], plan: &[i64], layout: Layout) -> Verdict
                 };
             }
         }
-        totals = added(totals, case, row, previous, layout, i);
-        previous = after(previous, case, row, layout);
         i += 1;
     }
     Verdict::Accepted(closed(totals, case, previous, arcs))

@@ -11,8 +11,6 @@ ghost use Rattle.plan.specs.Handed.{AcceptedCase, AtStep, ChoicesKept, S
 use super::accepted::arc;
 use super::accepted::artificial;
 use super::accepted::pipe;
-use super::balance::net_flows;
-use super::balance::node_residual;
 use super::machines::Sum;
 use super::pipes::pipe_residual;
 use super::previous::Previous;
@@ -165,27 +163,6 @@ pub(crate) fn pipe_residuals(case: &[i64], old: &[i64], row: &[i64], i: usize, a
     sum
 }
 
-pub(crate) fn node_residuals(
-    case: &[i64],
-    old: &[i64],
-    row: &[i64],
-    i: usize,
-    layout: Layout,
-) -> usize
-    requires { ⌜ (AtStep (now case) layout i) × (StepKept (now case) (now old) (now row) i) ⌝ }
-    ensures { λ r. ⌜ r ≡ nodeResiduals (now (case .entry)) (now (row .entry)) i ⌝ }
-{
-    let nodes = layout.nodes;
-    let net = net_flows(case, row, layout.arcs);
-    let mut sum: usize = 0;
-    let mut v: usize = 0;
-    while v < nodes {
-        sum += node_residual(case, row, i, v, net[v]);
-        v += 1;
-    }
-    sum
-}
-
 // A pipe's gas.
 pub(crate) fn pipe_gas(case: &[i64], pressures: &[i64], e: usize) -> i64
     requires { ⌜ (AcceptedCase (now case)) × (e < arcsOf (now case)) × (PressuresSized (numberAt (now pressures)) (nodesOf (now case))) ⌝ }
@@ -213,7 +190,7 @@ pub(crate) fn gas(case: &[i64], pressures: &[i64], arcs: usize) -> i64
     sum.value
 }
 
-// The totals with one step more.
+// The totals with one step more; `nodes` is the sum of its left sides of 33.
 pub(crate) fn added(
     totals: Totals,
     case: &[i64],
@@ -221,8 +198,9 @@ pub(crate) fn added(
     previous: Previous,
     layout: Layout,
     i: usize,
+    nodes: usize,
 ) -> Totals
-    requires { ⌜ (AtStep (now case) layout i) × (StepKept (now case) (previous .pressures) (now row) i) × (TotalsSized totals) ⌝ }
+    requires { ⌜ (AtStep (now case) layout i) × (StepKept (now case) (previous .pressures) (now row) i) × (TotalsSized totals) × (nodes ≡ nodeResiduals (now case) (now row) i) ⌝ }
     ensures { λ r. ⌜ Added (now (case .entry)) (now (row .entry)) previous i totals r ⌝ }
 {
     let old = previous.pressures;
@@ -233,7 +211,6 @@ pub(crate) fn added(
     let choices = choice_costs(case, directions, states, row, layout);
     let activity = activity_costs(case, active, row, layout.arcs);
     let pipes = pipe_residuals(case, &old, row, i, layout.arcs);
-    let nodes = node_residuals(case, &old, row, i, layout);
     Totals {
         pressure: totals.pressure + slack.pressure,
         demand: totals.demand + slack.demand,

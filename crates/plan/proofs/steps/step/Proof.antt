@@ -6,9 +6,10 @@ use Rattle.numbers.specs.declared.answer.Answer.the-variants.{Yes}
 use Rattle.case.specs.Layout.{numberAt}
 use Rattle.plan.specs.NodeRules.{allNodeQuestions}
 use Rattle.plan.specs.ArcRules.{allArcQuestions}
+use Rattle.plan.specs.Totals.{nodeResiduals}
 use Rattle.plan.specs.Sizes.{NodesSized, FlowsSized}
 use Rattle.plan.specs.Kept.{nodes-sized, pressures-sized, flows-sized, machines-kept}
-use Rattle.plan.proofs.Stepped.{nodes-stop, arcs-stop, both-asked}
+use Rattle.plan.proofs.StepGroups.{nodes-stop, arcs-stop, arcs-passed}
 use Rattle.plan.proofs.steps.step.Statement.{statement}
 use Rattle.plan.proofs.steps.step.Tie as tie
 
@@ -41,11 +42,17 @@ enum-told c = search needs
 enum-told-2 : tie.Need-enum-told-2
 enum-told-2 c = search needs
 
+stopped-requires : tie.Need-stopped-requires
+stopped-requires c κs = search needs
+
 returns : tie.Need-returns
 returns c =
-    let n = c .before .before in
+    let t = c .before in
+    let n = t .before .before in
     let a = n .before .before .args in
-    nodes-stop (now (a .case)) (numberAt (a .previous .pressures)) (now (a .row)) (a .i) (n .node-answers .ensures) (c .enum-told2 .given .1)
+    let l = now (a .case) in
+    let r = now (a .row) in
+    nodes-stop l (numberAt (a .previous .pressures)) r (a .i) (nodeResiduals l r (a .i)) (t .enum-told2 .given .1) (c .stopped .ensures) (n .node-answers .ensures)
 
 slice-aggregate-arc-answers : tie.Need-slice-aggregate-arc-answers
 slice-aggregate-arc-answers c = search needs
@@ -59,38 +66,36 @@ arc-answers-requires c κs =
 enum-told-3 : tie.Need-enum-told-3
 enum-told-3 c = search needs
 
-station-answers-requires : tie.Need-station-answers-requires
-station-answers-requires c κs =
-    let s = c .before .before .before .before .before .before .before .before in
-    (s .pre .0, flows-are c, machines-kept (now (s .args .case)) (numberAt (s .args .previous .pressures)) (now (s .args .row)) (s .args .i) (arcs-yes c))
-
-balance-answers-requires : tie.Need-balance-answers-requires
-balance-answers-requires c κs =
-    let e = c .before in
-    let t = e .before .before .before .before in
+past-arcs-requires : tie.Need-past-arcs-requires
+past-arcs-requires c κs =
+    let t = c .before .before .before .before in
     let s = t .before .before .before .before in
-    (s .pre .0, flows-are e, nodes-are t)
-
-or-else-requires : tie.Need-or-else-requires
-or-else-requires c κs = search needs
+    (s .pre .0, flows-are c, nodes-are t, machines-kept (now (s .args .case)) (numberAt (s .args .previous .pressures)) (now (s .args .row)) (s .args .i) (arcs-yes c))
 
 enum-told-4 : tie.Need-enum-told-4
 enum-told-4 c = search needs
 
+stopped-requires-2 : tie.Need-stopped-requires-2
+stopped-requires-2 c κs = search needs
+
 returns-2 : tie.Need-returns-2
 returns-2 c =
-    let b = c .before in
-    let e = b .before .before in
+    let e = c .before in
     let t = e .before .before .before .before in
     let a = t .before .before .before .before .args in
-    both-asked (now (a .case)) (numberAt (a .previous .pressures)) (now (a .row)) (a .i) (nodes-yes t) (arcs-yes e) (c .or-else .ensures) (b .before .station-answers .ensures) (b .balance-answers .ensures)
+    let l = now (a .case) in
+    let r = now (a .row) in
+    arcs-passed l (numberAt (a .previous .pressures)) r (a .i) (nodeResiduals l r (a .i)) (nodes-yes t) (arcs-yes e) (c .past-arcs .ensures)
 
 returns-3 : tie.Need-returns-3
 returns-3 c =
-    let r = c .before .before in
-    let t = r .before .before in
+    let e = c .before in
+    let q = e .before .before in
+    let t = q .before .before in
     let a = t .before .before .before .before .args in
-    arcs-stop (now (a .case)) (numberAt (a .previous .pressures)) (now (a .row)) (a .i) (nodes-yes t) (r .arc-answers .ensures) (c .enum-told4 .given .1)
+    let l = now (a .case) in
+    let r = now (a .row) in
+    arcs-stop l (numberAt (a .previous .pressures)) r (a .i) (nodeResiduals l r (a .i)) (e .enum-told4 .given .1) (c .stopped2 .ensures) (nodes-yes t) (q .arc-answers .ensures)
 
 pub step-spec : {M : Type 1} → statement M
 step-spec =
@@ -99,13 +104,13 @@ step-spec =
     node-answers-requires
     enum-told
     enum-told-2
+    stopped-requires
     returns
     slice-aggregate-arc-answers
     arc-answers-requires
     enum-told-3
-    station-answers-requires
-    balance-answers-requires
-    or-else-requires
+    past-arcs-requires
     enum-told-4
+    stopped-requires-2
     returns-2
     returns-3)

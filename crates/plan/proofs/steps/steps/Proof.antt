@@ -1,5 +1,5 @@
 -- What was before step `i`, and the totals of the steps before it. Each turn and both ways out cite the laws of `Going`.
-use mathlib.Core.Path.{_≡_, sym, _∙_}
+use mathlib.Core.Path.{_≡_, refl, sym, _∙_}
 use Prim.Native.Nat.{ℕ, _-_, _+_, _*_, _<_}
 use native.Mathlib.Omega.{arith}
 use borrow.Author.Needs.{needs}
@@ -14,6 +14,8 @@ use Rattle.plan.specs.Handed.{AtStep}
 use Rattle.plan.specs.PlanLayout.{stepAt, stepWidth, stepRow}
 use Rattle.plan.specs.CaseFacts.{counted}
 use Rattle.plan.specs.Step.{stepQuestions}
+use Rattle.plan.specs.SteppedBy.{kept-yes, no-first}
+use Rattle.plan.specs.Totals.{nodeResiduals}
 use Rattle.plan.proofs.Going.{Going, going, held-sized, start-sized, part-within, part-is, width-is, kept, room, refused, went-on, finished}
 use Rattle.plan.proofs.steps.steps.Statement.{statement}
 use Rattle.plan.proofs.steps.steps.Tie as tie
@@ -44,10 +46,11 @@ step-length : (case : List ℤ) {n : ℕ} → n ≡ stepWidth case → 2 + steps
 unfolding stepAt
 step-length case e = rw e
 
--- every question of the step is answered yes
-step-yes : (e : tie.After-enum-told Inv-loop μ-loop) → let p = e .before .before .before in let l = p .before .before in
-    firstNo (stepQuestions (now (l .before .before .before .before .args .case)) (numberAt (l .loop .previous .pressures)) (now (p .part-of .result)) (l .loop .i)) ≡ Yes
-step-yes e = sym (e .before .before .step .ensures) ∙ e .enum-told .given .1
+-- every question of the step is answered yes, and what its nodes leave over is known
+step-yes : (e : tie.After-a Inv-loop μ-loop) → let p = e .before .before .before in let l = p .before .before in
+    (firstNo (stepQuestions (now (l .before .before .before .before .args .case)) (numberAt (l .loop .previous .pressures)) (now (p .part-of .result)) (l .loop .i)) ≡ Yes)
+    × (e .a .given .0 .0 ≡ nodeResiduals (now (l .before .before .before .before .args .case)) (now (p .part-of .result)) (l .loop .i))
+step-yes e = kept-yes _ (e .before .before .step .ensures) (e .a .given .1)
 
 step-width-requires : tie.Need-step-width-requires Inv-loop μ-loop
 step-width-requires c κs = let d = c .pre .1 in let k = counted (c .pre .0) in (omega (arith, d .nodes, k .nodes), omega (arith, d .arcs, k .arcs), omega (arith, d .stations, k .stations))
@@ -80,47 +83,49 @@ part-of-requires c κs =
 step-requires : tie.Need-step-requires Inv-loop μ-loop
 step-requires c κs = (at-step (c .before), c .before .before .loop .inv .pressures)
 
-enum-told : tie.Need-enum-told Inv-loop μ-loop
-enum-told c = search needs
-
 enum-known-a : tie.Need-enum-known-a Inv-loop μ-loop
 enum-known-a c = search needs
+
+added-requires : tie.Need-added-requires Inv-loop μ-loop
+added-requires c κs =
+    let p = c .before .before .before .before in
+    let t = p .before in
+    let s = t .before .before .before .before .before in
+    (at-step t, kept (s .pre .0) (t .before .loop .inv) (within t) (row-is p) (step-yes (c .before) .0), room (s .pre .0) (t .before .loop .inv) (within t) (row-is p), step-yes (c .before) .1)
+
+after-requires : tie.Need-after-requires Inv-loop μ-loop
+after-requires c κs =
+    let s = c .before .before .before .before .before .before .before .before .before .before .before in
+    (counted (s .pre .0), s .pre .1)
+
+enum-known-a-2 : tie.Need-enum-known-a-2 Inv-loop μ-loop
+enum-known-a-2 c = search needs
 
 returns : tie.Need-returns Inv-loop μ-loop
 returns c =
     let p = c .before .before .before .before in
     let t = p .before in
+    let l = t .before in
     let s = t .before .before .before .before .before in
-    refused (s .pre .0) (t .before .loop .inv) (within t) (row-is p) (c .before .before .before .step .ensures) (c .before .a .given .1)
-
-added-requires : tie.Need-added-requires Inv-loop μ-loop
-added-requires c κs =
-    let p = c .before .before .before in
-    let t = p .before in
-    let s = t .before .before .before .before .before in
-    (at-step t, kept (s .pre .0) (t .before .loop .inv) (within t) (row-is p) (step-yes c), room (s .pre .0) (t .before .loop .inv) (within t) (row-is p))
-
-after-requires : tie.Need-after-requires Inv-loop μ-loop
-after-requires c κs =
-    let s = c .before .before .before .before .before .before .before .before .before .before in
-    (counted (s .pre .0), s .pre .1)
+    let m = nodeResiduals (now (s .args .case)) (now (p .part-of .result)) (l .loop .i) in
+    refused (s .pre .0) (l .loop .inv) (within t) (row-is p) refl (no-first _ m (c .before .before .before .step .ensures) (c .before .a2 .given .1))
 
 add-i : tie.Need-add-i Inv-loop μ-loop
 add-i c =
-    let t = c .before .before .before .before .before .before in
+    let t = c .before .before .before .before .before .before .before in
     omega (arith, within t, counted (t .before .before .before .before .before .pre .0) .steps)
 
 loop-less : tie.Need-loop-less Inv-loop μ-loop
-loop-less c = omega (arith, c .before .before .before .before .before .before .loop-test .taken)
+loop-less c = omega (arith, c .before .before .before .before .before .before .before .loop-test .taken)
 
 loop-again : tie.Need-loop-again Inv-loop μ-loop
 loop-again c =
     let b = c .before in
-    let e = b .before in
+    let e = b .before .before in
     let p = e .before .before .before in
     let t = p .before in
     let s = t .before .before .before .before .before in
-    went-on (s .pre .0) (t .before .loop .inv) (within t) (row-is p) (step-yes e) (b .added .ensures) (c .after .ensures)
+    went-on (s .pre .0) (t .before .loop .inv) (within t) (row-is p) (step-yes e .0) (b .added .ensures) (c .after .ensures)
 
 closed-requires : tie.Need-closed-requires Inv-loop μ-loop
 closed-requires c κs =
@@ -145,11 +150,11 @@ steps-spec =
     loop-holds
     part-of-requires
     step-requires
-    enum-told
     enum-known-a
-    returns
     added-requires
     after-requires
+    enum-known-a-2
+    returns
     add-i
     loop-less
     loop-again

@@ -30,16 +30,9 @@ slice-aggregate-pipe-residuals c = let s = c .before .before .before .before .be
 pipe-residuals-requires : tie.Need-pipe-residuals-requires
 pipe-residuals-requires c κs = search needs
 
-slice-aggregate-node-residuals : tie.Need-slice-aggregate-node-residuals
-slice-aggregate-node-residuals c = let s = c .before .before .before .before .before .before .before .before .before .before in sym (simp length-map at (s .good .1 .1 .1 .0 .1 .1 .0 .1 .0 .1))
-
-node-residuals-requires : tie.Need-node-residuals-requires
-node-residuals-requires c κs = search needs
-
-add-t20 : tie.Need-add-t20
-add-t20 c =
-    let w = c .before .before .before .before in
-    let p = w .before .before in
+add-t18 : tie.Need-add-t18
+add-t18 c =
+    let p = c .before .before .before .before in
     let a = p .before .before in
     let d = a .before in
     let g = d .before .before .before .before in
@@ -53,10 +46,9 @@ add-t20 c =
     let m = got refl (s .pre .2 .pressure) tt +ʳ got (g .slacks-of .ensures .pressure) (pressure-slack-sized r y (k .rows)) tt in
     held-fits m tt
 
-add-t21 : tie.Need-add-t21
-add-t21 c =
-    let w = c .before .before .before .before .before .before .before .before in
-    let p = w .before .before in
+add-t19 : tie.Need-add-t19
+add-t19 c =
+    let p = c .before .before .before .before .before .before .before .before in
     let a = p .before .before in
     let d = a .before in
     let g = d .before .before .before .before in
@@ -70,10 +62,9 @@ add-t21 c =
     let m = got refl (s .pre .2 .demand) tt +ʳ got (g .slacks-of .ensures .demand) (demand-slack-sized r y (k .rows)) tt in
     held-fits m tt
 
-add-t22 : tie.Need-add-t22
-add-t22 c =
-    let w = c .before .before .before .before .before .before .before .before in
-    let p = w .before .before in
+add-t20 : tie.Need-add-t20
+add-t20 c =
+    let p = c .before .before .before .before .before .before .before .before in
     let a = p .before .before in
     let d = a .before in
     let g = d .before .before .before .before in
@@ -88,10 +79,9 @@ add-t22 c =
     let v = activity-costs-le r y (activeOf (x .active)) in
     omega (arith, d .choice-costs .ensures, a .activity-costs .ensures, u, v)
 
-add-t23 : tie.Need-add-t23
-add-t23 c =
-    let w = c .before .before .before .before .before .before .before .before .before in
-    let p = w .before .before in
+add-t21 : tie.Need-add-t21
+add-t21 c =
+    let p = c .before .before .before .before .before .before .before .before .before in
     let a = p .before .before in
     let d = a .before in
     let g = d .before .before .before .before in
@@ -106,10 +96,9 @@ add-t23 c =
     let v = activity-costs-le r y (activeOf (x .active)) in
     omega (arith, d .choice-costs .ensures, a .activity-costs .ensures, u, v, s .pre .2 .switching)
 
-add-t24 : tie.Need-add-t24
-add-t24 c =
-    let w = c .before .before .before .before .before .before .before .before .before in
-    let p = w .before .before in
+add-t22 : tie.Need-add-t22
+add-t22 c =
+    let p = c .before .before .before .before .before .before .before .before .before in
     let a = p .before .before in
     let d = a .before in
     let g = d .before .before .before .before in
@@ -122,12 +111,11 @@ add-t24 c =
     let k = s .pre .1 in
     let u = pipe-residuals-le r y k in
     let v = node-residuals-le r y k in
-    omega (arith, p .pipe-residuals .ensures, w .node-residuals .ensures, u, v)
+    omega (arith, p .pipe-residuals .ensures, s .pre .3, u, v)
 
-add-t25 : tie.Need-add-t25
-add-t25 c =
-    let w = c .before .before .before .before .before .before .before .before .before .before in
-    let p = w .before .before in
+add-t23 : tie.Need-add-t23
+add-t23 c =
+    let p = c .before .before .before .before .before .before .before .before .before .before in
     let a = p .before .before in
     let d = a .before in
     let g = d .before .before .before .before in
@@ -140,12 +128,11 @@ add-t25 c =
     let k = s .pre .1 in
     let u = pipe-residuals-le r y k in
     let v = node-residuals-le r y k in
-    omega (arith, p .pipe-residuals .ensures, w .node-residuals .ensures, u, v, s .pre .2 .residual)
+    omega (arith, p .pipe-residuals .ensures, s .pre .3, u, v, s .pre .2 .residual)
 
 returns : tie.Need-returns
 returns c =
-    let w = c .before .before .before .before .before .before .before .before .before .before .before in
-    let p = w .before .before in
+    let p = c .before .before .before .before .before .before .before .before .before .before .before in
     let a = p .before .before in
     let d = a .before in
     let g = d .before .before .before .before in
@@ -162,7 +149,7 @@ returns c =
       pressure = held m tt .val;
       demand = held n tt .val;
       switching = ap (λ (z : ℕ). t .switching + (z + a .activity-costs .result)) (d .choice-costs .ensures) ∙ ap (λ (z : ℕ). t .switching + (choiceCosts l (indexOf (x .directions)) (indexOf (x .states)) r + z)) (a .activity-costs .ensures);
-      residual = ap (λ (z : ℕ). t .residual + (z + w .node-residuals .result)) (p .pipe-residuals .ensures) ∙ ap (λ (z : ℕ). t .residual + (pipeResiduals l (numberAt (x .pressures)) r (s .args .i) + z)) (w .node-residuals .ensures);
+      residual = ap (λ (z : ℕ). t .residual + (z + s .args .nodes)) (p .pipe-residuals .ensures) ∙ ap (λ (z : ℕ). t .residual + (pipeResiduals l (numberAt (x .pressures)) r (s .args .i) + z)) (s .pre .3);
       opening = kept _ (c .struct-told5 .given .1 .1 .1 .1 .0 .1);
     }
 
@@ -175,12 +162,10 @@ added-spec =
     activity-costs-requires
     slice-aggregate-pipe-residuals
     pipe-residuals-requires
-    slice-aggregate-node-residuals
-    node-residuals-requires
+    add-t18
+    add-t19
     add-t20
     add-t21
     add-t22
     add-t23
-    add-t24
-    add-t25
     returns)

@@ -1,6 +1,7 @@
 use mathlib.Core.Path.{_≡_, refl, sym, ap, _∙_}
 use mathlib.Core.Bool.{Bool}
-use Prim.Native.Nat.{_≤_, _<_, _-_, _+_}
+use Prim.Native.Nat.{ℕ, _≤_, _<_, _-_, _+_}
+use native.Mathlib.Nat.{mul-le-mul-right}
 use native.Mathlib.Omega.{arith}
 use borrow.Author.Needs.{needs}
 use borrow.Author.Tests.{not-true, not-false}
@@ -12,20 +13,26 @@ use mir.Syntax.{w64}
 use mir.Val.{toZ, ofZ}
 use Rattle.numbers.specs.Items.{rest, rest-on, rest-no, rest-end}
 use Rattle.numbers.specs.Question.{firstNo, answer}
+use Rattle.numbers.specs.Sum.{sumN}
+use Rattle.numbers.specs.declared.answer.Answer.{Answer}
 use Rattle.case.specs.Layout.{nodesOf}
-use Rattle.plan.specs.Balance.{balanceQuestions, allBalanceQuestions}
+use Rattle.plan.specs.Balance.{nodeResidual, balanceQuestions, allBalanceQuestions}
+use Rattle.plan.specs.Totals.{nodeResiduals}
+use Rattle.plan.specs.declared.stepped.Stepped.the-variants.{Kept}
+use Rattle.plan.specs.SteppedBy.{steppedBy}
 use Rattle.plan.specs.Handed.{AtBalance}
 use Rattle.plan.specs.CaseFacts.{counted, mass-sized}
+use Rattle.plan.proofs.Adding.{Counting, startN, turnN, endN}
 use Rattle.plan.proofs.NetFlows.{read}
 use Rattle.plan.proofs.NodeParts.{net-sized, residual-sized, balance-asked}
-use Rattle.plan.proofs.balance.balance_answers.Statement.{statement}
-use Rattle.plan.proofs.balance.balance_answers.Tie as tie
+use Rattle.plan.proofs.balance.balance.Statement.{statement}
+use Rattle.plan.proofs.balance.balance.Tie as tie
 
 abbrev Inv-loop : tie.InvT-loop
-Inv-loop case row i nodes most net v₀ v = (v ≤ nodes) × (firstNo (allBalanceQuestions case row i) ≡ rest (balanceQuestions case row i) v nodes)
+Inv-loop case row i nodes most net sum₀ v₀ sum v = (nodes ≤ 60) × Counting sum (nodeResidual case row i) 415584000000000 nodes v × (firstNo (allBalanceQuestions case row i) ≡ rest (balanceQuestions case row i) v nodes)
 
 abbrev μ-loop : tie.MeasureT-loop
-μ-loop case row i nodes most net v₀ v = nodes - v
+μ-loop case row i nodes most net sum₀ v₀ sum v = nodes - v
 
 node-in : (c : tie.In-loop Inv-loop μ-loop) → c .before .loop .v < nodesOf (now (c .before .before .before .before .args .case))
 node-in c = rw (← (c .before .before .before .before .pre .0 .laid .nodes)) (c .loop-test .taken)
@@ -59,7 +66,7 @@ unfolding allBalanceQuestions
 loop-holds c =
     let s = c .before .before in
     let e : s .args .layout .nodes - 0 ≡ nodesOf (now (s .args .case)) = omega (arith, s .pre .0 .laid .nodes) in
-    (omega arith, rw e)
+    (omega (arith, counted (s .pre .0 .accepted) .nodes, s .pre .0 .laid .nodes), startN, rw e)
 
 mul-node-residual : tie.Need-mul-node-residual Inv-loop μ-loop
 mul-node-residual c = omega (arith, node-in c, counted (c .before .before .before .before .pre .0 .accepted) .nodes)
@@ -94,8 +101,8 @@ question c k =
     (c .at-most .ensures)
     k
 
-add-t17 : tie.Need-add-t17 Inv-loop μ-loop
-add-t17 c = let s = c .before .before .before .before .before .before .before .before in omega (arith, s .pre .0 .step, counted (s .pre .0 .accepted) .steps)
+add-t18 : tie.Need-add-t18 Inv-loop μ-loop
+add-t18 c = let s = c .before .before .before .before .before .before .before .before in omega (arith, s .pre .0 .step, counted (s .pre .0 .accepted) .steps)
 
 returns : tie.Need-returns Inv-loop μ-loop
 returns c =
@@ -103,7 +110,16 @@ returns c =
     let t = b .before .before .before in
     let h = t .before in
     let s = h .before .before .before in
-    sym (rest-no (balanceQuestions (now (s .args .case)) (now (s .args .row)) (s .args .i)) (h .loop .v) (s .args .layout .nodes) (h .loop .inv .1) (t .loop-test .taken) (question b (not-true _ (c .if1 .taken))) refl)
+    ap (λ (x : Answer). steppedBy x (nodeResiduals (now (s .args .case)) (now (s .args .row)) (s .args .i)))
+    (sym (rest-no (balanceQuestions (now (s .args .case)) (now (s .args .row)) (s .args .i)) (h .loop .v) (s .args .layout .nodes) (h .loop .inv .2) (t .loop-test .taken) (question b (not-true _ (c .if1 .taken))) refl))
+
+add-sum : tie.Need-add-sum Inv-loop μ-loop
+add-sum c =
+    let d = c .before .before in
+    let t = d .before .before in
+    let h = t .before in
+    let l = mul-le-mul-right {m = h .loop .v} {n = 60} 415584000000000 (omega (arith, h .loop .inv .0, h .loop .inv .1 .at)) in
+    omega (arith, h .loop .inv .1 .small, small d, l)
 
 add-v : tie.Need-add-v Inv-loop μ-loop
 add-v c = omega arith
@@ -117,16 +133,24 @@ loop-again c =
     let t = b .before .before .before in
     let h = t .before in
     let s = h .before .before .before in
-    (omega arith, rest-on (balanceQuestions (now (s .args .case)) (now (s .args .row)) (s .args .i)) (h .loop .v) (s .args .layout .nodes) (h .loop .inv .1) (t .loop-test .taken) (question b (not-false _ (c .if1 .left))) refl)
+    let d = b .before in (
+      h .loop .inv .0,
+      turnN (h .loop .inv .1) (d .node-residual .ensures) (small d) (t .loop-test .taken),
+      rest-on (balanceQuestions (now (s .args .case)) (now (s .args .row)) (s .args .i)) (h .loop .v) (s .args .layout .nodes) (h .loop .inv .2) (t .loop-test .taken) (question b (not-false _ (c .if1 .left))) refl,
+    )
 
 returns-2 : tie.Need-returns-2 Inv-loop μ-loop
+unfolding nodeResiduals
 returns-2 c =
     let h = c .before in
     let s = h .before .before .before in
-    sym (rest-end (balanceQuestions (now (s .args .case)) (now (s .args .row)) (s .args .i)) (h .loop .v) (s .args .layout .nodes) (h .loop .inv .1) (c .loop-test .left))
+    let f = nodeResidual (now (s .args .case)) (now (s .args .row)) (s .args .i) in
+    let e = endN (h .loop .inv .1) (c .loop-test .left) ∙ ap (λ (n : ℕ). sumN n f) (s .pre .0 .laid .nodes) in
+    ap Kept e
+    ∙ ap (λ (x : Answer). steppedBy x (sumN (nodesOf (now (s .args .case))) f)) (sym (rest-end (balanceQuestions (now (s .args .case)) (now (s .args .row)) (s .args .i)) (h .loop .v) (s .args .layout .nodes) (h .loop .inv .2) (c .loop-test .left)))
 
-pub balance-answers-spec : {M : Type 1} → statement M
-balance-answers-spec =
+pub balance-spec : {M : Type 1} → statement M
+balance-spec =
     tie.close
     (tie.spec
     Inv-loop
@@ -139,8 +163,9 @@ balance-answers-spec =
     node-residual-requires
     cast-at-most
     at-most-requires
-    add-t17
+    add-t18
     returns
+    add-sum
     add-v
     loop-less
     loop-again

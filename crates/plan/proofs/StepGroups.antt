@@ -1,0 +1,48 @@
+-- The questions of one step, group after group, over plain lists.
+-- Assumes nothing.
+use mathlib.Core.Path.{_≡_, sym, _∙_}
+use mathlib.Core.List.{List, _++_}
+use Prim.Native.Nat.{ℕ}
+use lib.IntN.{ℤ}
+use Rattle.numbers.specs.Question.{firstNo, firstNo-append, orElse}
+use Rattle.numbers.specs.declared.answer.Answer.{Answer}
+use Rattle.numbers.specs.declared.answer.Answer.the-variants.{Yes, No}
+use Rattle.plan.specs.NodeRules.{allNodeQuestions}
+use Rattle.plan.specs.ArcRules.{allArcQuestions}
+use Rattle.plan.specs.StationRules.{allStationQuestions}
+use Rattle.plan.specs.Balance.{allBalanceQuestions}
+use Rattle.plan.specs.Step.{stepQuestions}
+use Rattle.plan.specs.declared.stepped.Stepped.{Stepped}
+use Rattle.plan.specs.SteppedBy.{steppedBy}
+
+module _ (case : List ℤ) (old : ℕ → ℤ) (row : List ℤ) (i : ℕ) where
+  step-is : firstNo (stepQuestions case old row i)
+      ≡ orElse (firstNo (allNodeQuestions case row i)) (orElse (firstNo (allArcQuestions case old row i)) (orElse (firstNo (allStationQuestions case row i)) (firstNo (allBalanceQuestions case row i))))
+  unfolding stepQuestions
+  step-is =
+      let n = allNodeQuestions case row i in
+      let a = allArcQuestions case old row i in
+      let s = allStationQuestions case row i in
+      let b = allBalanceQuestions case row i in
+      rw (firstNo-append n (a ++ (s ++ b)), firstNo-append a (s ++ b), firstNo-append s b)
+
+  module _ (m : ℕ) {x : Answer} {n s p : ℕ} {r : Stepped} (h : x ≡ No n s p) (k : r ≡ steppedBy x 0) where
+    pub nodes-stop : x ≡ firstNo (allNodeQuestions case row i) → r ≡ steppedBy (firstNo (stepQuestions case old row i)) m
+    nodes-stop e = k ∙ rw (h, step-is, sym e ∙ h)
+
+    pub arcs-stop : firstNo (allNodeQuestions case row i) ≡ Yes → x ≡ firstNo (allArcQuestions case old row i) → r ≡ steppedBy (firstNo (stepQuestions case old row i)) m
+    arcs-stop y e = k ∙ rw (h, step-is, y, sym e ∙ h)
+
+  module _ (m : ℕ) {r : Stepped} where
+    pub arcs-passed : firstNo (allNodeQuestions case row i) ≡ Yes → firstNo (allArcQuestions case old row i) ≡ Yes
+        → r ≡ steppedBy (firstNo (allStationQuestions case row i ++ allBalanceQuestions case row i)) m → r ≡ steppedBy (firstNo (stepQuestions case old row i)) m
+    arcs-passed n a e = e ∙ rw (step-is, n, a, firstNo-append (allStationQuestions case row i) (allBalanceQuestions case row i))
+
+-- the stations, and then the balance
+module _ (case row : List ℤ) (i m : ℕ) {r : Stepped} where
+  pub stations-stop : {x : Answer} {n s p : ℕ} → x ≡ No n s p → r ≡ steppedBy x 0 → x ≡ firstNo (allStationQuestions case row i) → r ≡ steppedBy (firstNo (allStationQuestions case row i ++ allBalanceQuestions case row i)) m
+  stations-stop h k e = k ∙ rw (h, firstNo-append (allStationQuestions case row i) (allBalanceQuestions case row i), sym e ∙ h)
+
+  pub stations-passed : firstNo (allStationQuestions case row i) ≡ Yes → r ≡ steppedBy (firstNo (allBalanceQuestions case row i)) m
+      → r ≡ steppedBy (firstNo (allStationQuestions case row i ++ allBalanceQuestions case row i)) m
+  stations-passed y e = e ∙ rw (firstNo-append (allStationQuestions case row i) (allBalanceQuestions case row i), y)

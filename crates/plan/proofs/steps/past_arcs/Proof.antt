@@ -1,0 +1,52 @@
+use mathlib.Core.Path.{sym, _∙_}
+use borrow.Author.Needs.{needs}
+use denote.Ref.{now}
+use Rattle.plan.specs.Totals.{nodeResiduals}
+use Rattle.plan.proofs.StepGroups.{stations-stop, stations-passed}
+use Rattle.plan.proofs.steps.past_arcs.Statement.{statement}
+use Rattle.plan.proofs.steps.past_arcs.Tie as tie
+
+station-answers-requires : tie.Need-station-answers-requires
+station-answers-requires c κs = (c .pre .0, c .pre .1, c .pre .3)
+
+enum-told : tie.Need-enum-told
+enum-told c = search needs
+
+balance-requires : tie.Need-balance-requires
+balance-requires c κs = search needs
+
+enum-told-2 : tie.Need-enum-told-2
+enum-told-2 c = search needs
+
+stopped-requires : tie.Need-stopped-requires
+stopped-requires c κs = search needs
+
+returns : tie.Need-returns
+returns c =
+    let e = c .before in
+    let n = e .before .before in
+    let a = n .before .args in
+    let l = now (a .case) in
+    let r = now (a .row) in
+    stations-passed l r (a .i) (nodeResiduals l r (a .i)) (sym (n .station-answers .ensures) ∙ e .enum-told .given .1) (c .balance .ensures)
+
+returns-2 : tie.Need-returns-2
+returns-2 c =
+    let e = c .before in
+    let n = e .before .before in
+    let a = n .before .args in
+    let l = now (a .case) in
+    let r = now (a .row) in
+    stations-stop l r (a .i) (nodeResiduals l r (a .i)) (e .enum-told2 .given .1) (c .stopped .ensures) (n .station-answers .ensures)
+
+pub past-arcs-spec : {M : Type 1} → statement M
+past-arcs-spec =
+    tie.close
+    (tie.spec
+    station-answers-requires
+    enum-told
+    balance-requires
+    enum-told-2
+    stopped-requires
+    returns
+    returns-2)
