@@ -18,10 +18,10 @@ pub mod States
 pub mod CountLaws
 pub mod SetLaws
 pub mod Judged
-pub mod LaidOut
 pub mod Bounds
 pub mod Passed
 pub mod Laid
+pub mod LaidOut
 pub mod LaidLaws
 pub mod Ranges
 pub mod Accepted

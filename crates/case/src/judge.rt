@@ -19,6 +19,7 @@ use super::offsets::ARC;
 use super::offsets::HEAD;
 use super::offsets::NODE;
 use super::offsets::count;
+use super::records::Laying;
 use super::records::Layout;
 use super::rules::rules;
 use super::stations::station_end;
@@ -116,40 +117,41 @@ fn lay(case: &[i64]) -> Layout
     }
 }
 
-// The answer on a case: yes, or the number, the step and the place of the first "no".
-pub fn judge_case(case: &[i64]) -> Answer
-    ensures { λ r. ⌜ told r ≡ judgedCase (now (case .entry)) ⌝ }
-{
-    let a = list_answer(case);
-    match a {
-        Answer::Yes => rules(case, lay(case)),
-        Answer::No {
-            number: _,
-            step: _,
-            place: _,
-        } => a,
-    }
-}
-
-// The layout of a case, and one of zeros of a list that 10 to 12 refuse: nobody reads on there.
-pub fn layout(case: &[i64]) -> Layout
+// The answer on a case with its layout, one of zeros where 10 to 12 refuse the list: nobody reads on there.
+pub fn judge_and_lay(case: &[i64]) -> Laying
     ensures { λ r. ⌜ LaidOut (now (case .entry)) r ⌝ }
 {
     let a = list_answer(case);
     match a {
-        Answer::Yes => lay(case),
+        Answer::Yes => {
+            let layout = lay(case);
+            Laying {
+                answer: rules(case, layout),
+                layout: layout,
+            }
+        }
         Answer::No {
             number: _,
             step: _,
             place: _,
-        } => Layout {
-            steps: 0,
-            nodes: 0,
-            arcs: 0,
-            stations: 0,
-            rows: [0; 8],
-            inside: [0; 8],
-            plain: 0,
+        } => Laying {
+            answer: a,
+            layout: Layout {
+                steps: 0,
+                nodes: 0,
+                arcs: 0,
+                stations: 0,
+                rows: [0; 8],
+                inside: [0; 8],
+                plain: 0,
+            },
         },
     }
+}
+
+// The answer on a case: yes, or the number, the step and the place of the first "no".
+pub fn judge_case(case: &[i64]) -> Answer
+    ensures { λ r. ⌜ told r ≡ judgedCase (now (case .entry)) ⌝ }
+{
+    judge_and_lay(case).answer
 }

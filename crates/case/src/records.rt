@@ -1,4 +1,5 @@
 // Nodes, arcs and stations as records by value; read.rt reads them off the list.
+use numbers::answer::Answer;
 
 // A node, with its bounds and its demand in one step.
 pub struct Node {
@@ -73,4 +74,10 @@ pub struct Layout {
     pub rows: [usize; 8], // where each station's rows begin
     pub inside: [i64; 8], // each station's nodes, a node set
     pub plain: i64, // the nodes that end an arc of kind 0 to 2, a node set
+}
+
+// The answer on a case, and its layout where that is yes.
+pub struct Laying {
+    pub answer: Answer,
+    pub layout: Layout,
 }

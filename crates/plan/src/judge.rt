@@ -13,8 +13,7 @@ ghost use Rattle.plan.specs.Handed.{AcceptedCase};
 use super::steps::step_width;
 use super::steps::steps;
 use super::verdict::Verdict;
-use case::judge::judge_case;
-use case::judge::layout;
+use case::judge::judge_and_lay;
 use case::records::Layout;
 use numbers::answer::Answer;
 use numbers::compare::at;
@@ -37,13 +36,12 @@ fn head_kept(case: &[i64], plan: &[i64], layout: Layout) -> bool
 }
 
 // The verdict on a plan for a case that has been accepted.
-fn judge_plan(case: &[i64], plan: &[i64]) -> Verdict
-    requires { ⌜ AcceptedCase (now case) ⌝ }
+fn judge_plan(case: &[i64], plan: &[i64], layout: Layout) -> Verdict
+    requires { ⌜ (AcceptedCase (now case)) × (Laid (now case) layout) ⌝ }
     ensures { λ r. ⌜ r ≡ verdictOf (firstNo (planQuestions (now (case .entry)) (now (plan .entry)))) (totalsOf (now (case .entry)) (now (plan .entry))) ⌝ }
 {
-    let found = layout(case);
-    if head_kept(case, plan, found) {
-        steps(case, plan, found)
+    if head_kept(case, plan, layout) {
+        steps(case, plan, layout)
     } else {
         Verdict::Refused {
             number: 20,
@@ -57,9 +55,10 @@ fn judge_plan(case: &[i64], plan: &[i64]) -> Verdict
 pub fn judge(case: &[i64], plan: &[i64]) -> Verdict
     ensures { λ r. ⌜ verdictTold r ≡ judgeOf (now (case .entry)) (now (plan .entry)) ⌝ }
 {
-    let a = judge_case(case);
+    let found = judge_and_lay(case);
+    let a = found.answer;
     match a {
-        Answer::Yes => judge_plan(case, plan),
+        Answer::Yes => judge_plan(case, plan, found.layout),
         Answer::No {
             number,
             step,
@@ -84,14 +83,14 @@ fn plan_number(number: usize) -> usize
 }
 
 // The plan bytes, for a case that has been accepted.
-fn judge_plan_bytes(case: &[i64], planbytes: &[u8], planlist: &mut [i64]) -> Verdict
-    requires { ⌜ AcceptedCase (now case) ⌝ }
+fn judge_plan_bytes(case: &[i64], layout: Layout, planbytes: &[u8], planlist: &mut [i64]) -> Verdict
+    requires { ⌜ (AcceptedCase (now case)) × (Laid (now case) layout) ⌝ }
     ensures { λ r. ⌜ verdictTold r ≡ planBytesTold (now (case .entry)) (now (planbytes .entry)) (length (now (planlist .entry))) ⌝ }
     ensures { λ _. ⌜ now (planlist .exit) ≡ overlay (readOf (now (planbytes .entry)) (length (now (planlist .entry))) .stored) (now (planlist .entry)) ⌝ }
 {
     let got = read(planbytes, planlist);
     match got {
-        Reading::Count(count) => judge_plan(case, &planlist[..count]),
+        Reading::Count(count) => judge_plan(case, &planlist[..count], layout),
         Reading::Refused { number, place } => Verdict::Refused {
             number: plan_number(number),
             step: 0,
@@ -105,9 +104,10 @@ fn judge_case_list(case: &[i64], planbytes: &[u8], planlist: &mut [i64]) -> Verd
     ensures { λ r. ⌜ verdictTold r ≡ caseBytesTold (now (case .entry)) (now (planbytes .entry)) (length (now (planlist .entry))) ⌝ }
     ensures { λ _. ⌜ now (planlist .exit) ≡ planListAfter (now (case .entry)) (now (planbytes .entry)) (now (planlist .entry)) ⌝ }
 {
-    let a = judge_case(case);
+    let found = judge_and_lay(case);
+    let a = found.answer;
     match a {
-        Answer::Yes => judge_plan_bytes(case, planbytes, planlist),
+        Answer::Yes => judge_plan_bytes(case, found.layout, planbytes, planlist),
         Answer::No {
             number,
             step,

@@ -1,12 +1,14 @@
 use mathlib.Core.Path.{_∙_}
 use denote.Ref.{now}
 use borrow.Author.Needs.{needs}
+use Rattle.plan.specs.Handed.{AcceptedCase}
+use Rattle.plan.specs.CaseFacts.{list-yes}
 use Rattle.plan.specs.Verdicts.{case-answer, judge-yes, judge-no}
 use Rattle.plan.proofs.judge.judge.Statement.{statement}
 use Rattle.plan.proofs.judge.judge.Tie as tie
 
-judge-case-requires : tie.Need-judge-case-requires
-judge-case-requires c κs = search needs
+judge-and-lay-requires : tie.Need-judge-and-lay-requires
+judge-and-lay-requires c κs = search needs
 
 enum-told : tie.Need-enum-told
 enum-told c = search needs
@@ -14,7 +16,8 @@ enum-told c = search needs
 judge-plan-requires : tie.Need-judge-plan-requires
 judge-plan-requires c κs =
     let j = c .before .before in
-    record { yes = case-answer (now (j .before .args .case)) (j .judge-case .result) (j .judge-case .ensures) ∙ c .enum-told .given .1 }
+    let k : AcceptedCase (now (j .before .args .case)) = record { yes = case-answer (now (j .before .args .case)) (j .judge-and-lay .result .answer) (j .judge-and-lay .ensures .told-is) ∙ c .enum-told .given .1 } in
+    (k, j .judge-and-lay .ensures .passed (list-yes k))
 
 enum-known-a : tie.Need-enum-known-a
 enum-known-a c = search needs
@@ -24,16 +27,16 @@ returns c =
     let e = c .before in
     let j = e .before .before in
     judge-yes (now (j .before .args .case)) (now (j .before .args .plan))
-    (case-answer (now (j .before .args .case)) (j .judge-case .result) (j .judge-case .ensures) ∙ e .enum-told .given .1) (c .judge-plan .ensures)
+    (case-answer (now (j .before .args .case)) (j .judge-and-lay .result .answer) (j .judge-and-lay .ensures .told-is) ∙ e .enum-told .given .1) (c .judge-plan .ensures)
 
 returns-2 : tie.Need-returns-2
 returns-2 c =
     let a = c .before in
     let j = a .before .before in
     judge-no (now (j .before .args .case)) (now (j .before .args .plan))
-    (case-answer (now (j .before .args .case)) (j .judge-case .result) (j .judge-case .ensures) ∙ a .a .given .1)
+    (case-answer (now (j .before .args .case)) (j .judge-and-lay .result .answer) (j .judge-and-lay .ensures .told-is) ∙ a .a .given .1)
 
 pub judge-spec : {M : Type 1} → statement M
 judge-spec =
     tie.close
-    (tie.spec judge-case-requires enum-told judge-plan-requires enum-known-a returns returns-2)
+    (tie.spec judge-and-lay-requires enum-told judge-plan-requires enum-known-a returns returns-2)

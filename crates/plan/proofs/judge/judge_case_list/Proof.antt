@@ -1,12 +1,14 @@
 use mathlib.Core.Path.{_∙_}
 use borrow.Author.Needs.{needs}
 use denote.Ref.{now}
+use Rattle.plan.specs.Handed.{AcceptedCase}
+use Rattle.plan.specs.CaseFacts.{list-yes}
 use Rattle.plan.specs.Verdicts.{case-answer, case-passed, list-reached, case-stopped}
 use Rattle.plan.proofs.judge.judge_case_list.Statement.{statement}
 use Rattle.plan.proofs.judge.judge_case_list.Tie as tie
 
-judge-case-requires : tie.Need-judge-case-requires
-judge-case-requires c κs = search needs
+judge-and-lay-requires : tie.Need-judge-and-lay-requires
+judge-and-lay-requires c κs = search needs
 
 enum-told : tie.Need-enum-told
 enum-told c = search needs
@@ -15,7 +17,8 @@ judge-plan-bytes-requires : tie.Need-judge-plan-bytes-requires
 judge-plan-bytes-requires c κs =
     let e = c .before in
     let j = e .before .before in
-    record { yes = case-answer (now (j .before .before .args .case)) (j .judge-case .result) (j .judge-case .ensures) ∙ e .enum-told .given .1 }
+    let k : AcceptedCase (now (j .before .before .args .case)) = record { yes = case-answer (now (j .before .before .args .case)) (j .judge-and-lay .result .answer) (j .judge-and-lay .ensures .told-is) ∙ e .enum-told .given .1 } in
+    (k, j .judge-and-lay .ensures .passed (list-yes k))
 
 enum-known-a : tie.Need-enum-known-a
 enum-known-a c = search needs
@@ -29,7 +32,7 @@ returns c =
     let e = b .before .before in
     let j = e .before .before in
     let a = j .before .before .args in
-    let y = case-answer (now (a .case)) (j .judge-case .result) (j .judge-case .ensures) ∙ e .enum-told .given .1 in (
+    let y = case-answer (now (a .case)) (j .judge-and-lay .result .answer) (j .judge-and-lay .ensures .told-is) ∙ e .enum-told .given .1 in (
       case-passed (now (a .case)) (now (a .planbytes)) (now (a .planlist)) y (b .judge-plan-bytes .ensures .0),
       list-reached (now (a .case)) (now (a .planbytes)) (now (a .planlist)) y (b .judge-plan-bytes .ensures .1),
     )
@@ -39,13 +42,13 @@ returns-2 c =
     let k = c .before in
     let j = k .before .before in
     let a = j .before .before .args in
-    case-stopped (now (a .case)) (now (a .planbytes)) (now (a .planlist)) (case-answer (now (a .case)) (j .judge-case .result) (j .judge-case .ensures) ∙ k .a .given .1)
+    case-stopped (now (a .case)) (now (a .planbytes)) (now (a .planlist)) (case-answer (now (a .case)) (j .judge-and-lay .result .answer) (j .judge-and-lay .ensures .told-is) ∙ k .a .given .1)
 
 pub judge-case-list-spec : {M : Type 1} → statement M
 judge-case-list-spec =
     tie.close
     (tie.spec
-    judge-case-requires
+    judge-and-lay-requires
     enum-told
     judge-plan-bytes-requires
     enum-known-a

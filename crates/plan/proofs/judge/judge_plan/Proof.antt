@@ -1,21 +1,16 @@
 use mathlib.Core.Path.{sym, _∙_}
 use borrow.Author.Needs.{needs}
-use Rattle.plan.specs.CaseFacts.{list-yes}
 use Rattle.plan.specs.Verdicts.{plan-laid, head-refused, head-passed}
 use Rattle.plan.proofs.judge.judge_plan.Statement.{statement}
 use Rattle.plan.proofs.judge.judge_plan.Tie as tie
 
-layout-requires : tie.Need-layout-requires
-layout-requires c κs = search needs
-
 head-kept-requires : tie.Need-head-kept-requires
-head-kept-requires c κs = (c .before .pre, c .layout .ensures .passed (list-yes (c .before .pre)))
+head-kept-requires c κs = search needs
 
 steps-requires : tie.Need-steps-requires
 steps-requires c κs =
-    let l = c .before .before in
-    let p = l .before .pre in
-    (p, l .layout .ensures .passed (list-yes p), plan-laid _ _ (sym (c .before .head-kept .ensures) ∙ c .if1 .taken))
+    let p = c .before .before .pre in
+    (p .0, p .1, plan-laid _ _ (sym (c .before .head-kept .ensures) ∙ c .if1 .taken))
 
 returns : tie.Need-returns
 returns c = head-passed _ _ (sym (c .before .before .head-kept .ensures) ∙ c .before .if1 .taken) (c .steps .ensures)
@@ -24,5 +19,4 @@ returns-2 : tie.Need-returns-2
 returns-2 c = head-refused _ _ (sym (c .before .head-kept .ensures) ∙ c .if1 .left)
 
 pub judge-plan-spec : {M : Type 1} → statement M
-judge-plan-spec =
-    tie.close (tie.spec layout-requires head-kept-requires steps-requires returns returns-2)
+judge-plan-spec = tie.close (tie.spec head-kept-requires steps-requires returns returns-2)

@@ -57,7 +57,7 @@ returns c =
     let s = d .before .before .before in
     let bytes = now (s .args .planbytes) in
     let old = now (s .args .planlist) in
-    (plan-read (now (s .args .case)) bytes (length old) (d .read .last .1 .0) (s .pre .yes) (front g) (read-front bytes (length old) old (d .read .last .1 .0) (front g) (d .read .ensures .1)) (c .judge-plan .ensures), d .read .ensures .1)
+    (plan-read (now (s .args .case)) bytes (length old) (d .read .last .1 .0) (s .pre .0 .yes) (front g) (read-front bytes (length old) old (d .read .last .1 .0) (front g) (d .read .ensures .1)) (c .judge-plan .ensures), d .read .ensures .1)
 
 same-length-2 : tie.Need-same-length-2
 same-length-2 c = search needs
