@@ -3,7 +3,7 @@
 -- Assumes nothing.
 use mathlib.Core.Path.{_≡_, refl, sym, ap, _∙_, subst}
 use mathlib.Core.Bool.{Bool, true, false, _&&_, cond}
-use mathlib.Core.List.{List, []}
+use mathlib.Core.List.{List, [], _++_}
 use Prim.Native.Nat.{ℕ, zero, suc, _+_, _*_, _<_, _≤_}
 use native.Mathlib.Omega.{arith}
 use borrow.Author.Tests.{leb-true, lt-leb, eqb-false, not-true, ne-eqb}
@@ -123,6 +123,11 @@ module _ (case : List ℤ) (e : Accepted case) where
   unfolding toleranceFields
   pressure-range = between (field-yes case 6 (pos 0) (pos 1000) (field-then case 5 (pos 0) (pos 1000000) _ tolerances .1))
 
+  -- the head is there
+  pub head-there : 6 < length case
+  unfolding toleranceFields
+  head-there = field-yes case 6 (pos 0) (pos 1000) (field-then case 5 (pos 0) (pos 1000000) _ tolerances .1) .there
+
   -- the case ends where its last field does
   pub case-length : length case ≤ caseEnd case
   unfolding leftover
@@ -183,6 +188,15 @@ module _ (case : List ℤ) (e : Accepted case) where
         acthigh-high = ah .most;
         demand = between (at (row + (6 + i)) d (omega arith));
       }
+
+  -- the row is there, up to the demand of the step with index i
+  pub node-there : (v i : ℕ) → v < nodesOf case → i < stepsOf case → nodeAt case v + (6 + i) < length case
+  unfolding allNodeFields nodeFields demandFields
+  node-there v i p q =
+      let row = nodeAt case v in
+      let y = item-yes (nodeFields case) (nodesOf case) (nodes-yes case list-yes) v p in
+      let d = fields-yes case (row + 6) (stepsOf case) (leastDemand (countAt case row)) (mostDemand (countAt case row)) (second-yes (boundFields case row) (demandFields case row) y) i q in
+      at (row + (6 + i)) d (omega arith) .there
 
   -- ---- arcs
 
@@ -274,6 +288,30 @@ module _ (case : List ℤ) (e : Accepted case) where
           let m = field-then case (row + 8) (pos 0) (pos 4095) _ y in
           let n = field-then case (row + 9) (pos 0) (pos 12) _ (m .1) in
           (between (m .0), count-most (n .0), between (field-yes case (row + 10) (pos 0) mostPressure (n .1)))
+
+  -- the row's last number is there, whatever the kind
+  pub arc-there : (a : ℕ) → a < arcsOf case → arcAt case a + 10 < length case
+  unfolding kindFields pipeFields compressorFields
+  arc-there a p = go (leb (countAt case (arcAt case a)) 1) (eqb (countAt case (arcAt case a)) 2) (leb (countAt case (arcAt case a)) 4) (arc-yes a p .1)
+    where
+      last-zero : firstNo (zeros case (arcAt case a + 8) 3) ≡ Yes → arcAt case a + 10 < length case
+      last-zero y = at (arcAt case a + 10) (fields-yes case (arcAt case a + 8) 3 (pos 0) (pos 0) y 2 (omega arith)) (omega arith) .there
+
+      go : (x y z : Bool)
+          → firstNo (cond x (zeros case (arcAt case a + 4) 7) (cond y (pipeFields case (arcAt case a)) (memberFields case (arcAt case a) ++ cond z (zeros case (arcAt case a + 8) 3) (compressorFields case (arcAt case a))))) ≡ Yes
+          → arcAt case a + 10 < length case
+      go true y z e = at (arcAt case a + 10) (fields-yes case (arcAt case a + 4) 7 (pos 0) (pos 0) e 6 (omega arith)) (omega arith) .there
+      go false true z e =
+          let row = arcAt case a in
+          let c = field-then case (row + 4) (pos 1) (pos 100000000) _ e in
+          let f = fields-then case (row + 5) 2 (pos 0) (pos 10000000) _ (c .1) in
+          last-zero (field-then case (row + 7) (negsuc 199999) (pos 200000) _ (f .1) .1)
+      go false false true e = last-zero (second-yes (memberFields case (arcAt case a)) _ e)
+      go false false false e =
+          let row = arcAt case a in
+          let m = field-then case (row + 8) (pos 0) (pos 4095) _ (second-yes (memberFields case row) _ e) in
+          let n = field-then case (row + 9) (pos 0) (pos 12) _ (m .1) in
+          field-yes case (row + 10) (pos 0) mostPressure (n .1) .there
 
   -- "shortcut: 1"
   pub shortcut-both-ways : (a : ℕ) → a < arcsOf case → arcOf case a .kind ≡ 3 → artificialOf case a .bothways ≡ 1
