@@ -1,6 +1,6 @@
 /* The gas plan checker, for programs in C.
  *
- * Link target/staticlib/libapi.a, which `rt staticlib api` proves and writes. What a case and a plan are, and what each
+ * Link target/staticlib/libgasplan.a, which `rt staticlib gasplan` proves and writes. What a case and a plan are, and what each
  * refusal number means, is in docs/RULES.md.
  *
  * All functions have this in common.

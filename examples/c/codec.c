@@ -1,6 +1,6 @@
 /* Numbers to bytes and back, and each answer that can come.
  *
- *     cc -std=c11 -I include examples/c/codec.c target/staticlib/libapi.a -o codec && ./codec */
+ *     cc -std=c11 -I include examples/c/codec.c target/staticlib/libgasplan.a -o codec && ./codec */
 #include <inttypes.h>
 #include <stdio.h>
 #include <string.h>

@@ -1,6 +1,6 @@
 //! Numbers to bytes and back, by the archive and nothing else.
 //!
-//!     rustc --edition 2024 examples/rust/codec.rs -L target/staticlib -l static=api && ./codec
+//!     rustc --edition 2024 examples/rust/codec.rs -L target/staticlib -l static=gasplan && ./codec
 
 use std::process::ExitCode;
 

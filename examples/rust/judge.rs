@@ -1,6 +1,6 @@
 //! Judges case.bin and plan.bin of a folder and, if they are accepted, prints the ledger of the whole network.
 //!
-//!     rustc --edition 2024 examples/rust/judge.rs -L target/staticlib -l static=api && ./judge examples/line
+//!     rustc --edition 2024 examples/rust/judge.rs -L target/staticlib -l static=gasplan && ./judge examples/line
 
 use std::path::PathBuf;
 use std::process::ExitCode;

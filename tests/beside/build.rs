@@ -5,7 +5,7 @@ use std::path::PathBuf;
 use std::process::exit;
 
 const FOLDER: &str = "GASPLAN_LIB_DIR";
-const ARCHIVE: &str = "libapi.a";
+const ARCHIVE: &str = "libgasplan.a";
 
 fn main() {
     println!("cargo:rerun-if-env-changed={FOLDER}");
@@ -16,9 +16,9 @@ fn main() {
     println!("cargo:rerun-if-changed={}", archive.display());
     if !archive.is_file() {
         eprintln!("{} is missing.", archive.display());
-        eprintln!("Run `rt staticlib api` first, or set {FOLDER} to the folder it is in.");
+        eprintln!("Run `rt staticlib gasplan` first, or set {FOLDER} to the folder it is in.");
         exit(1);
     }
     println!("cargo:rustc-link-search=native={}", folder.display());
-    println!("cargo:rustc-link-lib=static=api");
+    println!("cargo:rustc-link-lib=static=gasplan");
 }

@@ -1,4 +1,4 @@
-//! Finds the proved archive, `libapi.a`.
+//! Finds the proved archive, `libgasplan.a`.
 
 use std::env;
 use std::path::{Path, PathBuf};
@@ -9,17 +9,17 @@ const FOLDER: &str = "GASPLAN_LIB_DIR";
 
 fn main() {
     let folder = folder();
-    let archive = folder.join("libapi.a");
+    let archive = folder.join("libgasplan.a");
     println!("cargo:rerun-if-env-changed={FOLDER}");
     println!("cargo:rerun-if-changed={}", archive.display());
     if !archive.is_file() {
         eprintln!("{} is absent.", archive.display());
-        eprintln!("Make it with 'rt staticlib api' in the repository's root,");
-        eprintln!("or name the folder that holds libapi.a in {FOLDER}.");
+        eprintln!("Make it with 'rt staticlib gasplan' in the repository's root,");
+        eprintln!("or name the folder that holds libgasplan.a in {FOLDER}.");
         exit(1);
     }
     println!("cargo:rustc-link-search=native={}", folder.display());
-    println!("cargo:rustc-link-lib=static=api");
+    println!("cargo:rustc-link-lib=static=gasplan");
 }
 
 fn folder() -> PathBuf {

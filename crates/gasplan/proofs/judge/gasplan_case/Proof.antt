@@ -1,0 +1,63 @@
+use Rattle.numbers.specs.Question.{told}
+use Rattle.numbers.specs.Places.{Small}
+use Rattle.case.specs.Places.{limit, case-small}
+use Rattle.plan.specs.Verdicts.{case-answer}
+use Rattle.gasplan.proofs.Coded.{coded}
+use mathlib.Core.Path.{refl, ap, sym, subst, _∙_}
+use borrow.Author.Tests.{le-leb, lt-leb}
+use native.Mathlib.Omega.{arith}
+use denote.Ref.{now}
+use borrow.Author.Needs.{needs}
+use Rattle.gasplan.proofs.judge.gasplan_case.Statement.{statement}
+use Rattle.gasplan.proofs.judge.gasplan_case.Tie as tie
+
+returns : tie.Need-returns
+returns c = rw (lt-leb _ _ (c .if1 .taken)) (refl, refl)
+
+judge-case-requires : tie.Need-judge-case-requires
+judge-case-requires c κs = search needs
+
+enum-told : tie.Need-enum-told
+enum-told c = search needs
+
+enum-known-a : tie.Need-enum-known-a
+enum-known-a c = search needs
+
+refusal-requires : tie.Need-refusal-requires
+refusal-requires c κs =
+    let r = c .before .before in
+    let d = r .before .before in
+    let w = subst (Small limit) (case-answer _ _ (d .judge-case .ensures) ∙ r .a .given .1) (case-small (now (d .before .before .args .case))) in
+    (d .before .if1 .left, omega (arith, w .0), omega (arith, w .1), omega (arith, w .2))
+
+returns-2 : tie.Need-returns-2
+returns-2 c =
+    let d = c .before .before in
+    let e = ap told (sym (c .enum-told .given .1)) ∙ d .judge-case .ensures in
+    rw (le-leb _ _ (d .before .if1 .left), sym e) (refl, refl)
+
+same-length : tie.Need-same-length
+same-length c = search needs
+
+returns-3 : tie.Need-returns-3
+returns-3 c =
+    let k = c .before in
+    let r = k .before .before .before in
+    let d = r .before .before in
+    let a = d .before .before .args in
+    let w = subst (Small limit) (case-answer _ _ (d .judge-case .ensures) ∙ r .a .given .1) (case-small (now (a .case))) in
+    let x = coded (now (a .out)) (ap told (sym (r .a .given .1)) ∙ d .judge-case .ensures) (omega (arith, w .0)) (k .refusal .ensures .0) (k .refusal .ensures .1) in
+    rw (le-leb _ _ (d .before .if1 .left)) x
+
+pub gasplan-case-spec : {M : Type 1} → statement M
+gasplan-case-spec =
+    tie.close
+    (tie.spec
+    returns
+    judge-case-requires
+    enum-told
+    enum-known-a
+    refusal-requires
+    returns-2
+    same-length
+    returns-3)

@@ -1,0 +1,55 @@
+use Rattle.numbers.specs.SignedLocals.{kept}
+use mathlib.Core.Path.{refl, ap, _∙_}
+use borrow.Author.Tests.{le-leb, lt-leb}
+use native.Mathlib.Omega.{arith}
+use denote.Ref.{now}
+use lib.ListN.{length}
+use Rattle.plan.specs.VerdictSizes.{bytes-fit}
+use Rattle.gasplan.specs.Code.{codeOf, outOf}
+use borrow.Author.Needs.{needs}
+use Rattle.gasplan.proofs.judge.gasplan_judge_bytes.Statement.{statement}
+use Rattle.gasplan.proofs.judge.gasplan_judge_bytes.Tie as tie
+
+returns : tie.Need-returns
+returns c = rw (lt-leb _ _ (c .if1 .taken)) (refl, (refl, (refl, refl)))
+
+judge-bytes-requires : tie.Need-judge-bytes-requires
+judge-bytes-requires c κs = search needs
+
+tell-verdict-requires : tie.Need-tell-verdict-requires
+tell-verdict-requires c κs =
+    let j = c .before .before in
+    let d = j .before .before .before .before in
+    let a = d .before .before .before .args in
+    (d .if1 .left, bytes-fit (now (a .planbytes)) (length (now (a .planlist))) (omega arith) (now (a .casebytes)) (length (now (a .caselist))) (omega arith) (j .judge-bytes .result) (j .judge-bytes .ensures .0))
+
+same-length : tie.Need-same-length
+same-length c = search needs
+
+same-length-2 : tie.Need-same-length-2
+same-length-2 c = search needs
+
+same-length-3 : tie.Need-same-length-3
+same-length-3 c = search needs
+
+returns-2 : tie.Need-returns-2
+returns-2 c =
+    let k = c .before in
+    let j = k .before .before .before in
+    let d = j .before .before .before .before in
+    let out = now (d .before .before .before .args .out) in
+    let e = j .judge-bytes .ensures .0 in
+    let t = k .tell-verdict .ensures in
+    (kept _ (k .tell-verdict .ok) ∙ t .0 ∙ ap (codeOf out) e, (t .1 ∙ ap (outOf out) e, (rw (le-leb _ _ (d .if1 .left)) (j .judge-bytes .ensures .1 .0), rw (le-leb _ _ (d .if1 .left)) (j .judge-bytes .ensures .1 .1))))
+
+pub gasplan-judge-bytes-spec : {M : Type 1} → statement M
+gasplan-judge-bytes-spec =
+    tie.close
+    (tie.spec
+    returns
+    judge-bytes-requires
+    tell-verdict-requires
+    same-length
+    same-length-2
+    same-length-3
+    returns-2)

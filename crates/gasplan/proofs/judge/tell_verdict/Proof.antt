@@ -1,0 +1,85 @@
+use native.Mathlib.Omega.{arith}
+use Rattle.numbers.specs.SignedLocals.{kept}
+use mathlib.Core.Path.{ap, sym, subst}
+use Prim.Native.Nat.{_^_}
+use mir.Facts.{toZ-pos}
+use mir.Syntax.{w64}
+use borrow.Author.Tests.{le-leb}
+use denote.Ref.{now}
+use Rattle.plan.specs.Judged.{verdictTold}
+use Rattle.plan.specs.VerdictSizes.{Fit}
+use Rattle.gasplan.proofs.Coded.{coded}
+use borrow.Author.Needs.{needs}
+use Rattle.gasplan.proofs.judge.tell_verdict.Statement.{statement}
+use Rattle.gasplan.proofs.judge.tell_verdict.Tie as tie
+
+enum-known-v : tie.Need-enum-known-v
+enum-known-v c = search needs
+
+cast-switching : tie.Need-cast-switching
+cast-switching c =
+    let v = c .before .before in
+    let w = subst (Fit (2 ^ 63)) (v .v .given .1) (v .before .before .pre .1) in
+    record { sfits = w .0 }
+
+cast-residual : tie.Need-cast-residual
+cast-residual c =
+    let v = c .before .before .before in
+    let w = subst (Fit (2 ^ 63)) (v .v .given .1) (v .before .before .pre .1) in
+    record { sfits = w .1 }
+
+six-requires : tie.Need-six-requires
+six-requires c κs = search needs
+
+enum-known-v-2 : tie.Need-enum-known-v-2
+enum-known-v-2 c = search needs
+
+refusal-requires : tie.Need-refusal-requires
+refusal-requires c κs =
+    let v = c .before .before in
+    let s = v .before .before in
+    let w = subst (Fit (2 ^ 63)) (v .v2 .given .1) (s .pre .1) in
+    (s .pre .0, w .0, w .1, w .2)
+
+same-length : tie.Need-same-length
+same-length c = search needs
+
+returns : tie.Need-returns
+returns c =
+    let k = c .before in
+    let t = k .before in
+    let g = t .struct-told4 .given in
+    let v = t .before .before .before .before .before .before .before .before in
+    let s = v .before .before in
+    let w = subst (Fit (2 ^ 63)) (v .v .given .1) (s .pre .1) in
+    let q = v .v .given .0 .0 in
+    let n = simp (kept (q .pressure) (g .0 .1), kept (q .demand) (g .1 .0 .1), toZ-pos w64 (w .0), toZ-pos w64 (w .1), kept (q .opening) (g .1 .1 .1 .1 .0 .1), kept (q .closing) (g .1 .1 .1 .1 .1 .0 .1)) at (k .six .ensures .1) in
+    let x = coded (now (s .args .out)) (ap verdictTold (sym (v .v .given .1))) (omega arith) (k .six .ensures .0) n in
+    rw (le-leb _ _ (s .pre .0)) x
+
+same-length-2 : tie.Need-same-length-2
+same-length-2 c = search needs
+
+returns-2 : tie.Need-returns-2
+returns-2 c =
+    let k = c .before in
+    let v = k .before .before .before in
+    let s = v .before .before in
+    let w = subst (Fit (2 ^ 63)) (v .v2 .given .1) (s .pre .1) in
+    let x = coded (now (s .args .out)) (ap verdictTold (sym (v .v2 .given .1))) (w .0) (k .refusal .ensures .0) (k .refusal .ensures .1) in
+    rw (le-leb _ _ (s .pre .0)) x
+
+pub tell-verdict-spec : {M : Type 1} → statement M
+tell-verdict-spec =
+    tie.close
+    (tie.spec
+    enum-known-v
+    cast-switching
+    cast-residual
+    six-requires
+    enum-known-v-2
+    refusal-requires
+    same-length
+    returns
+    same-length-2
+    returns-2)

@@ -1,0 +1,92 @@
+use mathlib.Core.Path.{ap, sym, subst}
+use Prim.Native.Nat.{_^_}
+use native.Mathlib.Omega.{arith}
+use mir.Facts.{toZ-pos}
+use mir.Syntax.{w64}
+use borrow.Author.Tests.{le-leb}
+use denote.Ref.{now}
+use Rattle.plan.specs.Ledger.{ledgerTold}
+use Rattle.numbers.specs.SignedLocals.{kept}
+use Rattle.plan.specs.VerdictSizes.{FitLedger}
+use Rattle.gasplan.proofs.Coded.{coded}
+use borrow.Author.Needs.{needs}
+use Rattle.gasplan.proofs.ledger.tell_ledger.Statement.{statement}
+use Rattle.gasplan.proofs.ledger.tell_ledger.Tie as tie
+
+enum-known-v : tie.Need-enum-known-v
+enum-known-v c = search needs
+
+cast-nodes : tie.Need-cast-nodes
+cast-nodes c =
+    let v = c .before .before in
+    let w = subst (FitLedger (2 ^ 63)) (v .v .given .1) (v .before .before .pre .1) in
+    record { sfits = w .0 }
+
+cast-pipes : tie.Need-cast-pipes
+cast-pipes c =
+    let v = c .before .before .before in
+    let w = subst (FitLedger (2 ^ 63)) (v .v .given .1) (v .before .before .pre .1) in
+    record { sfits = w .1 }
+
+cast-residual : tie.Need-cast-residual
+cast-residual c =
+    let v = c .before .before .before .before in
+    let w = subst (FitLedger (2 ^ 63)) (v .v .given .1) (v .before .before .pre .1) in
+    record { sfits = w .2 }
+
+six-requires : tie.Need-six-requires
+six-requires c κs = search needs
+
+enum-known-v-2 : tie.Need-enum-known-v-2
+enum-known-v-2 c = search needs
+
+refusal-requires : tie.Need-refusal-requires
+refusal-requires c κs =
+    let v = c .before .before in
+    let s = v .before .before in
+    let w = subst (FitLedger (2 ^ 63)) (v .v2 .given .1) (s .pre .1) in
+    (s .pre .0, w .0, w .1, w .2)
+
+same-length : tie.Need-same-length
+same-length c = search needs
+
+returns : tie.Need-returns
+returns c =
+    let k = c .before in
+    let t = k .before in
+    let g = t .struct-told3 .given in
+    let v = t .before .before .before .before .before .before .before .before in
+    let s = v .before .before in
+    let w = subst (FitLedger (2 ^ 63)) (v .v .given .1) (s .pre .1) in
+    let q = v .v .given .0 .0 in
+    let n = simp (toZ-pos w64 (w .0), toZ-pos w64 (w .1), kept (q .opening) (g .1 .1 .0 .1), kept (q .closing) (g .1 .1 .1 .0 .1), kept (q .brought) (g .1 .1 .1 .1 .0 .1), toZ-pos w64 (w .2)) at (k .six .ensures .1) in
+    let x = coded (now (s .args .out)) (ap ledgerTold (sym (v .v .given .1))) (omega arith) (k .six .ensures .0) n in
+    rw (le-leb _ _ (s .pre .0)) x
+
+same-length-2 : tie.Need-same-length-2
+same-length-2 c = search needs
+
+returns-2 : tie.Need-returns-2
+returns-2 c =
+    let k = c .before in
+    let v = k .before .before .before in
+    let s = v .before .before in
+    let w = subst (FitLedger (2 ^ 63)) (v .v2 .given .1) (s .pre .1) in
+    let x = coded (now (s .args .out)) (ap ledgerTold (sym (v .v2 .given .1))) (w .0) (k .refusal .ensures .0) (k .refusal .ensures .1) in
+    rw (le-leb _ _ (s .pre .0)) x
+
+pub tell-ledger-spec : {M : Type 1} → statement M
+tell-ledger-spec =
+    tie.close
+    (tie.spec
+    enum-known-v
+    cast-nodes
+    cast-pipes
+    cast-residual
+    six-requires
+    enum-known-v-2
+    refusal-requires
+    same-length
+    returns
+    same-length-2
+    returns-2)
