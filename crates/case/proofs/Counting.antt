@@ -7,15 +7,15 @@ use native.Mathlib.Nat.{add-zero, mul-le-mul}
 use native.Mathlib.Numerals.{add-one}
 use native.Mathlib.Omega.{arith}
 use lib.IntN.{ℤ, pos, _+ℤ_}
-use Rattle.numbers.specs.SignedParts.{ints, added, size}
-use Rattle.numbers.specs.SignedBounds.{Bounded}
-use Rattle.numbers.specs.Question.{firstNo}
+use Rattle.numbers.specs.inside.SignedParts.{ints, added, size}
+use Rattle.numbers.specs.inside.SignedBounds.{Bounded}
+use Rattle.numbers.specs.law.Question.{firstNo}
 use Rattle.numbers.specs.declared.answer.Answer.the-variants.{Yes}
-use Rattle.case.specs.Layout.{countAt, timeAt}
-use Rattle.case.specs.Records.{timeOf, timeBefore}
-use Rattle.case.specs.InRange.{field-yes}
-use Rattle.case.specs.TimeFields.{timeField}
-use Rattle.case.specs.Bounds.{Counts}
+use Rattle.case.specs.law.Layout.{countAt, timeAt}
+use Rattle.case.specs.law.Records.{timeOf, timeBefore}
+use Rattle.case.specs.inside.FieldLaws.{field-yes}
+use Rattle.case.specs.law.TimeFields.{timeField}
+use Rattle.case.specs.inside.Counts.{Counts}
 
 -- a row's first number
 pub first-is : {case : List ℤ} (row : ℕ) {r : ℕ} → Counts case (row + 0) r → r ≡ countAt case row

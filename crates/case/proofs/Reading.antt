@@ -11,7 +11,7 @@ use borrow.Author.Tests.{leb-true, leb-false}
 use lib.IntN.{ℤ, pos, negsuc}
 use lib.Signed.{mag}
 use lib.ListN.{length, getD, List·getD-eq-default}
-use Rattle.numbers.specs.SignedParts.{posPart}
+use Rattle.numbers.specs.law.Signed.{posPart}
 
 -- a number past the end
 pub past : (case : List ℤ) (i : ℕ) → length case ≤ i → pos 0 ≡ getD case i (pos 0)

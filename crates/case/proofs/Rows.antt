@@ -5,10 +5,11 @@ use mathlib.Core.List.{List}
 use Prim.Native.Nat.{ℕ, _+_, _*_}
 use native.Mathlib.Omega.{arith}
 use lib.IntN.{ℤ}
-use Rattle.numbers.specs.Question.{firstNo, firstNo-append, orElse}
+use Rattle.numbers.specs.law.Question.{firstNo, orElse}
+use Rattle.numbers.specs.inside.QuestionLaws.{firstNo-append}
 use Rattle.numbers.specs.declared.answer.Answer.{Answer}
-use Rattle.case.specs.Layout.{nodesOf, arcsOf, stepsOf, nodeAt, arcAt, directionsAt, directionAt, stateAt, machineAt, stationAt}
-use Rattle.case.specs.ArcFields.{endFields, kindFields, arcFields}
+use Rattle.case.specs.law.Layout.{nodesOf, arcsOf, stepsOf, nodeAt, arcAt, directionsAt, directionAt, stateAt, machineAt, stationAt}
+use Rattle.case.specs.law.ArcFields.{endFields, kindFields, arcFields}
 use Rattle.case.proofs.Asked.{chain}
 
 pub arc-row : (l : List ℤ) (e : ℕ) {first : ℕ} → first ≡ arcAt l 0 → first + e * 11 ≡ arcAt l e

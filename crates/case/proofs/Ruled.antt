@@ -6,20 +6,21 @@ use mathlib.Core.List.{List, [], _∷_}
 use Prim.Native.Nat.{ℕ, _<_, _≤_}
 use borrow.Author.Tests.{le-leb, lt-leb}
 use lib.IntN.{ℤ}
-use Rattle.numbers.specs.Sets.{memberOf}
-use Rattle.numbers.specs.Sum.{count}
-use Rattle.numbers.specs.Question.{firstNo, answer}
+use Rattle.numbers.specs.law.Sets.{memberOf}
+use Rattle.numbers.specs.law.Sums.{count}
+use Rattle.numbers.specs.law.Question.{firstNo, answer}
 use Rattle.numbers.specs.declared.answer.Answer.the-variants.{Yes, No}
 use Rattle.case.specs.declared.records.Layout.{Layout}
-use Rattle.case.specs.Layout.{stationsOf, stationAt, directionsAt}
-use Rattle.case.specs.Laid.{Laid, inSet}
-use Rattle.case.specs.StationArcs.{stationArcs, every}
-use Rattle.case.specs.StationNodes.{stationNodes, plainNodes}
-use Rattle.case.specs.OneStation.{inStation, oneStation}
-use Rattle.case.specs.StationSize.{stationSize}
-use Rattle.case.specs.Directions.{directionKept, directionSets}
-use Rattle.case.specs.States.{stationKept, stateSets}
-use Rattle.case.specs.CountLaws.{count-same}
+use Rattle.case.specs.law.Layout.{stationsOf, stationAt, directionsAt}
+use Rattle.case.specs.law.LayoutOf.{Laid}
+use Rattle.case.specs.inside.InSet.{inSet}
+use Rattle.case.specs.law.StationArcs.{stationArcs, every}
+use Rattle.case.specs.law.StationNodes.{stationNodes, plainNodes}
+use Rattle.case.specs.law.OneStation.{inStation, oneStation}
+use Rattle.case.specs.law.StationSize.{stationSize}
+use Rattle.case.specs.law.Directions.{directionKept, directionSets}
+use Rattle.case.specs.law.States.{stationKept, stateSets}
+use Rattle.case.specs.inside.CountLaws.{count-same}
 
 -- 14: the stations that have the node, by the layout's sets
 pub stations-with : {l : List ℤ} {y : Layout} → Laid l y → (v : ℕ) → count (y .stations) (inSet (y .inside) v) ≡ count (stationsOf l) (inStation l v)

@@ -1,10 +1,10 @@
 // 10 and 11 of the arc rows. The arc's kind chooses the ranges.
 ghost use mathlib.Core.Path.{_≡_};
 ghost use Prim.Native.Nat.{_<_, _≤_};
-ghost use Rattle.numbers.specs.Question.{firstNo};
-ghost use Rattle.numbers.specs.Items.{over};
-ghost use Rattle.case.specs.Layout.{countAt, arcAt};
-ghost use Rattle.case.specs.ArcFields.{endFields, pipeFields, leastBothWays, memberFields, compressorFields, kindFields, arcFields};
+ghost use Rattle.numbers.specs.law.Question.{firstNo};
+ghost use Rattle.numbers.specs.law.Items.{over};
+ghost use Rattle.case.specs.law.Layout.{countAt, arcAt};
+ghost use Rattle.case.specs.law.ArcFields.{endFields, pipeFields, leastBothWays, memberFields, compressorFields, kindFields, arcFields};
 use super::fields::MOST_FLOW;
 use super::fields::MOST_PRESSURE;
 use super::fields::MOST_WEIGHT;

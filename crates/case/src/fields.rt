@@ -1,8 +1,8 @@
 // 10 and 11: is the field there, and is it in range?
 ghost use mathlib.Core.Path.{_≡_};
 ghost use Prim.Native.Nat.{_+_, _<_, _^_};
-ghost use Rattle.numbers.specs.Question.{firstNo};
-ghost use Rattle.case.specs.Field.{field, fields};
+ghost use Rattle.numbers.specs.law.Question.{firstNo};
+ghost use Rattle.case.specs.law.Field.{field, fields};
 use numbers::answer::Answer;
 use numbers::answer::ask;
 use numbers::compare::within;

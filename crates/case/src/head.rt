@@ -1,12 +1,12 @@
 // 10 and 11 of the head and of the times.
 ghost use mathlib.Core.Path.{_≡_};
 ghost use Prim.Native.Nat.{_<_, _≤_};
-ghost use Rattle.numbers.specs.Question.{firstNo};
-ghost use Rattle.numbers.specs.Items.{over};
-ghost use Rattle.numbers.specs.SignedBounds.{Bounded};
-ghost use Rattle.case.specs.Records.{timeBefore};
-ghost use Rattle.case.specs.HeadFields.{countFields, headFields};
-ghost use Rattle.case.specs.TimeFields.{timeField};
+ghost use Rattle.numbers.specs.law.Question.{firstNo};
+ghost use Rattle.numbers.specs.law.Items.{over};
+ghost use Rattle.numbers.specs.inside.SignedBounds.{Bounded};
+ghost use Rattle.case.specs.law.Records.{timeBefore};
+ghost use Rattle.case.specs.law.HeadFields.{countFields, headFields};
+ghost use Rattle.case.specs.law.TimeFields.{timeField};
 use super::fields::field;
 use super::offsets::HEAD;
 use super::read::time_before;

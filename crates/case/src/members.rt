@@ -2,10 +2,10 @@
 ghost use mathlib.Core.Path.{_≡_};
 ghost use Prim.Native.Nat.{_+_, _<_, _≤_, _^_};
 ghost use lib.IntN.{pos};
-ghost use Rattle.numbers.specs.Sum.{onlyN};
-ghost use Rattle.case.specs.StationArcs.{belongs, arcsBefore, arcSet};
-ghost use Rattle.case.specs.StationNodes.{withNode, withEnds, endsOf, plain};
-ghost use Rattle.case.specs.States.{activeAtStart};
+ghost use Rattle.numbers.specs.law.Sums.{onlyN};
+ghost use Rattle.case.specs.law.StationArcs.{belongs, arcsBefore, arcSet};
+ghost use Rattle.case.specs.law.StationNodes.{withNode, withEnds, endsOf, plain};
+ghost use Rattle.case.specs.law.States.{activeAtStart};
 use super::offsets::arc_at;
 use super::offsets::count;
 

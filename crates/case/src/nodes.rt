@@ -1,10 +1,10 @@
 // 10 and 11 of the node rows.
 ghost use mathlib.Core.Path.{_≡_};
 ghost use Prim.Native.Nat.{_<_, _≤_};
-ghost use Rattle.numbers.specs.Question.{firstNo};
-ghost use Rattle.numbers.specs.Items.{over};
-ghost use Rattle.case.specs.Layout.{stepsOf};
-ghost use Rattle.case.specs.NodeFields.{boundFields, demandFields, nodeFields};
+ghost use Rattle.numbers.specs.law.Question.{firstNo};
+ghost use Rattle.numbers.specs.law.Items.{over};
+ghost use Rattle.case.specs.law.Layout.{stepsOf};
+ghost use Rattle.case.specs.law.NodeFields.{boundFields, demandFields, nodeFields};
 use super::fields::LEAST_FLOW;
 use super::fields::MOST_FLOW;
 use super::fields::MOST_PRESSURE;

@@ -2,9 +2,9 @@
 ghost use mathlib.Core.Path.{_≡_};
 ghost use Prim.Native.Nat.{_+_, _*_, _<_, _^_, min};
 ghost use lib.ListN.{length};
-ghost use Rattle.case.specs.Layout.{numberAt, nodeAt, arcAt, directionAt, stateAt, machineAt};
-ghost use Rattle.case.specs.Bounds.{Counts};
-ghost use Rattle.case.specs.Field.{lastOf};
+ghost use Rattle.case.specs.law.Layout.{numberAt, nodeAt, arcAt, directionAt, stateAt, machineAt};
+ghost use Rattle.case.specs.inside.Counts.{Counts};
+ghost use Rattle.case.specs.law.Field.{lastOf};
 use numbers::compare::index;
 
 // How many numbers the rows have; a node's row has a demand for each step besides.

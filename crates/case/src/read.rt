@@ -1,8 +1,8 @@
 // Nodes, arcs and stations read off the list. Every function is total: a number past the end reads as 0.
 ghost use mathlib.Core.Path.{_≡_};
 ghost use Prim.Native.Nat.{_+_};
-ghost use Rattle.case.specs.Layout.{numberAt};
-ghost use Rattle.case.specs.Records.{timeOf, timeBefore, nodeOf, arcOf, artificialOf, stationRow, directionRow, stateRow, machineRow};
+ghost use Rattle.case.specs.law.Layout.{numberAt};
+ghost use Rattle.case.specs.law.Records.{timeOf, timeBefore, nodeOf, arcOf, artificialOf, stationRow, directionRow, stateRow, machineRow};
 use super::offsets::HEAD;
 use super::offsets::NODE;
 use super::offsets::arc_at;

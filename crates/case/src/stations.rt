@@ -2,12 +2,12 @@
 ghost use mathlib.Core.Path.{_≡_};
 ghost use mathlib.Core.List.{_++_};
 ghost use Prim.Native.Nat.{_<_, _≤_};
-ghost use Rattle.numbers.specs.Question.{firstNo};
-ghost use Rattle.numbers.specs.Items.{over};
-ghost use Rattle.case.specs.Layout.{directionsAt, machineAt, stationEnd, stationAt, stationsOf};
-ghost use Rattle.case.specs.Bounds.{StationCounted};
-ghost use Rattle.case.specs.StationFields.{firstItems, stationHead, directionFields, stateRowFields, stateFields, machineFields, partFields, rowFields, allStationFields};
-ghost use Rattle.case.specs.Leftover.{leftover};
+ghost use Rattle.numbers.specs.law.Question.{firstNo};
+ghost use Rattle.numbers.specs.law.Items.{over};
+ghost use Rattle.case.specs.law.Layout.{directionsAt, machineAt, stationEnd, stationAt, stationsOf};
+ghost use Rattle.case.specs.inside.Counts.{StationCounted};
+ghost use Rattle.case.specs.law.StationFields.{firstItems, stationHead, directionFields, stateRowFields, stateFields, machineFields, partFields, rowFields, allStationFields};
+ghost use Rattle.case.specs.law.Leftover.{leftover};
 use super::fields::MOST_FLOW;
 use super::fields::MOST_WEIGHT;
 use super::fields::field;

@@ -7,7 +7,7 @@ use lib.IntN.{ℤ, pos}
 use mir.Facts.{toZ-ofZ}
 use mir.Syntax.{w64}
 use mir.Val.{toZ, ofZ}
-use Rattle.numbers.specs.Told.{Told, overlay}
+use Rattle.numbers.specs.law.Told.{Told, overlay}
 
 -- an answer `code` with values in `new`, told by a number and values that are those of t
 pub coded : (out : List ℤ) {t : Told} {number : ℕ} {values : List ℤ} {code : ℤ} {new : List ℤ} → record { number = number; values = values } ≡ t → number < 2 ^ 63

@@ -1,10 +1,10 @@
 // Groups of seven.
 ghost use mathlib.Core.Path.{_≡_};
 ghost use lib.ListN.{length};
-ghost use Rattle.numbers.specs.Groups.{writeTold, written};
-ghost use Rattle.numbers.specs.Reading.{readOf, readTold};
-ghost use Rattle.numbers.specs.Told.{overlay};
-ghost use Rattle.gasplan.specs.Code.{codeOf, outOf, ifRoom};
+ghost use Rattle.numbers.specs.law.Groups.{writeTold, written};
+ghost use Rattle.numbers.specs.law.Reading.{readOf, readTold};
+ghost use Rattle.numbers.specs.law.Told.{overlay};
+ghost use Rattle.gasplan.specs.law.Out.{codeOf, outOf, ifRoom};
 use numbers::reader::Reading;
 use numbers::writer::Writing;
 

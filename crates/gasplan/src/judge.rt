@@ -2,13 +2,13 @@
 ghost use mathlib.Core.Path.{_≡_};
 ghost use Prim.Native.Nat.{_≤_, _^_};
 ghost use lib.ListN.{length};
-ghost use Rattle.numbers.specs.Reading.{readOf};
-ghost use Rattle.numbers.specs.Told.{overlay};
-ghost use Rattle.case.specs.Judged.{judgedCase};
-ghost use Rattle.plan.specs.Judged.{judgeOf, verdictTold};
-ghost use Rattle.plan.specs.JudgedBytes.{bytesTold, planListOf};
-ghost use Rattle.plan.specs.VerdictSizes.{Fit};
-ghost use Rattle.gasplan.specs.Code.{codeOf, outOf, ifRoom};
+ghost use Rattle.numbers.specs.law.Reading.{readOf};
+ghost use Rattle.numbers.specs.law.Told.{overlay};
+ghost use Rattle.case.specs.law.Judged.{judgedCase};
+ghost use Rattle.plan.specs.law.Judged.{judgeOf, verdictTold};
+ghost use Rattle.plan.specs.law.JudgedBytes.{bytesTold, planListOf};
+ghost use Rattle.plan.specs.inside.VerdictSizes.{Fit};
+ghost use Rattle.gasplan.specs.law.Out.{codeOf, outOf, ifRoom};
 use numbers::answer::Answer;
 use plan::verdict::Verdict;
 

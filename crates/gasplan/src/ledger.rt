@@ -2,9 +2,9 @@
 ghost use mathlib.Core.Path.{_≡_};
 ghost use Prim.Native.Nat.{_≤_, _^_};
 ghost use lib.ListN.{length};
-ghost use Rattle.plan.specs.Ledger.{ledgerOf, ledgerTold};
-ghost use Rattle.plan.specs.VerdictSizes.{FitLedger};
-ghost use Rattle.gasplan.specs.Code.{codeOf, outOf};
+ghost use Rattle.plan.specs.law.Ledger.{ledgerOf, ledgerTold};
+ghost use Rattle.plan.specs.inside.VerdictSizes.{FitLedger};
+ghost use Rattle.gasplan.specs.law.Out.{codeOf, outOf};
 use plan::figures::Ledger;
 
 // The values are nodes, inner pipes, gas at s, gas at t, gas brought in and residual. Of the ledger's answer the plan crate promises the balance too.

@@ -4,7 +4,7 @@ ghost use mathlib.Core.List.{[], _∷_};
 ghost use Prim.Native.Nat.{_<_, _≤_, _^_};
 ghost use lib.IntN.{pos};
 ghost use lib.ListN.{length};
-ghost use Rattle.numbers.specs.Told.{overlay};
+ghost use Rattle.numbers.specs.law.Told.{overlay};
 
 // A count.
 pub(crate) fn count(out: &mut [i64], n: usize) -> i64

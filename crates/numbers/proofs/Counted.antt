@@ -11,7 +11,8 @@ use native.Mathlib.Omega.{arith}
 use borrow.Author.Tests.{ltb-true, ltb-false, leb-true, leb-false}
 use lib.Dec.{ltb, leb}
 use lib.ListN.{length}
-use Rattle.numbers.specs.Groups.{groups, groupsUpTo, one-group, more-groups}
+use Rattle.numbers.specs.law.Groups.{groups, groupsUpTo}
+use Rattle.numbers.specs.inside.GroupLaws.{one-group, more-groups}
 
 -- `rest` is what is left of a 64-bit number with room for `more` groups before the last
 pub record Left (rest more : ℕ) : Type 0 where

@@ -11,8 +11,8 @@ use borrow.Author.Tests.{lt-ltb, le-ltb, lt-leb, le-leb, eq-eqb, ne-eqb}
 use lib.Dec.{leb}
 use lib.ListN.{length, getD, drop, drop-of-length-le}
 use lib.Seq.{drop-cons}
-use Rattle.numbers.specs.Reading.{laterBytes, lastByte, inFront, numberOf}
-use Rattle.numbers.specs.Shifted.{shifted, shifted-first, shifted-more}
+use Rattle.numbers.specs.law.Reading.{laterBytes, lastByte, inFront, numberOf}
+use Rattle.numbers.specs.inside.Shifted.{shifted, shifted-first, shifted-more}
 use Rattle.numbers.specs.declared.reader.Number.{Number}
 use Rattle.numbers.specs.declared.reader.Number.the-variants.{Whole, Refused}
 

@@ -11,9 +11,11 @@ use lib.IntN.{ℤ, pos}
 use lib.Dec.{leb}
 use lib.ListN.{length, getD, drop, set, length-append, drop-of-length-le}
 use lib.Seq.{sets, length-sets, drop-cons}
-use Rattle.numbers.specs.Told.{gives, refuses, overlay-sets}
-use Rattle.numbers.specs.Groups.{groups, encode, sizeOf, writeTold, written}
-use Rattle.numbers.specs.Mapping.{unsignedOf}
+use Rattle.numbers.specs.law.Told.{gives, refuses}
+use Rattle.numbers.specs.inside.OverlayLaws.{overlay-sets}
+use Rattle.numbers.specs.law.Groups.{groups, encode, writeTold, written}
+use Rattle.numbers.specs.inside.GroupLaws.{sizeOf}
+use Rattle.numbers.specs.law.Mapping.{unsignedOf}
 use Rattle.numbers.specs.declared.writer.Size.the-variants.{Fits, Over}
 
 -- the groups of the number at i

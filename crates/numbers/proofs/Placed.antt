@@ -7,7 +7,8 @@ use native.Mathlib.Numerals.{add-one}
 use native.Mathlib.Omega.{arith}
 use lib.ListN.{length, set, length-set, length-append}
 use lib.Seq.{sets}
-use Rattle.numbers.specs.Groups.{groups, groupsUpTo, one-group, some-group}
+use Rattle.numbers.specs.law.Groups.{groups, groupsUpTo}
+use Rattle.numbers.specs.inside.GroupLaws.{one-group, some-group}
 use Rattle.numbers.proofs.Counted.{Left, left-all, turned}
 
 -- what is to be placed from i on is the groups of `rest`

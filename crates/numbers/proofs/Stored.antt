@@ -8,10 +8,11 @@ use native.Mathlib.Omega.{arith}
 use lib.IntN.{ℤ, pos}
 use lib.ListN.{length, getD, take, drop, set, length-set, length-drop, drop-of-length-le}
 use lib.Seq.{sets, drop-cons, drop-drop}
-use Rattle.numbers.specs.Mapping.{signedOf}
-use Rattle.numbers.specs.Told.{overlay, overlay-sets}
-use Rattle.numbers.specs.ReadingBounds.{used-some}
-use Rattle.numbers.specs.Reading.{numberOf, Read, Ending, all, no, stopped, withFirst, afterNumber, readFrom, readOf, readTold, endTold}
+use Rattle.numbers.specs.law.Mapping.{signedOf}
+use Rattle.numbers.specs.law.Told.{overlay}
+use Rattle.numbers.specs.inside.OverlayLaws.{overlay-sets}
+use Rattle.numbers.specs.inside.ReadingBounds.{used-some}
+use Rattle.numbers.specs.law.Reading.{numberOf, Read, Ending, all, no, stopped, withFirst, afterNumber, readFrom, readOf, readTold, endTold}
 use Rattle.numbers.specs.declared.reader.Number.{Number}
 use Rattle.numbers.specs.declared.reader.Number.the-variants.{Whole, Refused}
 

@@ -1,6 +1,6 @@
 // What a question is answered.
 ghost use mathlib.Core.Path.{_≡_};
-ghost use Rattle.numbers.specs.Question.{answer, orElse};
+ghost use Rattle.numbers.specs.law.Question.{answer, orElse};
 
 pub enum Answer {
     Yes,

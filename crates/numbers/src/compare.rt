@@ -4,7 +4,7 @@ ghost use mathlib.Core.Bool.{_&&_};
 ghost use lib.IntN.{pos};
 ghost use lib.ListN.{getD};
 ghost use lib.Signed.{leZ};
-ghost use Rattle.numbers.specs.SignedParts.{posPart};
+ghost use Rattle.numbers.specs.law.Signed.{posPart};
 
 pub fn at_most(a: i64, b: i64) -> bool
     ensures { λ r. ⌜ r ≡ leZ a b ⌝ }

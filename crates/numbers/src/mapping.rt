@@ -1,6 +1,6 @@
 // Signed numbers as unsigned ones, and back: small sizes of both signs become small numbers.
 ghost use mathlib.Core.Path.{_≡_};
-ghost use Rattle.numbers.specs.Mapping.{unsignedOf, signedOf};
+ghost use Rattle.numbers.specs.law.Mapping.{unsignedOf, signedOf};
 
 pub fn unsigned(x: i64) -> u64
     ensures { λ r. ⌜ r ≡ unsignedOf x ⌝ }

@@ -2,10 +2,10 @@
 ghost use mathlib.Core.Path.{_≡_};
 ghost use Prim.Native.Nat.{_+_, _*_, _^_, _<_, _≤_};
 ghost use lib.ListN.{length, drop};
-ghost use Rattle.numbers.specs.Reading.{numberOf, laterBytes, lastByte, inFront, readOf, readTold};
-ghost use Rattle.numbers.specs.Shifted.{shifted};
-ghost use Rattle.numbers.specs.Reported.{readingTold};
-ghost use Rattle.numbers.specs.Told.{overlay};
+ghost use Rattle.numbers.specs.law.Reading.{numberOf, laterBytes, lastByte, inFront, readOf, readTold};
+ghost use Rattle.numbers.specs.inside.Shifted.{shifted};
+ghost use Rattle.numbers.specs.law.CodecTold.{readingTold};
+ghost use Rattle.numbers.specs.law.Told.{overlay};
 
 // What stands at the front of some bytes: a number and how many bytes it takes, or the question that has a "no".
 pub enum Number {

@@ -1,6 +1,6 @@
 // Numbers as sets: item i is in the set where bit i is 1. A negative number has no items.
 ghost use mathlib.Core.Path.{_≡_};
-ghost use Rattle.numbers.specs.Sets.{memberOf, countOf, disjointOf, subsetOf};
+ghost use Rattle.numbers.specs.law.Sets.{memberOf, countOf, disjointOf, subsetOf};
 use crate::compare::index;
 
 pub fn member(set: i64, i: usize) -> bool

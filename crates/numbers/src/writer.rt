@@ -3,8 +3,9 @@ ghost use mathlib.Core.Path.{_≡_};
 ghost use Prim.Native.Nat.{_+_, _≤_};
 ghost use lib.ListN.{length};
 ghost use lib.Seq.{sets};
-ghost use Rattle.numbers.specs.Groups.{encode, groups, sizeOf, writeTold, written};
-ghost use Rattle.numbers.specs.Reported.{writingTold};
+ghost use Rattle.numbers.specs.law.Groups.{encode, groups, writeTold, written};
+ghost use Rattle.numbers.specs.inside.GroupLaws.{sizeOf};
+ghost use Rattle.numbers.specs.law.CodecTold.{writingTold};
 use crate::mapping::unsigned;
 
 // What a writing answers: the count of bytes, or a refusal.

@@ -9,9 +9,9 @@ use lib.Dec.{T, ltb}
 use lib.IntN.{ℤ, pos, natAbs, _+ℤ_}
 use mir.Syntax.{w64}
 use mir.Val.{SFits, toZ, ofZ}
-use Rattle.numbers.specs.SignedLocals.{Held, held, renamed, held<, held-fits<, _+ʳ_}
-use Rattle.numbers.specs.SignedBounds.{Bounded}
-use Rattle.numbers.specs.Sum.{sum, sumN, only, onlyN}
+use Rattle.numbers.specs.inside.SignedLocals.{Held, held, renamed, held<, held-fits<, _+ʳ_}
+use Rattle.numbers.specs.inside.SignedBounds.{Bounded}
+use Rattle.numbers.specs.law.Sums.{sum, sumN, only, onlyN}
 use Rattle.plan.proofs.Sums.{sum-more, sumN-more}
 
 -- ---- signed

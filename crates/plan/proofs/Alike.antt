@@ -6,21 +6,22 @@ use mathlib.Core.List.{List, _++_}
 use Prim.Native.Nat.{ℕ, zero, suc, _+_, _<_}
 use native.Mathlib.Omega.{arith}
 use lib.IntN.{ℤ, natAbs, _+ℤ_, _-ℤ_, _*ℤ_}
-use Rattle.numbers.specs.Question.{Question, firstNo}
-use Rattle.numbers.specs.Items.{over}
-use Rattle.numbers.specs.Sum.{sum-cong, sumN-cong, only, onlyN}
-use Rattle.case.specs.Layout.{nodesOf, arcsOf, stationsOf}
-use Rattle.case.specs.Records.{arcOf, pipeOf}
-use Rattle.plan.specs.Handed.{AcceptedCase}
-use Rattle.plan.specs.CaseFacts.{from-node, to-node}
-use Rattle.plan.specs.PlanRecords.{pressureIn, arcRow}
-use Rattle.plan.specs.Pipes.{duration, isPipe, pipeImbalance, pipeResidual, pipeMassKept}
-use Rattle.plan.specs.NodeRules.{allNodeQuestions}
-use Rattle.plan.specs.ArcRules.{arcQuestions, pipeQuestions, allArcQuestions}
-use Rattle.plan.specs.StationRules.{allStationQuestions}
-use Rattle.plan.specs.Balance.{allBalanceQuestions}
-use Rattle.plan.specs.Step.{stepQuestions}
-use Rattle.plan.specs.Totals.{pipePart, pipeResiduals, gasPart, gasAt, directionCost, stateCost, choiceCost, choiceCosts, activityCost, activityPart, activityCosts}
+use Rattle.numbers.specs.law.Question.{Question, firstNo}
+use Rattle.numbers.specs.law.Items.{over}
+use Rattle.numbers.specs.inside.SumLaws.{sum-cong, sumN-cong}
+use Rattle.numbers.specs.law.Sums.{only, onlyN}
+use Rattle.case.specs.law.Layout.{nodesOf, arcsOf, stationsOf}
+use Rattle.case.specs.law.Records.{arcOf, pipeOf}
+use Rattle.plan.specs.inside.Preconditions.{AcceptedCase}
+use Rattle.plan.specs.inside.CaseSizes.{from-node, to-node}
+use Rattle.plan.specs.law.PlanRecords.{pressureIn, arcRow}
+use Rattle.plan.specs.law.Pipes.{duration, isPipe, pipeImbalance, pipeResidual, pipeMassKept}
+use Rattle.plan.specs.law.NodeRules.{allNodeQuestions}
+use Rattle.plan.specs.law.ArcRules.{arcQuestions, pipeQuestions, allArcQuestions}
+use Rattle.plan.specs.law.StationRules.{allStationQuestions}
+use Rattle.plan.specs.law.Balance.{allBalanceQuestions}
+use Rattle.plan.specs.law.Step.{stepQuestions}
+use Rattle.plan.specs.law.Totals.{pipePart, pipeResiduals, gasPart, gasAt, directionCost, stateCost, choiceCost, choiceCosts, activityCost, activityPart, activityCosts}
 
 over-alike : (f g : ℕ → List Question) (i n : ℕ) → ((j : ℕ) → j < n → f (i + j) ≡ g (i + j)) → over f i n ≡ over g i n
 over-alike f g i zero h = refl

@@ -12,32 +12,33 @@ use lib.ListN.{getD}
 use lib.Signed.{leZ}
 use mir.Syntax.{w64}
 use mir.Val.{toZ, ofZ}
-use Rattle.numbers.specs.SignedParts.{posPart}
-use Rattle.numbers.specs.SignedBounds.{Bounded}
-use Rattle.numbers.specs.SignedLocals.{Held, held, plain, loosen, _+ʳ_, _-ʳ_, _*ʳ_, literal}
-use Rattle.numbers.specs.Sets.{memberOf}
-use Rattle.numbers.specs.Sum.{abs-sum-le, abs-only-le}
-use Rattle.numbers.specs.Question.{Question, firstNo, firstNo-append, orElse, orElse-assoc, orElse-first}
+use Rattle.numbers.specs.law.Signed.{posPart}
+use Rattle.numbers.specs.inside.SignedBounds.{Bounded}
+use Rattle.numbers.specs.inside.SignedLocals.{Held, held, plain, loosen, _+ʳ_, _-ʳ_, _*ʳ_, literal}
+use Rattle.numbers.specs.law.Sets.{memberOf}
+use Rattle.numbers.specs.inside.SumLaws.{abs-sum-le, abs-only-le}
+use Rattle.numbers.specs.law.Question.{Question, firstNo, orElse}
+use Rattle.numbers.specs.inside.QuestionLaws.{firstNo-append, orElse-assoc, orElse-first}
 use Rattle.numbers.specs.declared.answer.Answer.{Answer}
 use Rattle.numbers.specs.declared.answer.Answer.the-variants.{Yes, No}
 use Rattle.case.specs.declared.records.Arc.{Arc}
 use Rattle.case.specs.declared.records.Pipe.{Pipe}
 use Rattle.case.specs.declared.records.Artificial.{Artificial}
-use Rattle.case.specs.Layout.{numberAt, nodesOf, machinesAt}
-use Rattle.case.specs.Records.{arcOf, pipeOf, artificialOf, machineRow}
+use Rattle.case.specs.law.Layout.{numberAt, nodesOf, machinesAt}
+use Rattle.case.specs.law.Records.{arcOf, pipeOf, artificialOf, machineRow}
 use Rattle.plan.specs.declared.rows.ArcRow.{ArcRow}
 use Rattle.plan.specs.declared.setting.Way.{Way}
 use Rattle.plan.specs.declared.setting.Way.the-variants.{Forward}
 use Rattle.plan.specs.declared.setting.Mode.the-variants.{Open, Compressing}
 use Rattle.plan.specs.declared.setting.Setting.{Setting}
 use Rattle.plan.specs.declared.setting.Setting.the-variants.{Unknown, Off, Active}
-use Rattle.plan.specs.PlanRecords.{arcRow}
-use Rattle.plan.specs.Setting.{settingOf, activeOf, valveOf, homeOf}
-use Rattle.plan.specs.Machines.{machineGain, gainPart}
-use Rattle.plan.specs.Pipes.{duration, change, pipeImbalance, pressureBalance}
-use Rattle.plan.specs.Sizes.{MachinesSized}
-use Rattle.plan.specs.Handed.{AtArc, AtPipe, Compresses}
-use Rattle.plan.specs.CaseFacts.{duration-sized, node-sized, from-node, to-node, pipe-sized, station-in, machines-sized}
+use Rattle.plan.specs.law.PlanRecords.{arcRow}
+use Rattle.plan.specs.law.Setting.{settingOf, activeOf, valveOf, homeOf}
+use Rattle.plan.specs.law.Machines.{machineGain, gainPart}
+use Rattle.plan.specs.law.Pipes.{duration, change, pipeImbalance, pressureBalance}
+use Rattle.plan.specs.inside.Sizes.{MachinesSized}
+use Rattle.plan.specs.inside.Preconditions.{AtArc, AtPipe, Compresses}
+use Rattle.plan.specs.inside.CaseSizes.{duration-sized, node-sized, from-node, to-node, pipe-sized, station-in, machines-sized}
 
 -- ---- signed reads
 

@@ -9,21 +9,22 @@ use native.Mathlib.Omega.{arith}
 use borrow.Author.Tests.{eqb-true, eqb-false, eq-eqb, ne-eqb, leb-true, ltb-true, ltb-false}
 use lib.Dec.{eqb, leb, ltb}
 use lib.IntN.{ℤ}
-use Rattle.numbers.specs.Sets.{memberOf}
-use Rattle.numbers.specs.Sum.{count, sum-cong}
-use Rattle.case.specs.Accepted.{in-one-station}
-use Rattle.case.specs.CountLaws.{count-yes, count-grows}
-use Rattle.case.specs.Layout.{nodesOf, arcsOf, stationsOf}
-use Rattle.case.specs.OneStation.{inStation}
-use Rattle.case.specs.Records.{arcOf, artificialOf}
-use Rattle.case.specs.SetLaws.{end-in-station}
-use Rattle.case.specs.StationArcs.{belongs}
-use Rattle.case.specs.StationNodes.{stationNodes}
+use Rattle.numbers.specs.law.Sets.{memberOf}
+use Rattle.numbers.specs.law.Sums.{count}
+use Rattle.numbers.specs.inside.SumLaws.{sum-cong}
+use Rattle.case.specs.inside.AcceptedCase.{in-one-station}
+use Rattle.case.specs.inside.CountLaws.{count-yes, count-grows}
+use Rattle.case.specs.law.Layout.{nodesOf, arcsOf, stationsOf}
+use Rattle.case.specs.law.OneStation.{inStation}
+use Rattle.case.specs.law.Records.{arcOf, artificialOf}
+use Rattle.case.specs.inside.SetLaws.{end-in-station}
+use Rattle.case.specs.law.StationArcs.{belongs}
+use Rattle.case.specs.law.StationNodes.{stationNodes}
 use Rattle.case.specs.declared.records.Direction.{Direction}
-use Rattle.plan.specs.StationPass.{artificialPart, artificialFlow}
-use Rattle.plan.specs.StationRules.{stationPart, stationFlow, fenceNodeKept}
-use Rattle.plan.specs.Handed.{AcceptedCase}
-use Rattle.plan.specs.CaseFacts.{counted, station-in}
+use Rattle.plan.specs.inside.StationPass.{artificialPart, artificialFlow}
+use Rattle.plan.specs.law.StationRules.{stationPart, stationFlow, fenceNodeKept}
+use Rattle.plan.specs.inside.Preconditions.{AcceptedCase}
+use Rattle.plan.specs.inside.CaseSizes.{counted, station-in}
 
 -- two items that are so
 two : (n : ℕ) (w : ℕ → Bool) (i j : ℕ) → i < j → j < n → w i ≡ true → w j ≡ true → 2 ≤ count n w

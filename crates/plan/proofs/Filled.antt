@@ -5,8 +5,8 @@ use mathlib.Core.List.{List}
 use Prim.Native.Nat.{ℕ, _+_, _<_, _≤_}
 use native.Mathlib.Omega.{arith}
 use lib.ListN.{length, set, length-set}
-use Rattle.case.specs.Laid.{Holds}
-use Rattle.case.specs.LaidLaws.{holds-none, holds-more, holds-to}
+use Rattle.case.specs.law.LayoutOf.{Holds}
+use Rattle.case.specs.inside.HoldsLaws.{holds-none, holds-more, holds-to}
 
 pub record Filling {A : Type 0} (d : A) (xs : List A) (f : ℕ → A) (size n i : ℕ) : Type 0 where
   pub at : i ≤ n

@@ -8,32 +8,33 @@ use native.Mathlib.Numerals.{add-one}
 use native.Mathlib.Omega.{arith}
 use lib.IntN.{ℤ, pos, natAbs, _+ℤ_}
 use lib.ListN.{take, drop}
-use Rattle.numbers.specs.SignedBounds.{abs-add}
-use Rattle.numbers.specs.Question.{firstNo}
-use Rattle.numbers.specs.Items.{over, rest, rest-on, rest-no, rest-end}
-use Rattle.numbers.specs.Sum.{sum, sumN}
+use Rattle.numbers.specs.inside.SignedBounds.{abs-add}
+use Rattle.numbers.specs.law.Question.{firstNo}
+use Rattle.numbers.specs.law.Items.{over}
+use Rattle.numbers.specs.inside.ItemLaws.{rest, rest-on, rest-no, rest-end}
+use Rattle.numbers.specs.law.Sums.{sum, sumN}
 use Rattle.numbers.specs.declared.answer.Answer.{Answer}
 use Rattle.numbers.specs.declared.answer.Answer.the-variants.{Yes, No}
-use Rattle.case.specs.Layout.{numberAt, nodesOf, stepsOf}
-use Rattle.case.specs.Laid.{Holds, Laid}
+use Rattle.case.specs.law.Layout.{numberAt, nodesOf, stepsOf}
+use Rattle.case.specs.law.LayoutOf.{Holds, Laid}
 use Rattle.case.specs.declared.records.Layout.{Layout}
-use Rattle.case.specs.States.{activeAtStart}
+use Rattle.case.specs.law.States.{activeAtStart}
 use Rattle.plan.specs.declared.previous.Previous.{Previous}
 use Rattle.plan.specs.declared.totals.Totals.{Totals}
 use Rattle.plan.specs.declared.verdict.Verdict.the-variants.{Accepted, Refused}
-use Rattle.plan.specs.PlanLayout.{stepAt, stepWidth, stepRow}
-use Rattle.plan.specs.PlanRecords.{pressureIn, activeIn, directionIn, stateIn}
-use Rattle.plan.specs.Before.{startPressure, startDirection, startState, pressureAt, activeAt, directionAt, stateAt}
-use Rattle.plan.specs.Carried.{Carried, activeOf, indexOf}
-use Rattle.plan.specs.Handed.{AcceptedCase, StepKept}
-use Rattle.plan.specs.Sizes.{PressuresSized}
-use Rattle.plan.specs.Summed.{Added, Opened, Closed, TotalsSized}
-use Rattle.plan.specs.CaseFacts.{counted, node-sized}
-use Rattle.plan.specs.Kept.{step-kept, pressures-sized}
-use Rattle.plan.specs.Step.{stepQuestions}
-use Rattle.plan.specs.Totals.{gasAt, stepPressureSlack, stepDemandSlack, stepSwitching, stepResidual, totalsTo, totalsOf, pressureSlackIn, demandSlackIn, choiceCosts, activityCosts, pipeResiduals, nodeResiduals}
-use Rattle.plan.specs.Judged.{planStep, verdictOf}
-use Rattle.plan.specs.StepSizes.{pressure-slack-sized, demand-slack-sized, choice-costs-le, activity-costs-le, pipe-residuals-le, node-residuals-le}
+use Rattle.plan.specs.law.PlanLayout.{stepAt, stepWidth, stepRow}
+use Rattle.plan.specs.law.PlanRecords.{pressureIn, activeIn, directionIn, stateIn}
+use Rattle.plan.specs.law.BeforeStep.{startPressure, startDirection, startState, pressureAt, activeAt, directionAt, stateAt}
+use Rattle.plan.specs.inside.PreviousHolds.{Carried, activeOf, indexOf}
+use Rattle.plan.specs.inside.Preconditions.{AcceptedCase, StepKept}
+use Rattle.plan.specs.inside.Sizes.{PressuresSized}
+use Rattle.plan.specs.inside.StepTotals.{Added, Opened, Closed, TotalsSized}
+use Rattle.plan.specs.inside.CaseSizes.{counted, node-sized}
+use Rattle.plan.specs.inside.AnsweredSizes.{step-kept, pressures-sized}
+use Rattle.plan.specs.law.Step.{stepQuestions}
+use Rattle.plan.specs.law.Totals.{gasAt, stepPressureSlack, stepDemandSlack, stepSwitching, stepResidual, totalsTo, totalsOf, pressureSlackIn, demandSlackIn, choiceCosts, activityCosts, pipeResiduals, nodeResiduals}
+use Rattle.plan.specs.law.Judged.{planStep, verdictOf}
+use Rattle.plan.specs.inside.StepSizes.{pressure-slack-sized, demand-slack-sized, choice-costs-le, activity-costs-le, pipe-residuals-le, node-residuals-le}
 use Rattle.plan.proofs.Alike.{step-alike, pipes-alike, gas-alike, choices-alike, activities-alike}
 
 -- the totals of the first i steps

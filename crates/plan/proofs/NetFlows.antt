@@ -14,13 +14,14 @@ use lib.ListN.{length, getD, set, replicate}
 use lib.Seq.{getD-set-same, getD-set-other}
 use mir.Syntax.{w64}
 use mir.Val.{toZ, ofZ}
-use Rattle.numbers.specs.SignedLocals.{Held, held}
-use Rattle.numbers.specs.SignedLinear.{v, _⊞_, _⊟_, eq! }
-use Rattle.numbers.specs.SignedBounds.{Bounded, abs-add, abs-neg}
-use Rattle.numbers.specs.Sum.{sum, only, abs-sum-le, abs-only-le}
-use Rattle.case.specs.Layout.{numberAt}
-use Rattle.case.specs.Laid.{Holds}
-use Rattle.plan.specs.Moved.{movedAt, NetSized}
+use Rattle.numbers.specs.inside.SignedLocals.{Held, held}
+use Rattle.numbers.specs.inside.SignedLinear.{v, _⊞_, _⊟_, eq! }
+use Rattle.numbers.specs.inside.SignedBounds.{Bounded, abs-add, abs-neg}
+use Rattle.numbers.specs.law.Sums.{sum, only}
+use Rattle.numbers.specs.inside.SumLaws.{abs-sum-le, abs-only-le}
+use Rattle.case.specs.law.Layout.{numberAt}
+use Rattle.case.specs.law.LayoutOf.{Holds}
+use Rattle.plan.specs.inside.NetFlow.{movedAt, NetSized}
 
 -- ---- one store
 

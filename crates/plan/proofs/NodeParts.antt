@@ -9,18 +9,19 @@ use native.Mathlib.Omega.{arith}
 use lib.Dec.{eqb}
 use lib.IntN.{ℤ, pos, natAbs, negℤ, _-ℤ_}
 use lib.Signed.{leZ}
-use Rattle.numbers.specs.Question.{answer, firstNo}
-use Rattle.numbers.specs.SignedBounds.{Bounded, abs-add, abs-neg}
-use Rattle.numbers.specs.Sum.{sum, only, sum-sub, abs-sum-le}
-use Rattle.case.specs.Layout.{arcsOf, massTolerance}
-use Rattle.case.specs.Records.{arcOf}
-use Rattle.plan.specs.Compared.{asked}
-use Rattle.plan.specs.PlanRecords.{nodeRow}
-use Rattle.plan.specs.Pipes.{isPipe}
-use Rattle.plan.specs.Balance.{flowAtFrom, flowAtTo, outPart, inPart, outflow, inflow, netFlow, nodeImbalance, nodeResidual, balanceKept, balanceQuestions}
-use Rattle.plan.specs.Sizes.{FlowsSized}
-use Rattle.plan.specs.Handed.{AcceptedCase, AtBalance}
-use Rattle.plan.specs.CaseFacts.{counted, duration-sized}
+use Rattle.numbers.specs.law.Question.{answer, firstNo}
+use Rattle.numbers.specs.inside.SignedBounds.{Bounded, abs-add, abs-neg}
+use Rattle.numbers.specs.law.Sums.{sum, only}
+use Rattle.numbers.specs.inside.SumLaws.{sum-sub, abs-sum-le}
+use Rattle.case.specs.law.Layout.{arcsOf, massTolerance}
+use Rattle.case.specs.law.Records.{arcOf}
+use Rattle.plan.specs.law.Compared.{asked}
+use Rattle.plan.specs.law.PlanRecords.{nodeRow}
+use Rattle.plan.specs.law.Pipes.{isPipe}
+use Rattle.plan.specs.law.Balance.{flowAtFrom, flowAtTo, outPart, inPart, outflow, inflow, netFlow, nodeImbalance, nodeResidual, balanceKept, balanceQuestions}
+use Rattle.plan.specs.inside.Sizes.{FlowsSized}
+use Rattle.plan.specs.inside.Preconditions.{AcceptedCase, AtBalance}
+use Rattle.plan.specs.inside.CaseSizes.{counted, duration-sized}
 use Rattle.plan.proofs.NetFlows.{put-sized}
 
 -- the flow at an end: one of the row's two, or their difference

@@ -8,10 +8,11 @@ use lib.Dec.{T, ltb}
 use lib.IntN.{ℤ, natAbs, _+ℤ_}
 use mir.Syntax.{w64}
 use mir.Val.{SFits, Fits, toZ, ofZ}
-use Rattle.numbers.specs.SignedBounds.{Bounded}
-use Rattle.numbers.specs.SignedLocals.{Held, plain, held, held<, held-fits<, renamed, _+ʳ_}
+use Rattle.numbers.specs.inside.SignedBounds.{Bounded}
+use Rattle.numbers.specs.inside.SignedLocals.{Held, plain, held, held<, held-fits<, renamed, _+ʳ_}
 use Rattle.plan.proofs.Sums.{sum-more}
-use Rattle.numbers.specs.Sum.{sum, sumN, abs-sum-le, sumN-bound}
+use Rattle.numbers.specs.law.Sums.{sum, sumN}
+use Rattle.numbers.specs.inside.SumLaws.{abs-sum-le, sumN-bound}
 
 -- what is read of a number whose size is known
 pub read-back : (z : ℤ) (x : ℕ) → natAbs z ≤ x → x < 2 ^ 63 → toZ w64 (ofZ w64 z) ≡ z

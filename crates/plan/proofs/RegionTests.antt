@@ -6,14 +6,14 @@ use mathlib.Core.List.{List}
 use lib.IntN.{ℤ, pos}
 use Prim.Native.Nat.{ℕ, suc, _+_, _-_, _<_, _≤_}
 use native.Mathlib.Numerals.{add-one}
-use Rattle.numbers.specs.Sets.{memberOf}
-use Rattle.numbers.specs.SignedParts.{posPart}
-use Rattle.numbers.specs.Question.{firstNo}
-use Rattle.plan.specs.RegionFigures.{figuresOf}
-use Rattle.plan.specs.Ledger.{lowestOf, regionQuestions, ledgerBy}
+use Rattle.numbers.specs.law.Sets.{memberOf}
+use Rattle.numbers.specs.law.Signed.{posPart}
+use Rattle.numbers.specs.law.Question.{firstNo}
+use Rattle.plan.specs.law.RegionFigures.{figuresOf}
+use Rattle.plan.specs.law.Ledger.{lowestOf, regionQuestions, ledgerBy}
 use native.Mathlib.Omega.{arith}
-use Rattle.numbers.specs.Sum.{only, onlyN}
-use Rattle.plan.specs.Region.{inward}
+use Rattle.numbers.specs.law.Sums.{only, onlyN}
+use Rattle.plan.specs.law.Region.{inward}
 
 pub all-three : {k f g r : Bool} → k ≡ true → f ≡ true → r ≡ g → r ≡ (k && (f && g))
 all-three p q e = rw (p, q) e

@@ -8,18 +8,20 @@ use native.Mathlib.Omega.{arith}
 use borrow.Author.Tests.{le-leb, lt-leb}
 use lib.Dec.{eqb, leb}
 use lib.IntN.{ℤ, pos, natAbs, _-ℤ_}
-use Rattle.numbers.specs.Question.{answer, orElse, orElse-yes, firstNo}
+use Rattle.numbers.specs.law.Question.{answer, orElse, firstNo}
+use Rattle.numbers.specs.inside.QuestionLaws.{orElse-yes}
 use Rattle.numbers.specs.declared.answer.Answer.{Answer}
-use Rattle.numbers.specs.Sum.{only, abs-only-le}
-use Rattle.case.specs.Layout.{nodesOf, arcsOf, stationsOf}
-use Rattle.case.specs.Records.{arcOf, directionOf}
-use Rattle.case.specs.StationNodes.{stationNodes, plainNodes}
+use Rattle.numbers.specs.law.Sums.{only}
+use Rattle.numbers.specs.inside.SumLaws.{abs-only-le}
+use Rattle.case.specs.law.Layout.{nodesOf, arcsOf, stationsOf}
+use Rattle.case.specs.law.Records.{arcOf, directionOf}
+use Rattle.case.specs.law.StationNodes.{stationNodes, plainNodes}
 use Rattle.case.specs.declared.records.Direction.{Direction}
-use Rattle.plan.specs.PlanRecords.{arcRow}
-use Rattle.plan.specs.StationRules.{fenceNodeKept, fenceKept, choiceKept, machinesOnce, fenceFlowsKept, stationQuestions}
-use Rattle.plan.specs.StationPass.{artificialPart, artificialFlow}
-use Rattle.plan.specs.Sizes.{FlowsSized}
-use Rattle.plan.specs.Handed.{AcceptedCase}
+use Rattle.plan.specs.law.PlanRecords.{arcRow}
+use Rattle.plan.specs.law.StationRules.{fenceNodeKept, fenceKept, choiceKept, machinesOnce, fenceFlowsKept, stationQuestions}
+use Rattle.plan.specs.inside.StationPass.{artificialPart, artificialFlow}
+use Rattle.plan.specs.inside.Sizes.{FlowsSized}
+use Rattle.plan.specs.inside.Preconditions.{AcceptedCase}
 use Rattle.plan.proofs.NetFlows.{put-sized}
 use Rattle.plan.proofs.NodeParts.{difference}
 use Rattle.plan.proofs.FenceFlows.{fence-passed}

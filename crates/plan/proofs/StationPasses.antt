@@ -12,18 +12,18 @@ use lib.IntN.{ℤ}
 use lib.ListN.{length, getD, set, replicate, length-set, length-replicate, getD-replicate}
 use lib.Pow.{pow-mono}
 use lib.Seq.{getD-set-same, getD-set-other, set-getD}
-use Rattle.numbers.specs.SignedParts.{posPart}
-use Rattle.numbers.specs.Sum.{onlyN}
-use Rattle.case.specs.CountLaws.{before-none, before-yes, before-no, before-mono, arcs-none, arcs-yes, arcs-no, arcs-lt}
-use Rattle.case.specs.Laid.{Holds}
-use Rattle.case.specs.Layout.{arcsOf, stationsOf}
-use Rattle.case.specs.Records.{arcOf}
-use Rattle.case.specs.StationArcs.{belongs, arcsBefore, arcSet}
-use Rattle.plan.specs.PlanRecords.{arcRow, activeIn}
-use Rattle.plan.specs.StationRules.{machinesOnce}
-use Rattle.plan.specs.StationPass.{ownStation, activeBits}
-use Rattle.plan.specs.Handed.{AcceptedCase, MachinesKept}
-use Rattle.plan.specs.CaseFacts.{station-in, station-size}
+use Rattle.numbers.specs.law.Signed.{posPart}
+use Rattle.numbers.specs.law.Sums.{onlyN}
+use Rattle.case.specs.inside.CountLaws.{before-none, before-yes, before-no, before-mono, arcs-none, arcs-yes, arcs-no, arcs-lt}
+use Rattle.case.specs.law.LayoutOf.{Holds}
+use Rattle.case.specs.law.Layout.{arcsOf, stationsOf}
+use Rattle.case.specs.law.Records.{arcOf}
+use Rattle.case.specs.law.StationArcs.{belongs, arcsBefore, arcSet}
+use Rattle.plan.specs.law.PlanRecords.{arcRow, activeIn}
+use Rattle.plan.specs.law.StationRules.{machinesOnce}
+use Rattle.plan.specs.inside.StationPass.{ownStation, activeBits}
+use Rattle.plan.specs.inside.Preconditions.{AcceptedCase, MachinesKept}
+use Rattle.plan.specs.inside.CaseSizes.{station-in, station-size}
 use Rattle.plan.proofs.Taken.{Taken, taken-none, taken-same, taken-more, taken-twice, taken-once, own-bits}
 
 -- ---- the arc's own station

@@ -4,16 +4,17 @@ use mathlib.Core.Path.{_≡_, sym, _∙_}
 use mathlib.Core.List.{List, _++_}
 use Prim.Native.Nat.{ℕ}
 use lib.IntN.{ℤ}
-use Rattle.numbers.specs.Question.{firstNo, firstNo-append, orElse}
+use Rattle.numbers.specs.law.Question.{firstNo, orElse}
+use Rattle.numbers.specs.inside.QuestionLaws.{firstNo-append}
 use Rattle.numbers.specs.declared.answer.Answer.{Answer}
 use Rattle.numbers.specs.declared.answer.Answer.the-variants.{Yes, No}
-use Rattle.plan.specs.NodeRules.{allNodeQuestions}
-use Rattle.plan.specs.ArcRules.{allArcQuestions}
-use Rattle.plan.specs.StationRules.{allStationQuestions}
-use Rattle.plan.specs.Balance.{allBalanceQuestions}
-use Rattle.plan.specs.Step.{stepQuestions}
+use Rattle.plan.specs.law.NodeRules.{allNodeQuestions}
+use Rattle.plan.specs.law.ArcRules.{allArcQuestions}
+use Rattle.plan.specs.law.StationRules.{allStationQuestions}
+use Rattle.plan.specs.law.Balance.{allBalanceQuestions}
+use Rattle.plan.specs.law.Step.{stepQuestions}
 use Rattle.plan.specs.declared.stepped.Stepped.{Stepped}
-use Rattle.plan.specs.SteppedBy.{steppedBy}
+use Rattle.plan.specs.inside.StepAnswer.{steppedBy}
 
 module _ (case : List ℤ) (old : ℕ → ℤ) (row : List ℤ) (i : ℕ) where
   step-is : firstNo (stepQuestions case old row i)

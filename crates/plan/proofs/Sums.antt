@@ -6,8 +6,9 @@ use native.Mathlib.Numerals.{add-one}
 use native.Mathlib.Nat.{mul-le-mul-right}
 use native.Mathlib.Omega.{arith}
 use lib.IntN.{ℤ, pos, natAbs, _+ℤ_, +ℤ-idr}
-use Rattle.numbers.specs.Sum.{sum, sumN, abs-sum-le, sumN-bound}
-use Rattle.numbers.specs.SignedLocals.{Held}
+use Rattle.numbers.specs.law.Sums.{sum, sumN}
+use Rattle.numbers.specs.inside.SumLaws.{abs-sum-le, sumN-bound}
+use Rattle.numbers.specs.inside.SignedLocals.{Held}
 
 module _ (f : ℕ → ℤ) where
   pub sum-none : sum 0 f ≡ pos 0

@@ -11,21 +11,23 @@ use lib.Dec.{eqb, leb, ltb}
 use lib.IntN.{ℤ, pos}
 use lib.Pow.{pow-pos}
 use lib.Signed.{leZ}
-use Rattle.numbers.specs.SignedParts.{posPart, ints, size}
-use Rattle.numbers.specs.Sets.{bit, memberOf, subsetOf, bit-zero, bit-high, subset-is, disjoint-is, is-disjoint}
-use Rattle.numbers.specs.Sum.{count}
-use Rattle.case.specs.Layout.{arcsOf, stationsOf}
-use Rattle.case.specs.Records.{arcOf, artificialOf, stationOf}
-use Rattle.case.specs.InRange.{and-first, and-second}
-use Rattle.case.specs.StationFields.{firstItems}
-use Rattle.case.specs.StationArcs.{belongs, every}
-use Rattle.case.specs.CountLaws.{count-none, count-yes, count-no, count-grows, every-at, at-every}
-use Rattle.plan.specs.Compared.{isZero}
-use Rattle.plan.specs.PlanRecords.{arcRow}
-use Rattle.plan.specs.ArcFlows.{machinesWithin}
-use Rattle.plan.specs.StationRules.{onArc, machineOnce, machinesOnce}
-use Rattle.plan.specs.Handed.{AcceptedCase, MachinesKept}
-use Rattle.plan.specs.CaseFacts.{own-machines}
+use Rattle.numbers.specs.law.Signed.{posPart}
+use Rattle.numbers.specs.inside.SignedParts.{ints, size}
+use Rattle.numbers.specs.law.Sets.{bit, memberOf, subsetOf}
+use Rattle.numbers.specs.inside.SetLaws.{bit-zero, bit-high, subset-is, disjoint-is, is-disjoint}
+use Rattle.numbers.specs.law.Sums.{count}
+use Rattle.case.specs.law.Layout.{arcsOf, stationsOf}
+use Rattle.case.specs.law.Records.{arcOf, artificialOf, stationOf}
+use Rattle.case.specs.inside.FieldLaws.{and-first, and-second}
+use Rattle.case.specs.law.StationFields.{firstItems}
+use Rattle.case.specs.law.StationArcs.{belongs, every}
+use Rattle.case.specs.inside.CountLaws.{count-none, count-yes, count-no, count-grows, every-at, at-every}
+use Rattle.plan.specs.law.Compared.{isZero}
+use Rattle.plan.specs.law.PlanRecords.{arcRow}
+use Rattle.plan.specs.law.ArcFlows.{machinesWithin}
+use Rattle.plan.specs.law.StationRules.{onArc, machineOnce, machinesOnce}
+use Rattle.plan.specs.inside.Preconditions.{AcceptedCase, MachinesKept}
+use Rattle.plan.specs.inside.CaseSizes.{own-machines}
 
 bit-or : (a b i : ℕ) → bit (bitOr a b) i ≡ max (bit a i) (bit b i)
 bit-or a b i = rw or-shr (let k = or-step (a / 2 ^ i) (b / 2 ^ i) in omega arith)

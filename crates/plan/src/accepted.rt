@@ -2,10 +2,10 @@
 ghost use mathlib.Core.Path.{_≡_};
 ghost use Prim.Native.Nat.{_+_, _<_, _≤_};
 ghost use lib.ListN.{length};
-ghost use Rattle.case.specs.Layout.{numberAt, countAt, nodesOf, arcsOf, stepsOf, nodeAt, arcAt};
-ghost use Rattle.case.specs.Records.{nodeOf, arcOf, pipeOf, artificialOf};
-ghost use Rattle.plan.specs.StationPass.{ownStation};
-ghost use Rattle.plan.specs.Handed.{AcceptedCase};
+ghost use Rattle.case.specs.law.Layout.{numberAt, countAt, nodesOf, arcsOf, stepsOf, nodeAt, arcAt};
+ghost use Rattle.case.specs.law.Records.{nodeOf, arcOf, pipeOf, artificialOf};
+ghost use Rattle.plan.specs.inside.StationPass.{ownStation};
+ghost use Rattle.plan.specs.inside.Preconditions.{AcceptedCase};
 use case::offsets::ARC;
 use case::offsets::HEAD;
 use case::offsets::NODE;

@@ -1,11 +1,11 @@
 // 24 to 29, of every arc of a step.
 ghost use mathlib.Core.Path.{_≡_};
-ghost use Rattle.numbers.specs.Question.{firstNo};
-ghost use Rattle.case.specs.Layout.{numberAt, nodesOf};
-ghost use Rattle.plan.specs.PlanRecords.{pressureIn};
-ghost use Rattle.plan.specs.ArcRules.{arcQuestions, allArcQuestions};
-ghost use Rattle.plan.specs.Sizes.{PressuresSized};
-ghost use Rattle.plan.specs.Handed.{AtStep, AtArc};
+ghost use Rattle.numbers.specs.law.Question.{firstNo};
+ghost use Rattle.case.specs.law.Layout.{numberAt, nodesOf};
+ghost use Rattle.plan.specs.law.PlanRecords.{pressureIn};
+ghost use Rattle.plan.specs.law.ArcRules.{arcQuestions, allArcQuestions};
+ghost use Rattle.plan.specs.inside.Sizes.{PressuresSized};
+ghost use Rattle.plan.specs.inside.Preconditions.{AtStep, AtArc};
 use super::flows::flow_answer;
 use super::pipes::pipe_answer;
 use super::pressures::pressure_answer;

@@ -1,15 +1,15 @@
 // The verdict on a case list and a plan list, and on two byte strings.
 ghost use mathlib.Core.Path.{_≡_};
 ghost use lib.ListN.{length};
-ghost use Rattle.numbers.specs.Question.{firstNo};
-ghost use Rattle.numbers.specs.Told.{overlay};
-ghost use Rattle.numbers.specs.Reading.{readOf};
-ghost use Rattle.case.specs.Laid.{Laid};
-ghost use Rattle.plan.specs.PlanHead.{headKept};
-ghost use Rattle.plan.specs.Totals.{totalsOf};
-ghost use Rattle.plan.specs.Judged.{planQuestions, verdictOf, verdictTold, judgeOf};
-ghost use Rattle.plan.specs.JudgedBytes.{planNumber, planBytesTold, bytesTold, caseBytesTold, planListAfter, planListOf};
-ghost use Rattle.plan.specs.Handed.{AcceptedCase};
+ghost use Rattle.numbers.specs.law.Question.{firstNo};
+ghost use Rattle.numbers.specs.law.Told.{overlay};
+ghost use Rattle.numbers.specs.law.Reading.{readOf};
+ghost use Rattle.case.specs.law.LayoutOf.{Laid};
+ghost use Rattle.plan.specs.law.PlanHead.{headKept};
+ghost use Rattle.plan.specs.law.Totals.{totalsOf};
+ghost use Rattle.plan.specs.law.Judged.{planQuestions, verdictOf, verdictTold, judgeOf};
+ghost use Rattle.plan.specs.law.JudgedBytes.{planNumber, planBytesTold, bytesTold, caseBytesTold, planListAfter, planListOf};
+ghost use Rattle.plan.specs.inside.Preconditions.{AcceptedCase};
 use super::steps::step_width;
 use super::steps::steps;
 use super::verdict::Verdict;

@@ -1,9 +1,9 @@
 // Sums over the machines of a station that a set names. The station's rows begin at `first`.
 ghost use mathlib.Core.Path.{_≡_};
 ghost use Prim.Native.Nat.{_<_};
-ghost use Rattle.case.specs.Layout.{machinesAt};
-ghost use Rattle.plan.specs.Machines.{flowPart, machineFlow, gainPart, machineGain};
-ghost use Rattle.plan.specs.Sizes.{MachinesSized};
+ghost use Rattle.case.specs.law.Layout.{machinesAt};
+ghost use Rattle.plan.specs.law.Machines.{flowPart, machineFlow, gainPart, machineGain};
+ghost use Rattle.plan.specs.inside.Sizes.{MachinesSized};
 use case::read::machine;
 use case::read::station;
 use numbers::sets::member;

@@ -1,11 +1,11 @@
 // 21 to 23, of every node of a step.
 ghost use mathlib.Core.Path.{_≡_};
 ghost use Prim.Native.Nat.{_<_};
-ghost use Rattle.numbers.specs.Question.{firstNo};
-ghost use Rattle.case.specs.Layout.{nodesOf, stepsOf};
-ghost use Rattle.plan.specs.NodeRules.{slackLimit, slacksKept, boundaryFlowKept, nodeNumbersKept, demandMet, activeBoundsKept, nodeQuestions, allNodeQuestions};
-ghost use Rattle.plan.specs.Sizes.{NodeSized, NodeRowSized};
-ghost use Rattle.plan.specs.Handed.{AcceptedCase};
+ghost use Rattle.numbers.specs.law.Question.{firstNo};
+ghost use Rattle.case.specs.law.Layout.{nodesOf, stepsOf};
+ghost use Rattle.plan.specs.law.NodeRules.{slackLimit, slacksKept, boundaryFlowKept, nodeNumbersKept, demandMet, activeBoundsKept, nodeQuestions, allNodeQuestions};
+ghost use Rattle.plan.specs.inside.Sizes.{NodeSized, NodeRowSized};
+ghost use Rattle.plan.specs.inside.Preconditions.{AcceptedCase};
 use super::accepted::node;
 use super::bools::both;
 use super::rows::NodeRow;

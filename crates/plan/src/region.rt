@@ -1,14 +1,14 @@
 // A region is a set of nodes: its inner pipes, its edge, and what one step brings in and leaves over.
 ghost use mathlib.Core.Path.{_≡_};
 ghost use Prim.Native.Nat.{_+_, _<_, _≤_};
-ghost use Rattle.numbers.specs.SignedBounds.{Bounded};
-ghost use Rattle.numbers.specs.Sum.{onlyN};
-ghost use Rattle.case.specs.Layout.{numberAt, nodesOf, arcsOf};
-ghost use Rattle.plan.specs.Sizes.{NodesSized};
-ghost use Rattle.plan.specs.Handed.{AcceptedCase, AtBalance};
-ghost use Rattle.plan.specs.Region.{inward, innerPipe, innerPipes, innerGas, regionGas, edgeFlow, edgeFlows, regionSupply, suppliesIn, broughtIn};
-ghost use Rattle.plan.specs.RegionResidual.{ownNode, ownNodes, ownPipe, ownPipes};
-ghost use Rattle.plan.specs.RegionHanded.{RegionPressures, RegionFlows, RegionStep, RegionRoom, RegionAdded};
+ghost use Rattle.numbers.specs.inside.SignedBounds.{Bounded};
+ghost use Rattle.numbers.specs.law.Sums.{onlyN};
+ghost use Rattle.case.specs.law.Layout.{numberAt, nodesOf, arcsOf};
+ghost use Rattle.plan.specs.inside.Sizes.{NodesSized};
+ghost use Rattle.plan.specs.inside.Preconditions.{AcceptedCase, AtBalance};
+ghost use Rattle.plan.specs.law.Region.{inward, innerPipe, innerPipes, innerGas, regionGas, edgeFlow, edgeFlows, regionSupply, suppliesIn, broughtIn};
+ghost use Rattle.plan.specs.law.RegionResidual.{ownNode, ownNodes, ownPipe, ownPipes};
+ghost use Rattle.plan.specs.inside.RegionPreconditions.{RegionPressures, RegionFlows, RegionStep, RegionRoom, RegionAdded};
 use super::accepted::arc;
 use super::balance::end_flows;
 use super::balance::net_flows;

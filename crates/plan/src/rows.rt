@@ -1,9 +1,9 @@
 // The rows of one step as records by value, read off the step's part of the plan list. A number past the end reads as 0.
 ghost use mathlib.Core.Path.{_≡_};
 ghost use Prim.Native.Nat.{_<_};
-ghost use Rattle.case.specs.Layout.{arcsOf, stationsOf, nodesOf};
-ghost use Rattle.case.specs.Bounds.{Counted};
-ghost use Rattle.plan.specs.PlanRecords.{nodeRow, pressureIn, arcRow, choiceOf};
+ghost use Rattle.case.specs.law.Layout.{arcsOf, stationsOf, nodesOf};
+ghost use Rattle.case.specs.inside.Counts.{Counted};
+ghost use Rattle.plan.specs.law.PlanRecords.{nodeRow, pressureIn, arcRow, choiceOf};
 use numbers::compare::at;
 use numbers::compare::index;
 

@@ -1,6 +1,6 @@
 // An arc's setting, read off the arc's kind and the plan's number.
 ghost use mathlib.Core.Path.{_≡_};
-ghost use Rattle.plan.specs.Setting.{directed, combinedOf, valveOf, activeOf, settingOf};
+ghost use Rattle.plan.specs.law.Setting.{directed, combinedOf, valveOf, activeOf, settingOf};
 use numbers::compare::at_most;
 use numbers::compare::index;
 

@@ -1,11 +1,11 @@
 // 30 to 32, of every station of a step.
 ghost use mathlib.Core.Path.{_≡_};
-ghost use Rattle.numbers.specs.Question.{firstNo};
-ghost use Rattle.case.specs.Records.{stateRow};
-ghost use Rattle.plan.specs.StationRules.{oneOf, obeyed, choiceKept, machinesOnce, fenceFlowKept, fenceNodeKept, fenceFlowsKept, stationQuestions, allStationQuestions};
-ghost use Rattle.plan.specs.StationPass.{activeBits, FlowsPassed};
-ghost use Rattle.plan.specs.Sizes.{FlowsSized};
-ghost use Rattle.plan.specs.Handed.{AcceptedCase, AtStep, AtStation, MachinesKept};
+ghost use Rattle.numbers.specs.law.Question.{firstNo};
+ghost use Rattle.case.specs.law.Records.{stateRow};
+ghost use Rattle.plan.specs.law.StationRules.{oneOf, obeyed, choiceKept, machinesOnce, fenceFlowKept, fenceNodeKept, fenceFlowsKept, stationQuestions, allStationQuestions};
+ghost use Rattle.plan.specs.inside.StationPass.{activeBits, FlowsPassed};
+ghost use Rattle.plan.specs.inside.Sizes.{FlowsSized};
+ghost use Rattle.plan.specs.inside.Preconditions.{AcceptedCase, AtStep, AtStation, MachinesKept};
 use super::passes::active_sets;
 use super::passes::artificial_flows;
 use super::passes::machines_once;

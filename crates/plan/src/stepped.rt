@@ -1,6 +1,6 @@
 // What a step's judge finds: the first "no", or what the nodes leave over.
 ghost use mathlib.Core.Path.{_≡_};
-ghost use Rattle.plan.specs.SteppedBy.{steppedBy};
+ghost use Rattle.plan.specs.inside.StepAnswer.{steppedBy};
 use numbers::answer::Answer;
 
 pub enum Stepped {

@@ -1,13 +1,13 @@
 // The six totals of an accepted plan, and what a step adds to them.
 ghost use mathlib.Core.Path.{_≡_};
 ghost use Prim.Native.Nat.{_<_};
-ghost use Rattle.case.specs.Layout.{numberAt, nodesOf, arcsOf, stationsOf, stationAt, stepsOf};
-ghost use Rattle.case.specs.Laid.{Laid};
-ghost use Rattle.plan.specs.Totals.{changed, directionCost, stateCost, activityCost, choiceCosts, activityCosts, pipePart, pipeResiduals, nodeResiduals, gasPart, gasAt};
-ghost use Rattle.plan.specs.Carried.{activeOf, indexOf};
-ghost use Rattle.plan.specs.Sizes.{NodesSized, PressuresSized};
-ghost use Rattle.plan.specs.Summed.{Slacked, TotalsSized, Added};
-ghost use Rattle.plan.specs.Handed.{AcceptedCase, AtStep, ChoicesKept, StepKept};
+ghost use Rattle.case.specs.law.Layout.{numberAt, nodesOf, arcsOf, stationsOf, stationAt, stepsOf};
+ghost use Rattle.case.specs.law.LayoutOf.{Laid};
+ghost use Rattle.plan.specs.law.Totals.{changed, directionCost, stateCost, activityCost, choiceCosts, activityCosts, pipePart, pipeResiduals, nodeResiduals, gasPart, gasAt};
+ghost use Rattle.plan.specs.inside.PreviousHolds.{activeOf, indexOf};
+ghost use Rattle.plan.specs.inside.Sizes.{NodesSized, PressuresSized};
+ghost use Rattle.plan.specs.inside.StepTotals.{Slacked, TotalsSized, Added};
+ghost use Rattle.plan.specs.inside.Preconditions.{AcceptedCase, AtStep, ChoicesKept, StepKept};
 use super::accepted::arc;
 use super::accepted::artificial;
 use super::accepted::pipe;

@@ -3,9 +3,10 @@ use Prim.Native.Nat.{_≤_, _-_, _+_, _*_}
 use native.Mathlib.Omega.{arith}
 use borrow.Author.Needs.{needs}
 use denote.Ref.{now}
-use Rattle.numbers.specs.Items.{over, rest, rest-on, rest-no, rest-end}
-use Rattle.numbers.specs.Question.{firstNo}
-use Rattle.case.specs.ArcFields.{arcFields}
+use Rattle.numbers.specs.law.Items.{over}
+use Rattle.numbers.specs.inside.ItemLaws.{rest, rest-on, rest-no, rest-end}
+use Rattle.numbers.specs.law.Question.{firstNo}
+use Rattle.case.specs.law.ArcFields.{arcFields}
 use Rattle.case.proofs.Rows.{arc-asked, arc-row}
 use Rattle.case.proofs.arcs.arc_rows.Statement.{statement}
 use Rattle.case.proofs.arcs.arc_rows.Tie as tie

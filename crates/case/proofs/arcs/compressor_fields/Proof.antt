@@ -1,6 +1,6 @@
 use borrow.Author.Needs.{needs}
-use Rattle.numbers.specs.Question.{firstNo-append}
-use Rattle.case.specs.ArcFields.{compressorFields}
+use Rattle.numbers.specs.inside.QuestionLaws.{firstNo-append}
+use Rattle.case.specs.law.ArcFields.{compressorFields}
 use Rattle.case.proofs.Asked.{chain}
 use Rattle.case.proofs.arcs.compressor_fields.Statement.{statement}
 use Rattle.case.proofs.arcs.compressor_fields.Tie as tie

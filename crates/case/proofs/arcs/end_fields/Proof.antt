@@ -3,12 +3,12 @@ use borrow.Author.Needs.{needs}
 use denote.Ref.{now}
 use mir.Syntax.{w64}
 use mir.Val.{toZ, ofZ}
-use Rattle.numbers.specs.Question.{firstNo-append}
-use Rattle.case.specs.ArcFields.{endFields}
-use Rattle.case.specs.Field.{lastOf}
-use Rattle.case.specs.Layout.{nodesOf}
+use Rattle.numbers.specs.inside.QuestionLaws.{firstNo-append}
+use Rattle.case.specs.law.ArcFields.{endFields}
+use Rattle.case.specs.law.Field.{lastOf}
+use Rattle.case.specs.law.Layout.{nodesOf}
 use Rattle.case.proofs.Asked.{chain}
-use Rattle.numbers.specs.SignedLocals.{kept}
+use Rattle.numbers.specs.inside.SignedLocals.{kept}
 use Rattle.case.proofs.arcs.end_fields.Statement.{statement}
 use Rattle.case.proofs.arcs.end_fields.Tie as tie
 

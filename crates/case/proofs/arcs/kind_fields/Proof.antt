@@ -4,9 +4,9 @@ use native.Mathlib.Omega.{arith}
 use borrow.Author.Needs.{needs}
 use borrow.Author.Tests.{le-leb, lt-leb, ne-eqb}
 use denote.Ref.{now}
-use Rattle.numbers.specs.Question.{firstNo-append}
-use Rattle.case.specs.ArcFields.{kindFields}
-use Rattle.case.specs.Layout.{countAt}
+use Rattle.numbers.specs.inside.QuestionLaws.{firstNo-append}
+use Rattle.case.specs.law.ArcFields.{kindFields}
+use Rattle.case.specs.law.Layout.{countAt}
 use Rattle.case.proofs.Asked.{chain}
 use Rattle.case.proofs.Counting.{first-is}
 use Rattle.case.proofs.arcs.kind_fields.Statement.{statement}

@@ -3,12 +3,12 @@ use borrow.Author.Needs.{needs}
 use denote.Ref.{now}
 use mir.Syntax.{w64}
 use mir.Val.{toZ, ofZ}
-use Rattle.numbers.specs.Question.{firstNo-append}
-use Rattle.case.specs.ArcFields.{leastBothWays, memberFields}
-use Rattle.case.specs.Field.{lastOf}
-use Rattle.case.specs.Layout.{countAt, stationsOf}
+use Rattle.numbers.specs.inside.QuestionLaws.{firstNo-append}
+use Rattle.case.specs.law.ArcFields.{leastBothWays, memberFields}
+use Rattle.case.specs.law.Field.{lastOf}
+use Rattle.case.specs.law.Layout.{countAt, stationsOf}
 use Rattle.case.proofs.Asked.{chain}
-use Rattle.numbers.specs.SignedLocals.{kept}
+use Rattle.numbers.specs.inside.SignedLocals.{kept}
 use Rattle.case.proofs.arcs.member_fields.Statement.{statement}
 use Rattle.case.proofs.arcs.member_fields.Tie as tie
 

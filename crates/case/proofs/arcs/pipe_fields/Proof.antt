@@ -1,6 +1,6 @@
 use borrow.Author.Needs.{needs}
-use Rattle.numbers.specs.Question.{firstNo-append}
-use Rattle.case.specs.ArcFields.{pipeFields}
+use Rattle.numbers.specs.inside.QuestionLaws.{firstNo-append}
+use Rattle.case.specs.law.ArcFields.{pipeFields}
 use Rattle.case.proofs.Asked.{chain}
 use Rattle.case.proofs.arcs.pipe_fields.Statement.{statement}
 use Rattle.case.proofs.arcs.pipe_fields.Tie as tie

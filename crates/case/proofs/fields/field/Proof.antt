@@ -5,10 +5,10 @@ use borrow.Author.Tests.{lt-ltb, le-ltb}
 use denote.Ref.{now}
 use lib.Signed.{leZ}
 use mir.Facts.{toZ-ofZ}
-use Rattle.numbers.specs.Question.{orElse-yes}
-use Rattle.case.specs.Field.{field}
-use Rattle.case.specs.Layout.{numberAt}
-use Rattle.numbers.specs.SignedLocals.{kept}
+use Rattle.numbers.specs.inside.QuestionLaws.{orElse-yes}
+use Rattle.case.specs.law.Field.{field}
+use Rattle.case.specs.law.Layout.{numberAt}
+use Rattle.numbers.specs.inside.SignedLocals.{kept}
 use Rattle.case.proofs.fields.field.Statement.{statement}
 use Rattle.case.proofs.fields.field.Tie as tie
 

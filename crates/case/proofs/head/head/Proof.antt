@@ -1,6 +1,6 @@
 use borrow.Author.Needs.{needs}
-use Rattle.numbers.specs.Question.{firstNo-append}
-use Rattle.case.specs.HeadFields.{headFields, toleranceFields}
+use Rattle.numbers.specs.inside.QuestionLaws.{firstNo-append}
+use Rattle.case.specs.law.HeadFields.{headFields, toleranceFields}
 use Rattle.case.proofs.Asked.{chain}
 use Rattle.case.proofs.head.head.Statement.{statement}
 use Rattle.case.proofs.head.head.Tie as tie

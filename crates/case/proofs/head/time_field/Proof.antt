@@ -3,9 +3,9 @@ use denote.Ref.{now}
 use lib.IntN.{pos}
 use mir.Syntax.{w64}
 use mir.Val.{toZ, ofZ}
-use Rattle.numbers.specs.SignedLocals.{Held, held, held-fits, literal, _+ʳ_}
-use Rattle.case.specs.Records.{timeBefore}
-use Rattle.case.specs.TimeFields.{timeField}
+use Rattle.numbers.specs.inside.SignedLocals.{Held, held, held-fits, literal, _+ʳ_}
+use Rattle.case.specs.law.Records.{timeBefore}
+use Rattle.case.specs.law.TimeFields.{timeField}
 use Rattle.case.proofs.head.time_field.Statement.{statement}
 use Rattle.case.proofs.head.time_field.Tie as tie
 

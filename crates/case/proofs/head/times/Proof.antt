@@ -3,11 +3,12 @@ use Prim.Native.Nat.{_≤_, _-_, _*_}
 use native.Mathlib.Omega.{arith}
 use borrow.Author.Needs.{needs}
 use denote.Ref.{now}
-use Rattle.numbers.specs.Items.{over, rest, rest-on, rest-no, rest-end}
-use Rattle.numbers.specs.Question.{firstNo}
-use Rattle.numbers.specs.SignedBounds.{Bounded}
-use Rattle.case.specs.Records.{timeBefore}
-use Rattle.case.specs.TimeFields.{timeField}
+use Rattle.numbers.specs.law.Items.{over}
+use Rattle.numbers.specs.inside.ItemLaws.{rest, rest-on, rest-no, rest-end}
+use Rattle.numbers.specs.law.Question.{firstNo}
+use Rattle.numbers.specs.inside.SignedBounds.{Bounded}
+use Rattle.case.specs.law.Records.{timeBefore}
+use Rattle.case.specs.law.TimeFields.{timeField}
 use Rattle.case.proofs.Counting.{time-grows}
 use Rattle.case.proofs.head.times.Statement.{statement}
 use Rattle.case.proofs.head.times.Tie as tie

@@ -7,11 +7,11 @@ use lib.IntN.{pos}
 use lib.ListN.{length, length-set}
 use mir.Syntax.{w64}
 use mir.Val.{toZ, ofZ}
-use Rattle.case.specs.Laid.{Holds}
-use Rattle.case.specs.LaidLaws.{holds-none, holds-more, holds-to}
-use Rattle.case.specs.StationArcs.{belongs}
-use Rattle.case.specs.StationNodes.{endsOf, stationNodes}
-use Rattle.numbers.specs.SignedLocals.{kept}
+use Rattle.case.specs.law.LayoutOf.{Holds}
+use Rattle.case.specs.inside.HoldsLaws.{holds-none, holds-more, holds-to}
+use Rattle.case.specs.law.StationArcs.{belongs}
+use Rattle.case.specs.law.StationNodes.{endsOf, stationNodes}
+use Rattle.numbers.specs.inside.SignedLocals.{kept}
 use Rattle.case.proofs.judge.insides.Statement.{statement}
 use Rattle.case.proofs.judge.insides.Tie as tie
 

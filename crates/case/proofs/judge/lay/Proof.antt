@@ -4,10 +4,10 @@ use native.Mathlib.Omega.{arith}
 use borrow.Author.Needs.{needs}
 use denote.Ref.{now}
 use lib.IntN.{pos}
-use Rattle.case.specs.Layout.{nodesOf, arcsOf, stationsOf, stepsOf}
-use Rattle.case.specs.Passed.{arcs-begin, stations-begin}
-use Rattle.case.specs.StationNodes.{endsOf, plain, plainNodes}
-use Rattle.numbers.specs.SignedLocals.{kept}
+use Rattle.case.specs.law.Layout.{nodesOf, arcsOf, stationsOf, stepsOf}
+use Rattle.case.specs.inside.CountsInRange.{arcs-begin, stations-begin}
+use Rattle.case.specs.law.StationNodes.{endsOf, plain, plainNodes}
+use Rattle.numbers.specs.inside.SignedLocals.{kept}
 use Rattle.case.proofs.Rows.{first-arc, first-station}
 use Rattle.case.proofs.judge.lay.Statement.{statement}
 use Rattle.case.proofs.judge.lay.Tie as tie

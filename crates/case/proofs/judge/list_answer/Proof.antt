@@ -1,9 +1,9 @@
 use mathlib.Core.Path.{sym, _∙_}
 use borrow.Author.Needs.{needs}
 use denote.Ref.{now}
-use Rattle.case.specs.HeadFields.{headFields}
-use Rattle.case.specs.Judged.{rowQuestions, listQuestions}
-use Rattle.case.specs.Passed.{head-counted}
+use Rattle.case.specs.law.HeadFields.{headFields}
+use Rattle.case.specs.law.Judged.{rowQuestions, listQuestions}
+use Rattle.case.specs.inside.CountsInRange.{head-counted}
 use Rattle.case.proofs.Asked.{stopped, went}
 use Rattle.case.proofs.judge.list_answer.Statement.{statement}
 use Rattle.case.proofs.judge.list_answer.Tie as tie

@@ -2,13 +2,13 @@ use mathlib.Core.Path.{_≡_}
 use native.Mathlib.Omega.{arith}
 use borrow.Author.Needs.{needs}
 use denote.Ref.{now}
-use Rattle.numbers.specs.Question.{firstNo-append}
-use Rattle.case.specs.ArcFields.{allArcFields}
-use Rattle.case.specs.Judged.{rowQuestions}
-use Rattle.case.specs.Layout.{nodesOf, arcsOf, stationsOf, stepsOf}
-use Rattle.case.specs.NodeFields.{allNodeFields}
-use Rattle.case.specs.Passed.{arcs-begin, stations-begin}
-use Rattle.case.specs.TimeFields.{timeFields}
+use Rattle.numbers.specs.inside.QuestionLaws.{firstNo-append}
+use Rattle.case.specs.law.ArcFields.{allArcFields}
+use Rattle.case.specs.law.Judged.{rowQuestions}
+use Rattle.case.specs.law.Layout.{nodesOf, arcsOf, stationsOf, stepsOf}
+use Rattle.case.specs.law.NodeFields.{allNodeFields}
+use Rattle.case.specs.inside.CountsInRange.{arcs-begin, stations-begin}
+use Rattle.case.specs.law.TimeFields.{timeFields}
 use Rattle.case.proofs.Asked.{chain}
 use Rattle.case.proofs.Rows.{first-arc, first-station}
 use Rattle.case.proofs.judge.rows.Statement.{statement}

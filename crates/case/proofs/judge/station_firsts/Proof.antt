@@ -3,10 +3,10 @@ use Prim.Native.Nat.{_≤_, _<_, _-_, _+_, _*_}
 use native.Mathlib.Omega.{arith}
 use denote.Ref.{now}
 use lib.ListN.{length, length-set}
-use Rattle.case.specs.Laid.{Holds}
-use Rattle.case.specs.LaidLaws.{holds-none, holds-more, holds-to}
-use Rattle.case.specs.Layout.{stationsOf, stationAt, stationEnd}
-use Rattle.case.specs.Passed.{station-next, end-most}
+use Rattle.case.specs.law.LayoutOf.{Holds}
+use Rattle.case.specs.inside.HoldsLaws.{holds-none, holds-more, holds-to}
+use Rattle.case.specs.law.Layout.{stationsOf, stationAt, stationEnd}
+use Rattle.case.specs.inside.CountsInRange.{station-next, end-most}
 use Rattle.case.proofs.judge.station_firsts.Statement.{statement}
 use Rattle.case.proofs.judge.station_firsts.Tie as tie
 

@@ -1,6 +1,6 @@
 use borrow.Author.Needs.{needs}
 use denote.Ref.{now}
-use Rattle.case.specs.Layout.{arcAt}
+use Rattle.case.specs.law.Layout.{arcAt}
 use Rattle.case.proofs.Reading.{count-in}
 use Rattle.case.proofs.members.active.Statement.{statement}
 use Rattle.case.proofs.members.active.Tie as tie

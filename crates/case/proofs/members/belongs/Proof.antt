@@ -2,8 +2,8 @@ use mathlib.Core.Path.{_≡_}
 use borrow.Author.Needs.{needs}
 use borrow.Author.Tests.{le-leb, lt-leb}
 use denote.Ref.{now}
-use Rattle.case.specs.Layout.{arcAt}
-use Rattle.case.specs.Records.{arcOf}
+use Rattle.case.specs.law.Layout.{arcAt}
+use Rattle.case.specs.law.Records.{arcOf}
 use Rattle.case.proofs.Reading.{count-in, first-count}
 use Rattle.case.proofs.members.belongs.Statement.{statement}
 use Rattle.case.proofs.members.belongs.Tie as tie

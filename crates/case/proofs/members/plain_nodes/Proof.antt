@@ -7,8 +7,8 @@ use denote.Ref.{now}
 use lib.IntN.{pos}
 use mir.Facts.{toZ-pos}
 use mir.Syntax.{w64}
-use Rattle.case.specs.CountLaws.{ends-none, ends-yes, ends-no, ends-lt}
-use Rattle.case.specs.StationNodes.{withEnds, endsOf, plain}
+use Rattle.case.specs.inside.CountLaws.{ends-none, ends-yes, ends-no, ends-lt}
+use Rattle.case.specs.law.StationNodes.{withEnds, endsOf, plain}
 use Rattle.case.proofs.members.plain_nodes.Statement.{statement}
 use Rattle.case.proofs.members.plain_nodes.Tie as tie
 

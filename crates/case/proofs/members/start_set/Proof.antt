@@ -10,9 +10,9 @@ use lib.IntN.{ℤ, pos}
 use lib.Pow.{pow-mono}
 use mir.Facts.{toZ-pos}
 use mir.Syntax.{w64}
-use Rattle.case.specs.CountLaws.{before-none, before-le, before-yes, before-no, before-mono, arcs-none, arcs-yes, arcs-no, arcs-lt}
-use Rattle.case.specs.States.{activeAtStart}
-use Rattle.case.specs.StationArcs.{belongs, arcsBefore, arcSet}
+use Rattle.case.specs.inside.CountLaws.{before-none, before-le, before-yes, before-no, before-mono, arcs-none, arcs-yes, arcs-no, arcs-lt}
+use Rattle.case.specs.law.States.{activeAtStart}
+use Rattle.case.specs.law.StationArcs.{belongs, arcsBefore, arcSet}
 use Rattle.case.proofs.members.start_set.Statement.{statement}
 use Rattle.case.proofs.members.start_set.Tie as tie
 

@@ -4,8 +4,8 @@ use Prim.Native.Nat.{ℕ, _≤_, _-_, _+_}
 use native.Mathlib.Omega.{arith}
 use borrow.Author.Needs.{needs}
 use denote.Ref.{now}
-use Rattle.case.specs.CountLaws.{before-none, before-le, before-yes, before-no}
-use Rattle.case.specs.StationArcs.{arcsBefore}
+use Rattle.case.specs.inside.CountLaws.{before-none, before-le, before-yes, before-no}
+use Rattle.case.specs.law.StationArcs.{arcsBefore}
 use Rattle.case.proofs.members.station_arcs.Statement.{statement}
 use Rattle.case.proofs.members.station_arcs.Tie as tie
 

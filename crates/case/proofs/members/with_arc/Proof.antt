@@ -3,7 +3,7 @@ use Prim.Native.Nat.{_<_, _^_}
 use native.Mathlib.Omega.{arith}
 use borrow.Author.Needs.{needs}
 use lib.Pow.{pow-lt}
-use Rattle.numbers.specs.ItemBits.{shifted}
+use Rattle.numbers.specs.inside.ItemBits.{shifted}
 use Rattle.case.proofs.members.with_arc.Statement.{statement}
 use Rattle.case.proofs.members.with_arc.Tie as tie
 

@@ -1,7 +1,7 @@
 use mathlib.Core.Path.{_∙_}
 use borrow.Author.Needs.{needs}
 use denote.Ref.{now}
-use Rattle.case.specs.Layout.{arcAt}
+use Rattle.case.specs.law.Layout.{arcAt}
 use Rattle.case.proofs.Reading.{count-in}
 use Rattle.case.proofs.members.with_ends.Statement.{statement}
 use Rattle.case.proofs.members.with_ends.Tie as tie

@@ -1,8 +1,8 @@
 use native.Mathlib.Omega.{arith}
 use borrow.Author.Needs.{needs}
 use borrow.Author.Tests.{lt-ltb, le-ltb}
-use Rattle.case.specs.StationNodes.{withNode}
-use Rattle.numbers.specs.ItemBits.{shifted}
+use Rattle.case.specs.law.StationNodes.{withNode}
+use Rattle.numbers.specs.inside.ItemBits.{shifted}
 use Rattle.case.proofs.members.with_node.Statement.{statement}
 use Rattle.case.proofs.members.with_node.Tie as tie
 

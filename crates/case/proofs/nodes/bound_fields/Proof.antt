@@ -4,11 +4,11 @@ use borrow.Author.Needs.{needs}
 use denote.Ref.{now}
 use mir.Syntax.{w64}
 use mir.Val.{toZ, ofZ}
-use Rattle.numbers.specs.Question.{firstNo-append}
-use Rattle.case.specs.Layout.{numberAt}
-use Rattle.case.specs.NodeFields.{boundFields}
+use Rattle.numbers.specs.inside.QuestionLaws.{firstNo-append}
+use Rattle.case.specs.law.Layout.{numberAt}
+use Rattle.case.specs.law.NodeFields.{boundFields}
 use Rattle.case.proofs.Asked.{chain}
-use Rattle.numbers.specs.SignedLocals.{kept}
+use Rattle.numbers.specs.inside.SignedLocals.{kept}
 use Rattle.case.proofs.nodes.bound_fields.Statement.{statement}
 use Rattle.case.proofs.nodes.bound_fields.Tie as tie
 

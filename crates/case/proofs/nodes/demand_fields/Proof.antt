@@ -2,8 +2,8 @@ use mathlib.Core.Path.{_≡_, sym, _∙_}
 use borrow.Author.Needs.{needs}
 use borrow.Author.Tests.{ne-eqb}
 use denote.Ref.{now}
-use Rattle.case.specs.Layout.{countAt}
-use Rattle.case.specs.NodeFields.{demandFields}
+use Rattle.case.specs.law.Layout.{countAt}
+use Rattle.case.specs.law.NodeFields.{demandFields}
 use Rattle.case.proofs.Counting.{first-is}
 use Rattle.case.proofs.nodes.demand_fields.Statement.{statement}
 use Rattle.case.proofs.nodes.demand_fields.Tie as tie

@@ -3,9 +3,9 @@ use Prim.Native.Nat.{_+_, _*_}
 use native.Mathlib.Omega.{arith}
 use borrow.Author.Needs.{needs}
 use denote.Ref.{now}
-use Rattle.numbers.specs.Question.{firstNo-append}
-use Rattle.case.specs.Layout.{nodeAt}
-use Rattle.case.specs.NodeFields.{nodeFields}
+use Rattle.numbers.specs.inside.QuestionLaws.{firstNo-append}
+use Rattle.case.specs.law.Layout.{nodeAt}
+use Rattle.case.specs.law.NodeFields.{nodeFields}
 use Rattle.case.proofs.Asked.{chain}
 use Rattle.case.proofs.Counting.{node-row}
 use Rattle.case.proofs.nodes.node_fields.Statement.{statement}

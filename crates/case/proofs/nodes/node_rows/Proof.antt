@@ -3,9 +3,10 @@ use Prim.Native.Nat.{_≤_, _-_}
 use native.Mathlib.Omega.{arith}
 use borrow.Author.Needs.{needs}
 use denote.Ref.{now}
-use Rattle.numbers.specs.Items.{over, rest, rest-on, rest-no, rest-end}
-use Rattle.numbers.specs.Question.{firstNo}
-use Rattle.case.specs.NodeFields.{nodeFields}
+use Rattle.numbers.specs.law.Items.{over}
+use Rattle.numbers.specs.inside.ItemLaws.{rest, rest-on, rest-no, rest-end}
+use Rattle.numbers.specs.law.Question.{firstNo}
+use Rattle.case.specs.law.NodeFields.{nodeFields}
 use Rattle.case.proofs.nodes.node_rows.Statement.{statement}
 use Rattle.case.proofs.nodes.node_rows.Tie as tie
 

@@ -1,7 +1,7 @@
 use mathlib.Core.Path.{_∙_}
 use native.Mathlib.Omega.{arith}
 use borrow.Author.Needs.{needs}
-use Rattle.case.specs.Layout.{arcAt}
+use Rattle.case.specs.law.Layout.{arcAt}
 use Rattle.case.proofs.offsets.arc_at.Statement.{statement}
 use Rattle.case.proofs.offsets.arc_at.Tie as tie
 

@@ -2,8 +2,8 @@ use mathlib.Core.Path.{_≡_, ap, _∙_}
 use borrow.Author.Needs.{needs}
 use mir.Syntax.{w64}
 use mir.Val.{toZ, ofZ}
-use Rattle.numbers.specs.SignedParts.{posPart}
-use Rattle.numbers.specs.SignedLocals.{kept}
+use Rattle.numbers.specs.law.Signed.{posPart}
+use Rattle.numbers.specs.inside.SignedLocals.{kept}
 use Rattle.case.proofs.Reading.{count-small}
 use Rattle.case.proofs.offsets.count.Statement.{statement}
 use Rattle.case.proofs.offsets.count.Tie as tie

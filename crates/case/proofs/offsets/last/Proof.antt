@@ -4,8 +4,8 @@ use lib.IntN.{pos, _-ℤ_}
 use mir.Facts.{toZ-ofZ, toZ-pos}
 use mir.Syntax.{w64}
 use mir.Val.{toZ}
-use Rattle.numbers.specs.SignedLocals.{ranged}
-use Rattle.numbers.specs.SignedParts.{ints, taken}
+use Rattle.numbers.specs.inside.SignedLocals.{ranged}
+use Rattle.numbers.specs.inside.SignedParts.{ints, taken}
 use Rattle.case.proofs.offsets.last.Statement.{statement}
 use Rattle.case.proofs.offsets.last.Tie as tie
 

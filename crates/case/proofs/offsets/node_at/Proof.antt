@@ -1,7 +1,7 @@
 use mathlib.Core.Path.{_∙_}
 use native.Mathlib.Omega.{arith}
 use borrow.Author.Needs.{needs}
-use Rattle.case.specs.Layout.{nodeAt}
+use Rattle.case.specs.law.Layout.{nodeAt}
 use Rattle.case.proofs.offsets.node_at.Statement.{statement}
 use Rattle.case.proofs.offsets.node_at.Tie as tie
 

@@ -3,7 +3,7 @@ use native.Mathlib.Nat.{add-zero}
 use native.Mathlib.Omega.{arith}
 use borrow.Author.Needs.{needs}
 use denote.Ref.{now}
-use Rattle.case.specs.Layout.{countAt, directionsAt, stateAt}
+use Rattle.case.specs.law.Layout.{countAt, directionsAt, stateAt}
 use Rattle.case.proofs.offsets.state_at.Statement.{statement}
 use Rattle.case.proofs.offsets.state_at.Tie as tie
 

@@ -2,8 +2,8 @@ use mathlib.Core.Path.{_∙_}
 use Prim.Native.Nat.{_+_}
 use borrow.Author.Needs.{needs}
 use denote.Ref.{now}
-use Rattle.case.specs.Layout.{nodeAt}
-use Rattle.numbers.specs.SignedLocals.{kept}
+use Rattle.case.specs.law.Layout.{nodeAt}
+use Rattle.numbers.specs.inside.SignedLocals.{kept}
 use Rattle.case.proofs.Reading.{number-in, first-count}
 use Rattle.case.proofs.read.node.Statement.{statement}
 use Rattle.case.proofs.read.node.Tie as tie

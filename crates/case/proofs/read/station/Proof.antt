@@ -2,7 +2,7 @@ use mathlib.Core.Path.{ap, _∙_}
 use native.Mathlib.Nat.{add-zero}
 use borrow.Author.Needs.{needs}
 use denote.Ref.{now}
-use Rattle.case.specs.Layout.{countAt}
+use Rattle.case.specs.law.Layout.{countAt}
 use Rattle.case.proofs.read.station.Statement.{statement}
 use Rattle.case.proofs.read.station.Tie as tie
 

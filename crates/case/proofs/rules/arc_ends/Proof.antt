@@ -4,12 +4,12 @@ use native.Mathlib.Omega.{arith}
 use borrow.Author.Needs.{needs}
 use borrow.Author.Tests.{eq-eqb, ne-eqb}
 use denote.Ref.{now}
-use Rattle.numbers.specs.Items.{rest, rest-on, rest-no, rest-end}
-use Rattle.numbers.specs.Question.{firstNo}
+use Rattle.numbers.specs.inside.ItemLaws.{rest, rest-on, rest-no, rest-end}
+use Rattle.numbers.specs.law.Question.{firstNo}
 use Rattle.numbers.specs.declared.answer.Answer.the-variants.{Yes, No}
-use Rattle.case.specs.ArcEnds.{arcEnds, allArcEnds}
-use Rattle.case.specs.Layout.{arcsOf}
-use Rattle.case.specs.Records.{arcOf}
+use Rattle.case.specs.law.ArcEnds.{arcEnds, allArcEnds}
+use Rattle.case.specs.law.Layout.{arcsOf}
+use Rattle.case.specs.law.Records.{arcOf}
 use Rattle.case.specs.declared.records.Arc.{Arc}
 use Rattle.case.proofs.rules.arc_ends.Statement.{statement}
 use Rattle.case.proofs.rules.arc_ends.Tie as tie

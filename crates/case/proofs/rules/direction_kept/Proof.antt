@@ -5,12 +5,12 @@ use denote.Ref.{now}
 use mir.Facts.{toZ-ofZ}
 use mir.Syntax.{w64}
 use mir.Val.{toZ, ofZ}
-use Rattle.numbers.specs.Sets.{disjointOf}
-use Rattle.case.specs.Directions.{directionKept}
-use Rattle.case.specs.Records.{directionRow}
-use Rattle.case.specs.StationNodes.{onlyFence}
+use Rattle.numbers.specs.law.Sets.{disjointOf}
+use Rattle.case.specs.law.Directions.{directionKept}
+use Rattle.case.specs.law.Records.{directionRow}
+use Rattle.case.specs.law.StationNodes.{onlyFence}
 use Rattle.case.specs.declared.records.Direction.{Direction}
-use Rattle.numbers.specs.SignedLocals.{kept}
+use Rattle.numbers.specs.inside.SignedLocals.{kept}
 use Rattle.case.proofs.rules.direction_kept.Statement.{statement}
 use Rattle.case.proofs.rules.direction_kept.Tie as tie
 

@@ -8,11 +8,11 @@ use lib.IntN.{pos}
 use lib.ListN.{getD}
 use mir.Syntax.{w64}
 use mir.Val.{toZ, ofZ}
-use Rattle.numbers.specs.Items.{rest, rest-on, rest-no, rest-end}
-use Rattle.numbers.specs.Question.{firstNo}
-use Rattle.case.specs.Directions.{directionSets, allDirectionSets}
-use Rattle.case.specs.Layout.{stationsOf}
-use Rattle.numbers.specs.SignedLocals.{kept}
+use Rattle.numbers.specs.inside.ItemLaws.{rest, rest-on, rest-no, rest-end}
+use Rattle.numbers.specs.law.Question.{firstNo}
+use Rattle.case.specs.law.Directions.{directionSets, allDirectionSets}
+use Rattle.case.specs.law.Layout.{stationsOf}
+use Rattle.numbers.specs.inside.SignedLocals.{kept}
 use Rattle.case.proofs.Ruled.{directions-asked}
 use Rattle.case.proofs.rules.direction_sets.Statement.{statement}
 use Rattle.case.proofs.rules.direction_sets.Tie as tie

@@ -9,13 +9,13 @@ use denote.Ref.{now}
 use mir.Facts.{toZ-ofZ}
 use mir.Syntax.{w64}
 use mir.Val.{toZ, ofZ}
-use Rattle.numbers.specs.Sets.{subsetOf}
-use Rattle.case.specs.CountLaws.{every-more, every-not}
-use Rattle.case.specs.Records.{artificialOf}
-use Rattle.case.specs.States.{machinesKept}
-use Rattle.case.specs.StationArcs.{belongs, every}
+use Rattle.numbers.specs.law.Sets.{subsetOf}
+use Rattle.case.specs.inside.CountLaws.{every-more, every-not}
+use Rattle.case.specs.law.Records.{artificialOf}
+use Rattle.case.specs.law.States.{machinesKept}
+use Rattle.case.specs.law.StationArcs.{belongs, every}
 use Rattle.case.specs.declared.records.Artificial.{Artificial}
-use Rattle.numbers.specs.SignedLocals.{kept}
+use Rattle.numbers.specs.inside.SignedLocals.{kept}
 use Rattle.case.proofs.rules.machines_kept.Statement.{statement}
 use Rattle.case.proofs.rules.machines_kept.Tie as tie
 

@@ -2,10 +2,10 @@ use mathlib.Core.Path.{_≡_, refl, sym, _∙_}
 use Prim.Native.Nat.{_≤_, _-_}
 use native.Mathlib.Omega.{arith}
 use denote.Ref.{now}
-use Rattle.numbers.specs.Items.{rest, rest-on, rest-no, rest-end}
-use Rattle.numbers.specs.Question.{firstNo}
-use Rattle.case.specs.Layout.{nodesOf}
-use Rattle.case.specs.OneStation.{oneStation, allOneStation}
+use Rattle.numbers.specs.inside.ItemLaws.{rest, rest-on, rest-no, rest-end}
+use Rattle.numbers.specs.law.Question.{firstNo}
+use Rattle.case.specs.law.Layout.{nodesOf}
+use Rattle.case.specs.law.OneStation.{oneStation, allOneStation}
 use Rattle.case.proofs.Ruled.{stations-with, one-no, one-yes}
 use Rattle.case.proofs.rules.one_station.Statement.{statement}
 use Rattle.case.proofs.rules.one_station.Tie as tie

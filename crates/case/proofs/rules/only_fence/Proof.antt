@@ -2,7 +2,7 @@ use mathlib.Core.Bool.{true, false}
 use mathlib.Core.Path.{_≡_, sym, _∙_}
 use borrow.Author.Needs.{needs}
 use mir.Facts.{toZ-ofZ}
-use Rattle.numbers.specs.Sets.{subsetOf}
+use Rattle.numbers.specs.law.Sets.{subsetOf}
 use Rattle.case.proofs.rules.only_fence.Statement.{statement}
 use Rattle.case.proofs.rules.only_fence.Tie as tie
 

@@ -1,10 +1,11 @@
 use mathlib.Core.Path.{_≡_, sym, _∙_}
 use borrow.Author.Needs.{needs}
 use denote.Ref.{now}
-use Rattle.numbers.specs.Question.{firstNo, firstNo-append}
-use Rattle.case.specs.Judged.{earlyRules, ruleQuestions}
-use Rattle.case.specs.Passed.{rules-sized}
-use Rattle.case.specs.States.{allStateSets}
+use Rattle.numbers.specs.law.Question.{firstNo}
+use Rattle.numbers.specs.inside.QuestionLaws.{firstNo-append}
+use Rattle.case.specs.law.Judged.{earlyRules, ruleQuestions}
+use Rattle.case.specs.inside.CountsInRange.{rules-sized}
+use Rattle.case.specs.law.States.{allStateSets}
 use Rattle.case.proofs.Asked.{chain, stopped, went}
 use Rattle.case.proofs.rules.rules.Statement.{statement}
 use Rattle.case.proofs.rules.rules.Tie as tie

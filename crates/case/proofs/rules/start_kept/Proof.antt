@@ -5,12 +5,12 @@ use denote.Ref.{now}
 use mir.Facts.{toZ-ofZ}
 use mir.Syntax.{w64}
 use mir.Val.{toZ, ofZ}
-use Rattle.numbers.specs.Sets.{subsetOf}
-use Rattle.case.specs.Records.{stateRow, stationRow}
-use Rattle.case.specs.States.{startKept}
+use Rattle.numbers.specs.law.Sets.{subsetOf}
+use Rattle.case.specs.law.Records.{stateRow, stationRow}
+use Rattle.case.specs.law.States.{startKept}
 use Rattle.case.specs.declared.records.State.{State}
 use Rattle.case.specs.declared.records.Station.{Station}
-use Rattle.numbers.specs.SignedLocals.{kept}
+use Rattle.numbers.specs.inside.SignedLocals.{kept}
 use Rattle.case.proofs.rules.start_kept.Statement.{statement}
 use Rattle.case.proofs.rules.start_kept.Tie as tie
 

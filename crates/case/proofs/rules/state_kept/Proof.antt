@@ -5,11 +5,11 @@ use denote.Ref.{now}
 use mir.Facts.{toZ-ofZ}
 use mir.Syntax.{w64}
 use mir.Val.{toZ, ofZ}
-use Rattle.numbers.specs.Sets.{disjointOf, subsetOf}
-use Rattle.case.specs.Records.{stateRow}
-use Rattle.case.specs.States.{stateKept}
+use Rattle.numbers.specs.law.Sets.{disjointOf, subsetOf}
+use Rattle.case.specs.law.Records.{stateRow}
+use Rattle.case.specs.law.States.{stateKept}
 use Rattle.case.specs.declared.records.State.{State}
-use Rattle.numbers.specs.SignedLocals.{kept}
+use Rattle.numbers.specs.inside.SignedLocals.{kept}
 use Rattle.case.proofs.rules.state_kept.Statement.{statement}
 use Rattle.case.proofs.rules.state_kept.Tie as tie
 

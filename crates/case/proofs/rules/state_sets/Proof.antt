@@ -3,10 +3,10 @@ use Prim.Native.Nat.{_≤_, _<_, _-_}
 use native.Mathlib.Omega.{arith}
 use borrow.Author.Tests.{not-true, not-false}
 use denote.Ref.{now}
-use Rattle.numbers.specs.Items.{rest, rest-on, rest-no, rest-end}
-use Rattle.numbers.specs.Question.{firstNo}
-use Rattle.case.specs.Layout.{stationsOf}
-use Rattle.case.specs.States.{stateSets, allStateSets}
+use Rattle.numbers.specs.inside.ItemLaws.{rest, rest-on, rest-no, rest-end}
+use Rattle.numbers.specs.law.Question.{firstNo}
+use Rattle.case.specs.law.Layout.{stationsOf}
+use Rattle.case.specs.law.States.{stateSets, allStateSets}
 use Rattle.case.proofs.Ruled.{states-asked}
 use Rattle.case.proofs.rules.state_sets.Statement.{statement}
 use Rattle.case.proofs.rules.state_sets.Tie as tie

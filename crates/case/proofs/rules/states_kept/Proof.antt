@@ -8,9 +8,9 @@ use denote.Ref.{now}
 use mir.Facts.{toZ-ofZ}
 use mir.Syntax.{w64}
 use mir.Val.{toZ, ofZ}
-use Rattle.case.specs.CountLaws.{every-more, every-not}
-use Rattle.case.specs.States.{stateKept}
-use Rattle.case.specs.StationArcs.{every}
+use Rattle.case.specs.inside.CountLaws.{every-more, every-not}
+use Rattle.case.specs.law.States.{stateKept}
+use Rattle.case.specs.law.StationArcs.{every}
 use Rattle.case.specs.declared.records.Station.{Station}
 use Rattle.case.proofs.rules.states_kept.Statement.{statement}
 use Rattle.case.proofs.rules.states_kept.Tie as tie

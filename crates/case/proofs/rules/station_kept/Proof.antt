@@ -7,13 +7,13 @@ use denote.Ref.{now}
 use lib.IntN.{pos}
 use mir.Syntax.{w64}
 use mir.Val.{toZ, ofZ}
-use Rattle.case.specs.Layout.{arcsOf, stationAt}
-use Rattle.case.specs.Records.{stationOf, stationRow}
-use Rattle.case.specs.States.{stateKept, machinesKept, activeAtStart, startSet, stationKept}
-use Rattle.case.specs.StationArcs.{arcsBefore, stationArcs, arcSet, every}
-use Rattle.case.specs.StationFields.{firstItems}
+use Rattle.case.specs.law.Layout.{arcsOf, stationAt}
+use Rattle.case.specs.law.Records.{stationOf, stationRow}
+use Rattle.case.specs.law.States.{stateKept, machinesKept, activeAtStart, startSet, stationKept}
+use Rattle.case.specs.law.StationArcs.{arcsBefore, stationArcs, arcSet, every}
+use Rattle.case.specs.law.StationFields.{firstItems}
 use Rattle.case.specs.declared.records.Station.{Station}
-use Rattle.numbers.specs.SignedLocals.{kept}
+use Rattle.numbers.specs.inside.SignedLocals.{kept}
 use Rattle.case.proofs.rules.station_kept.Statement.{statement}
 use Rattle.case.proofs.rules.station_kept.Tie as tie
 

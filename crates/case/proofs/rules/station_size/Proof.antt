@@ -3,11 +3,11 @@ use Prim.Native.Nat.{_≤_, _-_}
 use native.Mathlib.Omega.{arith}
 use borrow.Author.Needs.{needs}
 use denote.Ref.{now}
-use Rattle.numbers.specs.Items.{rest, rest-on, rest-no, rest-end}
-use Rattle.numbers.specs.Question.{firstNo}
-use Rattle.case.specs.Layout.{stationsOf}
-use Rattle.case.specs.StationArcs.{arcsBefore, stationArcs}
-use Rattle.case.specs.StationSize.{stationSize, allStationSizes}
+use Rattle.numbers.specs.inside.ItemLaws.{rest, rest-on, rest-no, rest-end}
+use Rattle.numbers.specs.law.Question.{firstNo}
+use Rattle.case.specs.law.Layout.{stationsOf}
+use Rattle.case.specs.law.StationArcs.{arcsBefore, stationArcs}
+use Rattle.case.specs.law.StationSize.{stationSize, allStationSizes}
 use Rattle.case.proofs.Ruled.{size-no, size-yes}
 use Rattle.case.proofs.rules.station_size.Statement.{statement}
 use Rattle.case.proofs.rules.station_size.Tie as tie

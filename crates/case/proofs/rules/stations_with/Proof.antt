@@ -5,10 +5,10 @@ use native.Mathlib.Omega.{arith}
 use borrow.Author.Needs.{needs}
 use lib.IntN.{pos}
 use lib.ListN.{getD}
-use Rattle.numbers.specs.Sum.{count}
-use Rattle.case.specs.CountLaws.{count-none, count-yes, count-no, count-le}
-use Rattle.case.specs.Laid.{inSet}
-use Rattle.numbers.specs.SignedLocals.{kept}
+use Rattle.numbers.specs.law.Sums.{count}
+use Rattle.case.specs.inside.CountLaws.{count-none, count-yes, count-no, count-le}
+use Rattle.case.specs.inside.InSet.{inSet}
+use Rattle.numbers.specs.inside.SignedLocals.{kept}
 use Rattle.case.proofs.rules.stations_with.Statement.{statement}
 use Rattle.case.proofs.rules.stations_with.Tie as tie
 

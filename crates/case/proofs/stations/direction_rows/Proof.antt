@@ -3,10 +3,12 @@ use Prim.Native.Nat.{_≤_, _-_}
 use native.Mathlib.Omega.{arith}
 use borrow.Author.Needs.{needs}
 use denote.Ref.{now}
-use Rattle.numbers.specs.Items.{over, rest, rest-on, rest-no, rest-end}
-use Rattle.numbers.specs.Question.{firstNo, firstNo-append}
-use Rattle.case.specs.Layout.{directionAt}
-use Rattle.case.specs.StationFields.{directionFields}
+use Rattle.numbers.specs.law.Items.{over}
+use Rattle.numbers.specs.inside.ItemLaws.{rest, rest-on, rest-no, rest-end}
+use Rattle.numbers.specs.law.Question.{firstNo}
+use Rattle.numbers.specs.inside.QuestionLaws.{firstNo-append}
+use Rattle.case.specs.law.Layout.{directionAt}
+use Rattle.case.specs.law.StationFields.{directionFields}
 use Rattle.case.proofs.Asked.{chain}
 use Rattle.case.proofs.stations.direction_rows.Statement.{statement}
 use Rattle.case.proofs.stations.direction_rows.Tie as tie

@@ -3,7 +3,7 @@ use borrow.Author.Needs.{needs}
 use lib.Pow.{pow-pos}
 use mir.Facts.{toZ-pos}
 use mir.Syntax.{w64}
-use Rattle.numbers.specs.ItemBits.{shifted, items-fit}
+use Rattle.numbers.specs.inside.ItemBits.{shifted, items-fit}
 use Rattle.case.proofs.stations.first_items.Statement.{statement}
 use Rattle.case.proofs.stations.first_items.Tie as tie
 

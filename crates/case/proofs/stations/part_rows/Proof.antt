@@ -2,9 +2,9 @@ use mathlib.Core.Path.{_≡_}
 use native.Mathlib.Omega.{arith}
 use borrow.Author.Needs.{needs}
 use denote.Ref.{now}
-use Rattle.numbers.specs.Question.{firstNo-append}
-use Rattle.case.specs.Layout.{directionsAt, statesAt, machinesAt, directionAt, stateAt, machineAt}
-use Rattle.case.specs.StationFields.{partFields}
+use Rattle.numbers.specs.inside.QuestionLaws.{firstNo-append}
+use Rattle.case.specs.law.Layout.{directionsAt, statesAt, machinesAt, directionAt, stateAt, machineAt}
+use Rattle.case.specs.law.StationFields.{partFields}
 use Rattle.case.proofs.Asked.{chain}
 use Rattle.case.proofs.Counting.{first-is}
 use Rattle.case.proofs.stations.part_rows.Statement.{statement}

@@ -1,7 +1,7 @@
 use borrow.Author.Needs.{needs}
 use mir.Facts.{toZ-ofZ}
-use Rattle.numbers.specs.Question.{firstNo-append}
-use Rattle.case.specs.StationFields.{stateRowFields}
+use Rattle.numbers.specs.inside.QuestionLaws.{firstNo-append}
+use Rattle.case.specs.law.StationFields.{stateRowFields}
 use Rattle.case.proofs.Asked.{chain}
 use Rattle.case.proofs.stations.state_fields.Statement.{statement}
 use Rattle.case.proofs.stations.state_fields.Tie as tie

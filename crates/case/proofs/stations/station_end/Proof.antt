@@ -2,7 +2,7 @@ use mathlib.Core.Path.{_≡_}
 use native.Mathlib.Omega.{arith}
 use borrow.Author.Needs.{needs}
 use denote.Ref.{now}
-use Rattle.case.specs.Layout.{directionsAt, statesAt, machinesAt, directionAt, stateAt, machineAt}
+use Rattle.case.specs.law.Layout.{directionsAt, statesAt, machinesAt, directionAt, stateAt, machineAt}
 use Rattle.case.proofs.Counting.{first-is}
 use Rattle.case.proofs.stations.station_end.Statement.{statement}
 use Rattle.case.proofs.stations.station_end.Tie as tie

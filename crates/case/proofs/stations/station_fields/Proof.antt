@@ -1,8 +1,8 @@
 use mathlib.Core.Path.{sym, _∙_}
 use borrow.Author.Needs.{needs}
 use denote.Ref.{now}
-use Rattle.case.specs.Passed.{station-counted}
-use Rattle.case.specs.StationFields.{stationHead, partFields, rowFields}
+use Rattle.case.specs.inside.CountsInRange.{station-counted}
+use Rattle.case.specs.law.StationFields.{stationHead, partFields, rowFields}
 use Rattle.case.proofs.Asked.{stopped, went}
 use Rattle.case.proofs.stations.station_fields.Statement.{statement}
 use Rattle.case.proofs.stations.station_fields.Tie as tie

@@ -3,13 +3,13 @@ use borrow.Author.Needs.{needs}
 use denote.Ref.{now}
 use mir.Syntax.{w64}
 use mir.Val.{toZ, ofZ}
-use Rattle.numbers.specs.Question.{firstNo-append}
-use Rattle.case.specs.Field.{lastOf}
-use Rattle.case.specs.Layout.{directionsAt, statesAt}
-use Rattle.case.specs.StationFields.{stationHead}
+use Rattle.numbers.specs.inside.QuestionLaws.{firstNo-append}
+use Rattle.case.specs.law.Field.{lastOf}
+use Rattle.case.specs.law.Layout.{directionsAt, statesAt}
+use Rattle.case.specs.law.StationFields.{stationHead}
 use Rattle.case.proofs.Asked.{chain}
 use Rattle.case.proofs.Counting.{first-is}
-use Rattle.numbers.specs.SignedLocals.{kept}
+use Rattle.numbers.specs.inside.SignedLocals.{kept}
 use Rattle.case.proofs.stations.station_head.Statement.{statement}
 use Rattle.case.proofs.stations.station_head.Tie as tie
 

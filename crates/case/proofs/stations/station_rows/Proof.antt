@@ -3,12 +3,13 @@ use Prim.Native.Nat.{ℕ, _≤_, _-_, _+_, _*_}
 use native.Mathlib.Omega.{arith}
 use borrow.Author.Needs.{needs}
 use denote.Ref.{now}
-use Rattle.numbers.specs.Items.{rest, rest-on, rest-no, rest-end}
-use Rattle.numbers.specs.Question.{firstNo, orElse-yes}
-use Rattle.case.specs.Layout.{stationsOf, stationEnd, stationAt, caseEnd}
-use Rattle.case.specs.Leftover.{leftover}
-use Rattle.case.specs.Passed.{row-counted, station-next, end-most}
-use Rattle.case.specs.StationFields.{rowFields, stationFields, allStationFields}
+use Rattle.numbers.specs.inside.ItemLaws.{rest, rest-on, rest-no, rest-end}
+use Rattle.numbers.specs.law.Question.{firstNo}
+use Rattle.numbers.specs.inside.QuestionLaws.{orElse-yes}
+use Rattle.case.specs.law.Layout.{stationsOf, stationEnd, stationAt, caseEnd}
+use Rattle.case.specs.law.Leftover.{leftover}
+use Rattle.case.specs.inside.CountsInRange.{row-counted, station-next, end-most}
+use Rattle.case.specs.law.StationFields.{rowFields, stationFields, allStationFields}
 use Rattle.case.proofs.Asked.{stopped, went}
 use Rattle.case.proofs.stations.station_rows.Statement.{statement}
 use Rattle.case.proofs.stations.station_rows.Tie as tie

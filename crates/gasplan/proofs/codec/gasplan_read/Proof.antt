@@ -4,8 +4,8 @@ use native.Mathlib.Omega.{arith}
 use borrow.Author.Needs.{needs}
 use denote.Ref.{now}
 use lib.ListN.{length}
-use Rattle.numbers.specs.Reported.{readingTold}
-use Rattle.numbers.specs.ReadingBounds.{count-within, refusal-within}
+use Rattle.numbers.specs.law.CodecTold.{readingTold}
+use Rattle.numbers.specs.inside.ReadingBounds.{count-within, refusal-within}
 use Rattle.gasplan.proofs.Coded.{coded}
 use Rattle.gasplan.proofs.codec.gasplan_read.Statement.{statement}
 use Rattle.gasplan.proofs.codec.gasplan_read.Tie as tie

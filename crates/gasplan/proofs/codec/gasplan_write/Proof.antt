@@ -4,8 +4,8 @@ use native.Mathlib.Omega.{arith}
 use borrow.Author.Needs.{needs}
 use denote.Ref.{now}
 use lib.ListN.{length}
-use Rattle.numbers.specs.Reported.{writingTold}
-use Rattle.numbers.specs.Groups.{write-within, write-refusal}
+use Rattle.numbers.specs.law.CodecTold.{writingTold}
+use Rattle.numbers.specs.inside.GroupLaws.{write-within, write-refusal}
 use Rattle.gasplan.proofs.Coded.{coded}
 use Rattle.gasplan.proofs.codec.gasplan_write.Statement.{statement}
 use Rattle.gasplan.proofs.codec.gasplan_write.Tie as tie

@@ -1,7 +1,7 @@
-use Rattle.numbers.specs.Question.{told}
-use Rattle.numbers.specs.Places.{Small}
-use Rattle.case.specs.Places.{limit, case-small}
-use Rattle.plan.specs.Verdicts.{case-answer}
+use Rattle.numbers.specs.law.Question.{told}
+use Rattle.numbers.specs.inside.SmallRefusals.{Small}
+use Rattle.case.specs.inside.SmallRefusals.{limit, case-small}
+use Rattle.plan.specs.inside.VerdictLaws.{case-answer}
 use Rattle.gasplan.proofs.Coded.{coded}
 use mathlib.Core.Path.{refl, ap, sym, subst, _∙_}
 use borrow.Author.Tests.{le-leb, lt-leb}

@@ -1,9 +1,9 @@
-use Rattle.numbers.specs.SignedLocals.{kept}
+use Rattle.numbers.specs.inside.SignedLocals.{kept}
 use mathlib.Core.Path.{refl, ap, _∙_}
 use borrow.Author.Tests.{lt-leb}
 use denote.Ref.{now}
-use Rattle.plan.specs.VerdictSizes.{judge-fits}
-use Rattle.gasplan.specs.Code.{codeOf, outOf}
+use Rattle.plan.specs.inside.VerdictSizes.{judge-fits}
+use Rattle.gasplan.specs.law.Out.{codeOf, outOf}
 use borrow.Author.Needs.{needs}
 use Rattle.gasplan.proofs.judge.gasplan_judge.Statement.{statement}
 use Rattle.gasplan.proofs.judge.gasplan_judge.Tie as tie

@@ -1,11 +1,11 @@
-use Rattle.numbers.specs.SignedLocals.{kept}
+use Rattle.numbers.specs.inside.SignedLocals.{kept}
 use mathlib.Core.Path.{refl, ap, _∙_}
 use borrow.Author.Tests.{le-leb, lt-leb}
 use native.Mathlib.Omega.{arith}
 use denote.Ref.{now}
 use lib.ListN.{length}
-use Rattle.plan.specs.VerdictSizes.{bytes-fit}
-use Rattle.gasplan.specs.Code.{codeOf, outOf}
+use Rattle.plan.specs.inside.VerdictSizes.{bytes-fit}
+use Rattle.gasplan.specs.law.Out.{codeOf, outOf}
 use borrow.Author.Needs.{needs}
 use Rattle.gasplan.proofs.judge.gasplan_judge_bytes.Statement.{statement}
 use Rattle.gasplan.proofs.judge.gasplan_judge_bytes.Tie as tie

@@ -1,13 +1,13 @@
 use native.Mathlib.Omega.{arith}
-use Rattle.numbers.specs.SignedLocals.{kept}
+use Rattle.numbers.specs.inside.SignedLocals.{kept}
 use mathlib.Core.Path.{ap, sym, subst}
 use Prim.Native.Nat.{_^_}
 use mir.Facts.{toZ-pos}
 use mir.Syntax.{w64}
 use borrow.Author.Tests.{le-leb}
 use denote.Ref.{now}
-use Rattle.plan.specs.Judged.{verdictTold}
-use Rattle.plan.specs.VerdictSizes.{Fit}
+use Rattle.plan.specs.law.Judged.{verdictTold}
+use Rattle.plan.specs.inside.VerdictSizes.{Fit}
 use Rattle.gasplan.proofs.Coded.{coded}
 use borrow.Author.Needs.{needs}
 use Rattle.gasplan.proofs.judge.tell_verdict.Statement.{statement}

@@ -1,10 +1,10 @@
-use Rattle.numbers.specs.SignedLocals.{kept}
+use Rattle.numbers.specs.inside.SignedLocals.{kept}
 use mathlib.Core.Path.{refl, ap, _∙_}
 use mir.Facts.{toZ-ofZ}
 use borrow.Author.Tests.{lt-leb}
 use denote.Ref.{now}
-use Rattle.plan.specs.VerdictSizes.{ledger-fits}
-use Rattle.gasplan.specs.Code.{codeOf, outOf}
+use Rattle.plan.specs.inside.VerdictSizes.{ledger-fits}
+use Rattle.gasplan.specs.law.Out.{codeOf, outOf}
 use borrow.Author.Needs.{needs}
 use Rattle.gasplan.proofs.ledger.gasplan_ledger.Statement.{statement}
 use Rattle.gasplan.proofs.ledger.gasplan_ledger.Tie as tie

@@ -5,9 +5,9 @@ use mir.Facts.{toZ-pos}
 use mir.Syntax.{w64}
 use borrow.Author.Tests.{le-leb}
 use denote.Ref.{now}
-use Rattle.plan.specs.Ledger.{ledgerTold}
-use Rattle.numbers.specs.SignedLocals.{kept}
-use Rattle.plan.specs.VerdictSizes.{FitLedger}
+use Rattle.plan.specs.law.Ledger.{ledgerTold}
+use Rattle.numbers.specs.inside.SignedLocals.{kept}
+use Rattle.plan.specs.inside.VerdictSizes.{FitLedger}
 use Rattle.gasplan.proofs.Coded.{coded}
 use borrow.Author.Needs.{needs}
 use Rattle.gasplan.proofs.ledger.tell_ledger.Statement.{statement}

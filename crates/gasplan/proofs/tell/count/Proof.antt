@@ -5,7 +5,7 @@ use borrow.Author.Needs.{needs}
 use mathlib.Core.List.{[], _∷_}
 use lib.IntN.{pos}
 use denote.Ref.{now}
-use Rattle.numbers.specs.Told.{overlay-sets}
+use Rattle.numbers.specs.inside.OverlayLaws.{overlay-sets}
 use Rattle.gasplan.proofs.tell.count.Statement.{statement}
 use Rattle.gasplan.proofs.tell.count.Tie as tie
 

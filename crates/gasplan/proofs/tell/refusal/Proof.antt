@@ -6,7 +6,7 @@ use mathlib.Core.List.{[], _∷_}
 use lib.IntN.{pos}
 use lib.ListN.{length-set}
 use denote.Ref.{now}
-use Rattle.numbers.specs.Told.{overlay-sets}
+use Rattle.numbers.specs.inside.OverlayLaws.{overlay-sets}
 use Rattle.gasplan.proofs.tell.refusal.Statement.{statement}
 use Rattle.gasplan.proofs.tell.refusal.Tie as tie
 

@@ -4,7 +4,7 @@ use borrow.Author.Needs.{needs}
 use mathlib.Core.List.{[], _∷_}
 use lib.ListN.{length-set}
 use denote.Ref.{now}
-use Rattle.numbers.specs.Told.{overlay-sets}
+use Rattle.numbers.specs.inside.OverlayLaws.{overlay-sets}
 use Rattle.gasplan.proofs.tell.six.Statement.{statement}
 use Rattle.gasplan.proofs.tell.six.Tie as tie
 

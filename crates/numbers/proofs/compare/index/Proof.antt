@@ -1,5 +1,5 @@
 use mathlib.Core.Path.{sym}
-use Rattle.numbers.specs.SignedLocals.{castu, below-zero, from-zero}
+use Rattle.numbers.specs.inside.SignedLocals.{castu, below-zero, from-zero}
 use Rattle.numbers.proofs.compare.index.Statement.{statement}
 use Rattle.numbers.proofs.compare.index.Tie as tie
 

@@ -6,9 +6,9 @@ use lib.IntN.{ℤ, pos, negsuc, _-ℤ_}
 use mir.Syntax.{w64}
 use mir.Val.{SFits, toZ, Fits}
 use mir.Facts.{toZ-ofZ, toZ-pos}
-use Rattle.numbers.specs.SignedParts.{ints, taken}
-use Rattle.numbers.specs.SignedLocals.{ranged}
-use Rattle.numbers.specs.Mapping.{signed-even, signed-odd}
+use Rattle.numbers.specs.inside.SignedParts.{ints, taken}
+use Rattle.numbers.specs.inside.SignedLocals.{ranged}
+use Rattle.numbers.specs.inside.MappingLaws.{signed-even, signed-odd}
 use Rattle.numbers.proofs.mapping.signed.Statement.{statement}
 use Rattle.numbers.proofs.mapping.signed.Tie as tie
 

@@ -8,9 +8,9 @@ use mir.Val.{SFits, toZ, ofZ}
 use mir.Facts.{toZ-ofZ, sfits-lit}
 use borrow.Author.Tests.{ltb-true}
 use native.Mathlib.Omega.{arith}
-use Rattle.numbers.specs.SignedParts.{ints, added, taken, size}
-use Rattle.numbers.specs.SignedLocals.{mags, range, ranged, lt←}
-use Rattle.numbers.specs.Mapping.{unsignedOf}
+use Rattle.numbers.specs.inside.SignedParts.{ints, added, taken, size}
+use Rattle.numbers.specs.inside.SignedLocals.{mags, range, ranged, lt←}
+use Rattle.numbers.specs.law.Mapping.{unsignedOf}
 use Rattle.numbers.proofs.mapping.unsigned.Statement.{statement}
 use Rattle.numbers.proofs.mapping.unsigned.Tie as tie
 

@@ -7,9 +7,9 @@ use denote.Ref.{now}
 use mir.Facts.{toZ-ofZ}
 use mir.Syntax.{w64}
 use mir.Val.{toZ, ofZ}
-use Rattle.numbers.specs.Mapping.{signedOf}
-use Rattle.numbers.specs.Reading.{numberOf}
-use Rattle.numbers.specs.ReadingBounds.{used-some}
+use Rattle.numbers.specs.law.Mapping.{signedOf}
+use Rattle.numbers.specs.law.Reading.{numberOf}
+use Rattle.numbers.specs.inside.ReadingBounds.{used-some}
 use Rattle.numbers.specs.declared.reader.Number.the-variants.{Whole}
 use lib.ListN.{length, drop, length-drop}
 use Rattle.numbers.proofs.Stored.{Storing, storing, store-end, store-full, store-no, store-turn}

@@ -1,7 +1,7 @@
 use mathlib.Core.Path.{sym, ap, _∙_}
 use borrow.Author.Needs.{needs}
 use Prim.Native.Nat.{_^_}
-use Rattle.numbers.specs.Shifted.{shifted}
+use Rattle.numbers.specs.inside.Shifted.{shifted}
 use Rattle.numbers.proofs.Gathered.{later-none, tenth-one, tenth-other}
 use Rattle.numbers.proofs.reader.tenth.Statement.{statement}
 use Rattle.numbers.proofs.reader.tenth.Tie as tie

@@ -3,7 +3,7 @@ use borrow.Author.Needs.{needs}
 use native.Mathlib.Omega.{arith}
 use lib.Count.{ones-le}
 use mir.Facts.{toZ-ofZ}
-use Rattle.numbers.specs.SignedParts.{posPart}
+use Rattle.numbers.specs.law.Signed.{posPart}
 use Rattle.numbers.proofs.sets.count.Statement.{statement}
 use Rattle.numbers.proofs.sets.count.Tie as tie
 

@@ -8,9 +8,9 @@ use lib.IntN.{ℤ}
 use mir.Facts.{toZ-ofZ}
 use mir.Syntax.{w64}
 use mir.Val.{SFits}
-use Rattle.numbers.specs.SignedParts.{posPart}
-use Rattle.numbers.specs.SignedLocals.{range}
-use Rattle.numbers.specs.Sets.{bit-high}
+use Rattle.numbers.specs.law.Signed.{posPart}
+use Rattle.numbers.specs.inside.SignedLocals.{range}
+use Rattle.numbers.specs.inside.SetLaws.{bit-high}
 use Rattle.numbers.proofs.sets.member.Statement.{statement}
 use Rattle.numbers.proofs.sets.member.Tie as tie
 

@@ -1,7 +1,7 @@
 use mathlib.Core.Path.{_≡_}
 use borrow.Author.Needs.{needs}
 use mir.Facts.{toZ-ofZ}
-use Rattle.numbers.specs.SignedParts.{posPart}
+use Rattle.numbers.specs.law.Signed.{posPart}
 use Rattle.numbers.proofs.sets.subset.Statement.{statement}
 use Rattle.numbers.proofs.sets.subset.Tie as tie
 

@@ -5,8 +5,8 @@ use borrow.Author.Needs.{needs}
 use native.Mathlib.Omega.{arith}
 use lib.ListN.{length}
 use mir.Facts.{toZ-ofZ}
-use Rattle.numbers.specs.Groups.{groups}
-use Rattle.numbers.specs.SignedLocals.{element}
+use Rattle.numbers.specs.law.Groups.{groups}
+use Rattle.numbers.specs.inside.SignedLocals.{element}
 use Rattle.numbers.proofs.Listed.{Filling, filling, fill-room, fill-turn, fill-end, groupsAt}
 use Rattle.numbers.proofs.writer.put_all.Statement.{statement}
 use Rattle.numbers.proofs.writer.put_all.Tie as tie

@@ -5,8 +5,8 @@ use borrow.Author.Needs.{needs}
 use native.Mathlib.Omega.{arith}
 use lib.ListN.{length}
 use mir.Facts.{toZ-ofZ}
-use Rattle.numbers.specs.Groups.{groups}
-use Rattle.numbers.specs.SignedLocals.{element}
+use Rattle.numbers.specs.law.Groups.{groups}
+use Rattle.numbers.specs.inside.SignedLocals.{element}
 use Rattle.numbers.proofs.Listed.{Sizing, sizing, size-turn, size-over, size-end, groupsAt}
 use Rattle.numbers.proofs.writer.size_of.Statement.{statement}
 use Rattle.numbers.proofs.writer.size_of.Tie as tie

@@ -3,7 +3,8 @@ use native.Mathlib.Omega.{arith}
 use borrow.Author.Needs.{needs}
 use lib.Count.{leading-le}
 use lib.ListN.{length}
-use Rattle.numbers.specs.Groups.{groups, one-group}
+use Rattle.numbers.specs.law.Groups.{groups}
+use Rattle.numbers.specs.inside.GroupLaws.{one-group}
 use Rattle.numbers.proofs.Counted.{width-is}
 use Rattle.numbers.proofs.writer.width.Statement.{statement}
 use Rattle.numbers.proofs.writer.width.Tie as tie

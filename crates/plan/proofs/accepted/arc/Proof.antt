@@ -3,9 +3,9 @@ use Prim.Native.Nat.{_+_}
 use native.Mathlib.Omega.{arith}
 use borrow.Author.Needs.{needs}
 use denote.Ref.{now}
-use Rattle.case.specs.Layout.{countAt, arcAt}
-use Rattle.plan.specs.CaseFacts.{arc-there}
-use Rattle.numbers.specs.SignedLocals.{kept}
+use Rattle.case.specs.law.Layout.{countAt, arcAt}
+use Rattle.plan.specs.inside.CaseSizes.{arc-there}
+use Rattle.numbers.specs.inside.SignedLocals.{kept}
 use Rattle.plan.proofs.accepted.arc.Statement.{statement}
 use Rattle.plan.proofs.accepted.arc.Tie as tie
 

@@ -1,7 +1,7 @@
 use mathlib.Core.Path.{ap, _∙_}
 use borrow.Author.Needs.{needs}
-use Rattle.numbers.specs.SignedParts.{posPart}
-use Rattle.numbers.specs.SignedLocals.{kept}
+use Rattle.numbers.specs.law.Signed.{posPart}
+use Rattle.numbers.specs.inside.SignedLocals.{kept}
 use Rattle.plan.proofs.accepted.count.Statement.{statement}
 use Rattle.plan.proofs.accepted.count.Tie as tie
 

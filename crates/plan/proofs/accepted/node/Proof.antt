@@ -2,9 +2,9 @@ use mathlib.Core.Path.{_≡_, ap, _∙_}
 use Prim.Native.Nat.{_+_}
 use native.Mathlib.Omega.{arith}
 use denote.Ref.{now}
-use Rattle.case.specs.Layout.{countAt, nodeAt}
-use Rattle.plan.specs.CaseFacts.{counted, node-there}
-use Rattle.numbers.specs.SignedLocals.{kept}
+use Rattle.case.specs.law.Layout.{countAt, nodeAt}
+use Rattle.plan.specs.inside.CaseSizes.{counted, node-there}
+use Rattle.numbers.specs.inside.SignedLocals.{kept}
 use Rattle.plan.proofs.accepted.node.Statement.{statement}
 use Rattle.plan.proofs.accepted.node.Tie as tie
 

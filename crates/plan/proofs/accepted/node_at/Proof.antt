@@ -3,8 +3,8 @@ use Prim.Native.Nat.{_+_, _*_, _≤_}
 use native.Mathlib.Nat.{mul-le-mul}
 use native.Mathlib.Omega.{arith}
 use denote.Ref.{now}
-use Rattle.case.specs.Layout.{nodeAt, stepsOf}
-use Rattle.plan.specs.CaseFacts.{counted, head-there}
+use Rattle.case.specs.law.Layout.{nodeAt, stepsOf}
+use Rattle.plan.specs.inside.CaseSizes.{counted, head-there}
 use Rattle.plan.proofs.accepted.node_at.Statement.{statement}
 use Rattle.plan.proofs.accepted.node_at.Tie as tie
 

@@ -5,8 +5,8 @@ use borrow.Author.Tests.{le-leb, lt-leb}
 use denote.Ref.{now}
 use lib.Dec.{leb}
 use Rattle.case.specs.declared.records.Artificial.{Artificial}
-use Rattle.case.specs.Records.{arcOf}
-use Rattle.plan.specs.StationPass.{ownStation}
+use Rattle.case.specs.law.Records.{arcOf}
+use Rattle.plan.specs.inside.StationPass.{ownStation}
 use Rattle.plan.proofs.accepted.own_station.Statement.{statement}
 use Rattle.plan.proofs.accepted.own_station.Tie as tie
 

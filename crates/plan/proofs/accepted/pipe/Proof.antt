@@ -1,8 +1,8 @@
 use mathlib.Core.Path.{_∙_}
 use native.Mathlib.Omega.{arith}
 use borrow.Author.Needs.{needs}
-use Rattle.plan.specs.CaseFacts.{arc-there}
-use Rattle.numbers.specs.SignedLocals.{kept}
+use Rattle.plan.specs.inside.CaseSizes.{arc-there}
+use Rattle.numbers.specs.inside.SignedLocals.{kept}
 use Rattle.plan.proofs.accepted.pipe.Statement.{statement}
 use Rattle.plan.proofs.accepted.pipe.Tie as tie
 

@@ -11,17 +11,17 @@ use lib.ListN.{getD}
 use mir.Facts.{toZ-pos}
 use mir.Syntax.{w64}
 use mir.Val.{toZ, ofZ}
-use Rattle.numbers.specs.Items.{rest, rest-on, rest-no, rest-end}
-use Rattle.numbers.specs.Question.{firstNo, answer}
-use Rattle.numbers.specs.Sum.{sumN}
+use Rattle.numbers.specs.inside.ItemLaws.{rest, rest-on, rest-no, rest-end}
+use Rattle.numbers.specs.law.Question.{firstNo, answer}
+use Rattle.numbers.specs.law.Sums.{sumN}
 use Rattle.numbers.specs.declared.answer.Answer.{Answer}
-use Rattle.case.specs.Layout.{nodesOf}
-use Rattle.plan.specs.Balance.{nodeResidual, balanceQuestions, allBalanceQuestions}
-use Rattle.plan.specs.Totals.{nodeResiduals}
+use Rattle.case.specs.law.Layout.{nodesOf}
+use Rattle.plan.specs.law.Balance.{nodeResidual, balanceQuestions, allBalanceQuestions}
+use Rattle.plan.specs.law.Totals.{nodeResiduals}
 use Rattle.plan.specs.declared.stepped.Stepped.the-variants.{Kept}
-use Rattle.plan.specs.SteppedBy.{steppedBy}
-use Rattle.plan.specs.Handed.{AtBalance}
-use Rattle.plan.specs.CaseFacts.{counted, mass-sized}
+use Rattle.plan.specs.inside.StepAnswer.{steppedBy}
+use Rattle.plan.specs.inside.Preconditions.{AtBalance}
+use Rattle.plan.specs.inside.CaseSizes.{counted, mass-sized}
 use Rattle.plan.proofs.Adding.{Counting, startN, turnN, endN}
 use Rattle.plan.proofs.NetFlows.{read}
 use Rattle.plan.proofs.NodeParts.{net-sized, residual-sized, balance-asked}

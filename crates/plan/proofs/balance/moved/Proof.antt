@@ -9,10 +9,10 @@ use lib.IntN.{ℤ, _+ℤ_, _-ℤ_}
 use lib.ListN.{length, set, length-set}
 use mir.Syntax.{w64}
 use mir.Val.{toZ, ofZ}
-use Rattle.numbers.specs.SignedLocals.{Held, held, param, held-fits, _+ʳ_, _-ʳ_}
-use Rattle.numbers.specs.Sum.{only}
-use Rattle.case.specs.Layout.{numberAt}
-use Rattle.plan.specs.Moved.{movedAt}
+use Rattle.numbers.specs.inside.SignedLocals.{Held, held, param, held-fits, _+ʳ_, _-ʳ_}
+use Rattle.numbers.specs.law.Sums.{only}
+use Rattle.case.specs.law.Layout.{numberAt}
+use Rattle.plan.specs.inside.NetFlow.{movedAt}
 use Rattle.plan.proofs.NetFlows.{put-add, put-sub, room, read}
 use Rattle.plan.proofs.balance.moved.Statement.{statement}
 use Rattle.plan.proofs.balance.moved.Tie as tie

@@ -8,11 +8,11 @@ use lib.IntN.{ℤ, natAbs, _-ℤ_}
 use mir.Facts.{fits-le, fits-lit}
 use mir.Syntax.{w64}
 use mir.Val.{toZ, ofZ}
-use Rattle.numbers.specs.SignedLocals.{Held, held, held-fits, _-ʳ_}
+use Rattle.numbers.specs.inside.SignedLocals.{Held, held, held-fits, _-ʳ_}
 use Rattle.plan.specs.declared.rows.NodeRow.{NodeRow}
-use Rattle.plan.specs.Pipes.{duration}
-use Rattle.plan.specs.Balance.{nodeImbalance, nodeResidual}
-use Rattle.plan.specs.CaseFacts.{counted, duration-sized}
+use Rattle.plan.specs.law.Pipes.{duration}
+use Rattle.plan.specs.law.Balance.{nodeImbalance, nodeResidual}
+use Rattle.plan.specs.inside.CaseSizes.{counted, duration-sized}
 use Rattle.plan.proofs.NetFlows.{read}
 use Rattle.plan.proofs.NodeParts.{net-sized}
 use Rattle.plan.proofs.balance.node_residual.Statement.{statement}

@@ -4,11 +4,11 @@ use Prim.Native.Nat.{_-_, _<_, _≤_}
 use native.Mathlib.Omega.{arith}
 use borrow.Author.Tests.{le-leb, lt-leb}
 use mathlib.Core.Logic.{⊎-elim}
-use Rattle.numbers.specs.SignedLocals.{kept}
+use Rattle.numbers.specs.inside.SignedLocals.{kept}
 use borrow.Author.Needs.{needs}
 use lib.Dec.{leb}
-use Rattle.plan.specs.ArcFlows.{flowAllowed, noFlowAgainst}
-use Rattle.plan.specs.Setting.{settingOf}
+use Rattle.plan.specs.law.ArcFlows.{flowAllowed, noFlowAgainst}
+use Rattle.plan.specs.law.Setting.{settingOf}
 use Rattle.plan.specs.declared.setting.Setting.{Setting}
 use Rattle.plan.proofs.flows.flow_allowed.Statement.{statement}
 use Rattle.plan.proofs.flows.flow_allowed.Tie as tie

@@ -5,10 +5,11 @@ use borrow.Author.Needs.{needs}
 use Rattle.case.specs.declared.records.Arc.{Arc}
 use Rattle.case.specs.declared.records.Artificial.{Artificial}
 use Rattle.plan.specs.declared.rows.ArcRow.{ArcRow}
-use Rattle.numbers.specs.Question.{answer, orElse, orElse-yes}
-use Rattle.plan.specs.ArcFlows.{arcNumbersKept, flowAllowed}
-use Rattle.plan.specs.ArcRules.{flowQuestions}
-use Rattle.plan.specs.CaseFacts.{counted, qmax-sized}
+use Rattle.numbers.specs.law.Question.{answer, orElse}
+use Rattle.numbers.specs.inside.QuestionLaws.{orElse-yes}
+use Rattle.plan.specs.law.ArcFlows.{arcNumbersKept, flowAllowed}
+use Rattle.plan.specs.law.ArcRules.{flowQuestions}
+use Rattle.plan.specs.inside.CaseSizes.{counted, qmax-sized}
 use Rattle.plan.proofs.flows.flow_answer.Statement.{statement}
 use Rattle.plan.proofs.flows.flow_answer.Tie as tie
 

@@ -1,11 +1,11 @@
 use mathlib.Core.Path.{_≡_, _∙_}
 use mathlib.Core.Bool.{_&&_}
 use lib.IntN.{ℤ, pos}
-use Rattle.numbers.specs.SignedLocals.{held, param, literal, held-fits, _-ʳ_, kept}
+use Rattle.numbers.specs.inside.SignedLocals.{held, param, literal, held-fits, _-ʳ_, kept}
 use borrow.Author.Tests.{ne-eqb}
 use borrow.Author.Needs.{needs}
-use Rattle.plan.specs.ArcFlows.{flowsKept}
-use Rattle.plan.specs.Compared.{within}
+use Rattle.plan.specs.law.ArcFlows.{flowsKept}
+use Rattle.plan.specs.law.Compared.{within}
 use Rattle.plan.proofs.flows.flows_kept.Statement.{statement}
 use Rattle.plan.proofs.flows.flows_kept.Tie as tie
 

@@ -5,8 +5,8 @@ use mir.Facts.{toZ-ofZ}
 use borrow.Author.Tests.{le-leb, lt-leb}
 use borrow.Author.Needs.{needs}
 use lib.Signed.{leZ}
-use Rattle.plan.specs.ArcFlows.{machinesWithin}
-use Rattle.numbers.specs.Sets.{subsetOf}
+use Rattle.plan.specs.law.ArcFlows.{machinesWithin}
+use Rattle.numbers.specs.law.Sets.{subsetOf}
 use Rattle.plan.proofs.flows.machines_within.Statement.{statement}
 use Rattle.plan.proofs.flows.machines_within.Tie as tie
 

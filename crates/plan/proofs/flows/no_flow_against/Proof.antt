@@ -1,14 +1,14 @@
 use mathlib.Core.Path.{_≡_, refl, ap₂, _∙_}
 use mathlib.Core.Bool.{true, false, _&&_}
-use Rattle.numbers.specs.SignedLocals.{kept}
+use Rattle.numbers.specs.inside.SignedLocals.{kept}
 use borrow.Author.Needs.{needs}
-use Rattle.plan.specs.Compared.{isZero}
+use Rattle.plan.specs.law.Compared.{isZero}
 use Rattle.plan.specs.declared.rows.ArcRow.{ArcRow}
 use Rattle.plan.specs.declared.setting.Way.{Way}
 use Rattle.plan.specs.declared.setting.Way.the-variants.{Forward, Backward}
 use Rattle.plan.specs.declared.setting.Mode.{Mode}
 use Rattle.plan.specs.declared.setting.Setting.the-variants.{Active}
-use Rattle.plan.specs.ArcFlows.{noFlowAgainst}
+use Rattle.plan.specs.law.ArcFlows.{noFlowAgainst}
 use Rattle.plan.proofs.flows.no_flow_against.Statement.{statement}
 use Rattle.plan.proofs.flows.no_flow_against.Tie as tie
 

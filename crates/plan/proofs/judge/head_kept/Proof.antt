@@ -11,13 +11,13 @@ use mir.Val.{toZ, ofZ}
 use lib.Dec.{eqb}
 use lib.ListN.{length}
 use lib.Signed.{mag}
-use Rattle.case.specs.Layout.{numberAt, stepsOf}
-use Rattle.plan.specs.Compared.{same}
-use Rattle.plan.specs.Verdicts.{head-length, head-yes, head-second, head-first}
+use Rattle.case.specs.law.Layout.{numberAt, stepsOf}
+use Rattle.plan.specs.law.Compared.{same}
+use Rattle.plan.specs.inside.VerdictLaws.{head-length, head-yes, head-second, head-first}
 use Rattle.case.specs.declared.records.Layout.{Layout}
-use Rattle.case.specs.Laid.{Laid}
-use Rattle.plan.specs.Handed.{AcceptedCase}
-use Rattle.plan.specs.CaseFacts.{counted}
+use Rattle.case.specs.law.LayoutOf.{Laid}
+use Rattle.plan.specs.inside.Preconditions.{AcceptedCase}
+use Rattle.plan.specs.inside.CaseSizes.{counted}
 use borrow.Author.Needs.{needs}
 use Rattle.plan.proofs.judge.head_kept.Statement.{statement}
 use Rattle.plan.proofs.judge.head_kept.Tie as tie

@@ -1,9 +1,9 @@
 use mathlib.Core.Path.{_∙_}
 use denote.Ref.{now}
 use borrow.Author.Needs.{needs}
-use Rattle.plan.specs.Handed.{AcceptedCase}
-use Rattle.plan.specs.CaseFacts.{list-yes}
-use Rattle.plan.specs.Verdicts.{case-answer, judge-yes, judge-no}
+use Rattle.plan.specs.inside.Preconditions.{AcceptedCase}
+use Rattle.plan.specs.inside.CaseSizes.{list-yes}
+use Rattle.plan.specs.inside.VerdictLaws.{case-answer, judge-yes, judge-no}
 use Rattle.plan.proofs.judge.judge.Statement.{statement}
 use Rattle.plan.proofs.judge.judge.Tie as tie
 

@@ -1,9 +1,9 @@
 use mathlib.Core.Path.{_∙_}
 use borrow.Author.Needs.{needs}
 use denote.Ref.{now}
-use Rattle.plan.specs.Handed.{AcceptedCase}
-use Rattle.plan.specs.CaseFacts.{list-yes}
-use Rattle.plan.specs.Verdicts.{case-answer, case-passed, list-reached, case-stopped}
+use Rattle.plan.specs.inside.Preconditions.{AcceptedCase}
+use Rattle.plan.specs.inside.CaseSizes.{list-yes}
+use Rattle.plan.specs.inside.VerdictLaws.{case-answer, case-passed, list-reached, case-stopped}
 use Rattle.plan.proofs.judge.judge_case_list.Statement.{statement}
 use Rattle.plan.proofs.judge.judge_case_list.Tie as tie
 

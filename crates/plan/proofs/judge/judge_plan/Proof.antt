@@ -1,6 +1,6 @@
 use mathlib.Core.Path.{sym, _∙_}
 use borrow.Author.Needs.{needs}
-use Rattle.plan.specs.Verdicts.{plan-laid, head-refused, head-passed}
+use Rattle.plan.specs.inside.VerdictLaws.{plan-laid, head-refused, head-passed}
 use Rattle.plan.proofs.judge.judge_plan.Statement.{statement}
 use Rattle.plan.proofs.judge.judge_plan.Tie as tie
 

@@ -5,9 +5,9 @@ use borrow.Author.Needs.{needs}
 use denote.Ref.{now}
 use lib.ListN.{length}
 use lib.Seq.{length-take-le}
-use Rattle.numbers.specs.Reported.{readingTold}
-use Rattle.numbers.specs.ReadingBounds.{count-within}
-use Rattle.plan.specs.Verdicts.{ReadAll, read-all, read-no, read-front, plan-read, plan-unread}
+use Rattle.numbers.specs.law.CodecTold.{readingTold}
+use Rattle.numbers.specs.inside.ReadingBounds.{count-within}
+use Rattle.plan.specs.inside.VerdictLaws.{ReadAll, read-all, read-no, read-front, plan-read, plan-unread}
 use Rattle.plan.proofs.judge.judge_plan_bytes.Statement.{statement}
 use Rattle.plan.proofs.judge.judge_plan_bytes.Tie as tie
 

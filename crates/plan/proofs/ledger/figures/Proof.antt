@@ -4,13 +4,13 @@ use borrow.Author.Needs.{needs}
 use mir.Facts.{toZ-ofZ}
 use lib.IntN.{ℤ}
 use denote.Ref.{now}
-use Rattle.case.specs.Layout.{numberAt}
-use Rattle.numbers.specs.Sets.{countOf}
-use Rattle.plan.specs.CaseFacts.{counted}
-use Rattle.plan.specs.Region.{innerPipes, regionGas}
-use Rattle.plan.specs.RegionGathering.{Gathering, pressures-held, gas-held}
-use Rattle.plan.specs.LedgerKept.{figures-are}
-use Rattle.numbers.specs.SignedLocals.{kept}
+use Rattle.case.specs.law.Layout.{numberAt}
+use Rattle.numbers.specs.law.Sets.{countOf}
+use Rattle.plan.specs.inside.CaseSizes.{counted}
+use Rattle.plan.specs.law.Region.{innerPipes, regionGas}
+use Rattle.plan.specs.inside.RegionLoop.{Gathering, pressures-held, gas-held}
+use Rattle.plan.specs.inside.LedgerAnswer.{figures-are}
+use Rattle.numbers.specs.inside.SignedLocals.{kept}
 use Rattle.plan.proofs.RegionSums.{read-back}
 use Rattle.plan.proofs.ledger.figures.Statement.{statement}
 use Rattle.plan.proofs.ledger.figures.Tie as tie

@@ -3,7 +3,7 @@ use native.Mathlib.Omega.{arith}
 use mir.Syntax.{w64}
 use lib.Pow.{pow-pos}
 use mir.Facts.{toZ-pos}
-use Rattle.numbers.specs.ItemBits.{shifted, items-fit}
+use Rattle.numbers.specs.inside.ItemBits.{shifted, items-fit}
 use Rattle.plan.proofs.ledger.first_nodes.Statement.{statement}
 use Rattle.plan.proofs.ledger.first_nodes.Tie as tie
 

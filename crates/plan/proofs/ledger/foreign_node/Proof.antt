@@ -5,11 +5,11 @@ use borrow.Author.Needs.{needs}
 use mir.Facts.{toZ-ofZ}
 use lib.IntN.{ℤ, pos}
 use denote.Ref.{now}
-use Rattle.case.specs.Layout.{nodesOf}
-use Rattle.numbers.specs.SignedParts.{posPart}
-use Rattle.plan.specs.Compared.{within}
-use Rattle.plan.specs.Ledger.{lowestOf, foreignNode}
-use Rattle.numbers.specs.SignedLocals.{kept}
+use Rattle.case.specs.law.Layout.{nodesOf}
+use Rattle.numbers.specs.law.Signed.{posPart}
+use Rattle.plan.specs.law.Compared.{within}
+use Rattle.plan.specs.law.Ledger.{lowestOf, foreignNode}
+use Rattle.numbers.specs.inside.SignedLocals.{kept}
 use Rattle.plan.proofs.RegionTests.{cond-yes, cond-no}
 use Rattle.plan.proofs.ledger.foreign_node.Statement.{statement}
 use Rattle.plan.proofs.ledger.foreign_node.Tie as tie

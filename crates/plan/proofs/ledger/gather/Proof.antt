@@ -7,9 +7,9 @@ use mir.Val.{toZ}
 use lib.IntN.{ℤ}
 use denote.Ref.{now}
 use mathlib.Core.List.{List}
-use Rattle.case.specs.Layout.{stepsOf}
-use Rattle.plan.specs.RegionHanded.{RegionStep}
-use Rattle.plan.specs.RegionGathering.{Gathering, gathering, step-handed, room, turn, step-within, row-is}
+use Rattle.case.specs.law.Layout.{stepsOf}
+use Rattle.plan.specs.inside.RegionPreconditions.{RegionStep}
+use Rattle.plan.specs.inside.RegionLoop.{Gathering, gathering, step-handed, room, turn, step-within, row-is}
 use Rattle.plan.proofs.ledger.gather.Statement.{statement}
 use Rattle.plan.proofs.ledger.gather.Tie as tie
 

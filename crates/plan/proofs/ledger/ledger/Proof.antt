@@ -2,10 +2,10 @@ use mathlib.Core.Path.{sym, ap, _∙_}
 use borrow.Author.Needs.{needs}
 use mir.Facts.{toZ-ofZ}
 use denote.Ref.{now}
-use Rattle.plan.specs.Judged.{verdictTold}
-use Rattle.plan.specs.Accepted.{sound}
-use Rattle.plan.specs.LedgerJudged.{ledger-after, ledger-refused}
-use Rattle.plan.specs.LedgerKept.{answers}
+use Rattle.plan.specs.law.Judged.{verdictTold}
+use Rattle.plan.specs.claims.Acceptance.{sound}
+use Rattle.plan.specs.inside.LedgerVerdict.{ledger-after, ledger-refused}
+use Rattle.plan.specs.inside.LedgerAnswer.{answers}
 use Rattle.plan.proofs.RegionTests.{same-answer}
 use Rattle.plan.proofs.ledger.ledger.Statement.{statement}
 use Rattle.plan.proofs.ledger.ledger.Tie as tie

@@ -6,7 +6,7 @@ use mir.Facts.{toZ-ofZ}
 use mir.Syntax.{w64}
 use mir.Val.{toZ, ofZ}
 use lib.IntN.{ℤ}
-use Rattle.plan.specs.Ledger.{lowestOf}
+use Rattle.plan.specs.law.Ledger.{lowestOf}
 use Rattle.plan.proofs.RegionTests.{lowest-here, lowest-on, lowest-none}
 use Rattle.plan.proofs.ledger.lowest.Statement.{statement}
 use Rattle.plan.proofs.ledger.lowest.Tie as tie

@@ -4,13 +4,13 @@ use borrow.Author.Needs.{needs}
 use mir.Facts.{toZ-ofZ}
 use lib.IntN.{ℤ, pos}
 use denote.Ref.{now}
-use Rattle.case.specs.Layout.{nodesOf}
-use Rattle.numbers.specs.SignedParts.{posPart}
-use Rattle.numbers.specs.Sets.{subsetOf}
-use Rattle.case.specs.StationFields.{firstItems}
-use Rattle.plan.specs.Compared.{within}
-use Rattle.plan.specs.Ledger.{namesNodes}
-use Rattle.numbers.specs.SignedLocals.{kept}
+use Rattle.case.specs.law.Layout.{nodesOf}
+use Rattle.numbers.specs.law.Signed.{posPart}
+use Rattle.numbers.specs.law.Sets.{subsetOf}
+use Rattle.case.specs.law.StationFields.{firstItems}
+use Rattle.plan.specs.law.Compared.{within}
+use Rattle.plan.specs.law.Ledger.{namesNodes}
+use Rattle.numbers.specs.inside.SignedLocals.{kept}
 use Rattle.plan.proofs.RegionTests.{and-yes, not-first}
 use Rattle.plan.proofs.ledger.names_nodes.Statement.{statement}
 use Rattle.plan.proofs.ledger.names_nodes.Tie as tie

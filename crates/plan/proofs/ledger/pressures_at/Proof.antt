@@ -2,8 +2,8 @@ use Prim.Native.Nat.{_-_}
 use native.Mathlib.Omega.{arith}
 use borrow.Author.Needs.{needs}
 use denote.Ref.{now}
-use Rattle.plan.specs.CaseFacts.{counted}
-use Rattle.plan.specs.RegionGathering.{step-within, row-is, pressures-first, pressures-after}
+use Rattle.plan.specs.inside.CaseSizes.{counted}
+use Rattle.plan.specs.inside.RegionLoop.{step-within, row-is, pressures-first, pressures-after}
 use Rattle.plan.proofs.ledger.pressures_at.Statement.{statement}
 use Rattle.plan.proofs.ledger.pressures_at.Tie as tie
 

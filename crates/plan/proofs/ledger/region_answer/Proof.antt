@@ -3,10 +3,11 @@ use mathlib.Core.Bool.{Bool}
 use borrow.Author.Needs.{needs}
 use mir.Facts.{toZ-ofZ}
 use denote.Ref.{now}
-use Rattle.numbers.specs.Question.{answer, orElse-yes}
+use Rattle.numbers.specs.law.Question.{answer}
+use Rattle.numbers.specs.inside.QuestionLaws.{orElse-yes}
 use Rattle.numbers.specs.declared.answer.Answer.the-variants.{No}
-use Rattle.plan.specs.CaseFacts.{counted}
-use Rattle.plan.specs.Ledger.{namesNodes, foreignNode, timesOrdered, regionQuestions}
+use Rattle.plan.specs.inside.CaseSizes.{counted}
+use Rattle.plan.specs.law.Ledger.{namesNodes, foreignNode, timesOrdered, regionQuestions}
 use Rattle.plan.proofs.ledger.region_answer.Statement.{statement}
 use Rattle.plan.proofs.ledger.region_answer.Tie as tie
 

@@ -3,19 +3,19 @@ use native.Mathlib.Omega.{arith}
 use borrow.Author.Needs.{needs}
 use mir.Facts.{toZ-ofZ}
 use denote.Ref.{now}
-use Rattle.numbers.specs.SignedParts.{posPart}
-use Rattle.numbers.specs.Question.{firstNo}
+use Rattle.numbers.specs.law.Signed.{posPart}
+use Rattle.numbers.specs.law.Question.{firstNo}
 use Rattle.numbers.specs.declared.answer.Answer.{Answer}
 use Rattle.numbers.specs.declared.answer.Answer.the-variants.{Yes}
-use Rattle.case.specs.Layout.{nodesOf, arcsOf, stationsOf}
+use Rattle.case.specs.law.Layout.{nodesOf, arcsOf, stationsOf}
 use Rattle.plan.specs.declared.figures.Ledger.the-variants.{Given}
-use Rattle.plan.specs.PlanLayout.{stepWidth}
-use Rattle.plan.specs.CaseFacts.{counted}
-use Rattle.plan.specs.RegionFigures.{figuresOf}
-use Rattle.plan.specs.Ledger.{regionQuestions, ledgerBy}
-use Rattle.plan.specs.LedgerJudged.{times-kept}
-use Rattle.plan.specs.LedgerKept.{in-order}
-use Rattle.numbers.specs.SignedLocals.{kept}
+use Rattle.plan.specs.law.PlanLayout.{stepWidth}
+use Rattle.plan.specs.inside.CaseSizes.{counted}
+use Rattle.plan.specs.law.RegionFigures.{figuresOf}
+use Rattle.plan.specs.law.Ledger.{regionQuestions, ledgerBy}
+use Rattle.plan.specs.inside.LedgerVerdict.{times-kept}
+use Rattle.plan.specs.inside.LedgerAnswer.{in-order}
+use Rattle.numbers.specs.inside.SignedLocals.{kept}
 use Rattle.plan.proofs.RegionTests.{same-questions, same-figures}
 use Rattle.plan.proofs.ledger.region_ledger.Statement.{statement}
 use Rattle.plan.proofs.ledger.region_ledger.Tie as tie

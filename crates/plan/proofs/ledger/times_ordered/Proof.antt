@@ -7,10 +7,10 @@ use lib.IntN.{ℤ, pos}
 use denote.Ref.{now}
 use lib.Signed.{leZ}
 use mir.Facts.{toZ-pos}
-use Rattle.case.specs.Layout.{stepsOf}
-use Rattle.numbers.specs.SignedParts.{posPart}
-use Rattle.plan.specs.Ledger.{timesOrdered}
-use Rattle.numbers.specs.SignedLocals.{kept}
+use Rattle.case.specs.law.Layout.{stepsOf}
+use Rattle.numbers.specs.law.Signed.{posPart}
+use Rattle.plan.specs.law.Ledger.{timesOrdered}
+use Rattle.numbers.specs.inside.SignedLocals.{kept}
 use Rattle.plan.proofs.RegionTests.{all-three, not-first, not-second}
 use Rattle.plan.proofs.ledger.times_ordered.Statement.{statement}
 use Rattle.plan.proofs.ledger.times_ordered.Tie as tie

@@ -5,12 +5,12 @@ use borrow.Author.Needs.{needs}
 use denote.Ref.{now}
 use lib.IntN.{ℤ}
 use mir.Facts.{toZ-ofZ}
-use Rattle.numbers.specs.Sets.{memberOf}
+use Rattle.numbers.specs.law.Sets.{memberOf}
 use Rattle.case.specs.declared.records.Machine.{Machine}
-use Rattle.case.specs.Records.{machineRow}
-use Rattle.numbers.specs.SignedLocals.{kept}
+use Rattle.case.specs.law.Records.{machineRow}
+use Rattle.numbers.specs.inside.SignedLocals.{kept}
 use Rattle.plan.proofs.Adding.{fits, taken-part, left-part}
-use Rattle.plan.specs.Machines.{flowPart}
+use Rattle.plan.specs.law.Machines.{flowPart}
 use Rattle.plan.proofs.machines.flow_part.Statement.{statement}
 use Rattle.plan.proofs.machines.flow_part.Tie as tie
 

@@ -5,12 +5,12 @@ use borrow.Author.Needs.{needs}
 use denote.Ref.{now}
 use lib.IntN.{ℤ, pos, _-ℤ_}
 use mir.Facts.{toZ-ofZ}
-use Rattle.numbers.specs.SignedLocals.{held, held-fits, literal, _-ʳ_}
-use Rattle.numbers.specs.Sets.{memberOf}
+use Rattle.numbers.specs.inside.SignedLocals.{held, held-fits, literal, _-ʳ_}
+use Rattle.numbers.specs.law.Sets.{memberOf}
 use Rattle.case.specs.declared.records.Machine.{Machine}
-use Rattle.case.specs.Records.{machineRow}
+use Rattle.case.specs.law.Records.{machineRow}
 use Rattle.plan.proofs.Adding.{fits, got, taken-part, left-part}
-use Rattle.plan.specs.Machines.{gainPart}
+use Rattle.plan.specs.law.Machines.{gainPart}
 use Rattle.plan.proofs.machines.gain_part.Statement.{statement}
 use Rattle.plan.proofs.machines.gain_part.Tie as tie
 

@@ -8,13 +8,14 @@ use lib.IntN.{ℤ}
 use mir.Syntax.{w64}
 use mir.Val.{toZ, ofZ}
 use mir.Facts.{toZ-ofZ}
-use Rattle.numbers.specs.Sum.{sum, abs-only-le}
-use Rattle.numbers.specs.Sets.{memberOf}
+use Rattle.numbers.specs.law.Sums.{sum}
+use Rattle.numbers.specs.inside.SumLaws.{abs-only-le}
+use Rattle.numbers.specs.law.Sets.{memberOf}
 use Rattle.case.specs.declared.records.Station.{Station}
-use Rattle.case.specs.Layout.{machinesAt}
-use Rattle.numbers.specs.SignedLocals.{kept}
+use Rattle.case.specs.law.Layout.{machinesAt}
+use Rattle.numbers.specs.inside.SignedLocals.{kept}
 use Rattle.plan.proofs.Adding.{Adding, start, fits, turn, end, got}
-use Rattle.plan.specs.Machines.{flowPart, machineFlow}
+use Rattle.plan.specs.law.Machines.{flowPart, machineFlow}
 use Rattle.plan.proofs.machines.machine_flow.Statement.{statement}
 use Rattle.plan.proofs.machines.machine_flow.Tie as tie
 

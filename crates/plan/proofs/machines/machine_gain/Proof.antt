@@ -8,13 +8,14 @@ use lib.IntN.{ℤ, pos}
 use mir.Syntax.{w64}
 use mir.Val.{toZ, ofZ}
 use mir.Facts.{toZ-ofZ}
-use Rattle.numbers.specs.SignedLocals.{literal, _-ʳ_, kept}
-use Rattle.numbers.specs.Sum.{sum, abs-only-le}
-use Rattle.numbers.specs.Sets.{memberOf}
+use Rattle.numbers.specs.inside.SignedLocals.{literal, _-ʳ_, kept}
+use Rattle.numbers.specs.law.Sums.{sum}
+use Rattle.numbers.specs.inside.SumLaws.{abs-only-le}
+use Rattle.numbers.specs.law.Sets.{memberOf}
 use Rattle.case.specs.declared.records.Station.{Station}
-use Rattle.case.specs.Layout.{machinesAt}
+use Rattle.case.specs.law.Layout.{machinesAt}
 use Rattle.plan.proofs.Adding.{Adding, start, fits, turn, end, got}
-use Rattle.plan.specs.Machines.{gainPart, machineGain}
+use Rattle.plan.specs.law.Machines.{gainPart, machineGain}
 use Rattle.plan.proofs.machines.machine_gain.Statement.{statement}
 use Rattle.plan.proofs.machines.machine_gain.Tie as tie
 

@@ -1,11 +1,11 @@
 use mathlib.Core.Path.{_≡_, sym, ap₂, _∙_}
 use mathlib.Core.Bool.{true, false, _&&_}
 use lib.IntN.{_+ℤ_, _-ℤ_}
-use Rattle.numbers.specs.SignedLocals.{held, param, held-fits, _+ʳ_, _-ʳ_, kept}
+use Rattle.numbers.specs.inside.SignedLocals.{held, param, held-fits, _+ʳ_, _-ʳ_, kept}
 use borrow.Author.Needs.{needs}
 use lib.Signed.{leZ}
-use Rattle.plan.specs.NodeRules.{activeBoundsKept}
-use Rattle.plan.specs.Compared.{isZero}
+use Rattle.plan.specs.law.NodeRules.{activeBoundsKept}
+use Rattle.plan.specs.law.Compared.{isZero}
 use Rattle.plan.proofs.nodes.active_bounds_kept.Statement.{statement}
 use Rattle.plan.proofs.nodes.active_bounds_kept.Tie as tie
 

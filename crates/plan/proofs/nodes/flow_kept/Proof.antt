@@ -1,7 +1,7 @@
 use borrow.Author.Tests.{ne-eqb}
 use borrow.Author.Needs.{needs}
 use mir.Facts.{toZ-ofZ}
-use Rattle.plan.specs.NodeRules.{boundaryFlowKept}
+use Rattle.plan.specs.law.NodeRules.{boundaryFlowKept}
 use Rattle.plan.proofs.nodes.flow_kept.Statement.{statement}
 use Rattle.plan.proofs.nodes.flow_kept.Tie as tie
 

@@ -4,13 +4,14 @@ use Prim.Native.Nat.{_+_, _-_}
 use native.Mathlib.Omega.{arith}
 use denote.Ref.{now}
 use borrow.Author.Needs.{needs}
-use Rattle.numbers.specs.Question.{answer, orElse, orElse-yes}
-use Rattle.case.specs.Records.{nodeOf}
-use Rattle.plan.specs.PlanRecords.{nodeRow}
-use Rattle.plan.specs.NodeRules.{nodeNumbersKept, demandMet, activeBoundsKept, nodeQuestions}
-use Rattle.plan.specs.Sizes.{NodeSized, NodeRowSized}
-use Rattle.plan.specs.CaseFacts.{counted, node-sized}
-use Rattle.plan.specs.Kept.{numbers-sized}
+use Rattle.numbers.specs.law.Question.{answer, orElse}
+use Rattle.numbers.specs.inside.QuestionLaws.{orElse-yes}
+use Rattle.case.specs.law.Records.{nodeOf}
+use Rattle.plan.specs.law.PlanRecords.{nodeRow}
+use Rattle.plan.specs.law.NodeRules.{nodeNumbersKept, demandMet, activeBoundsKept, nodeQuestions}
+use Rattle.plan.specs.inside.Sizes.{NodeSized, NodeRowSized}
+use Rattle.plan.specs.inside.CaseSizes.{counted, node-sized}
+use Rattle.plan.specs.inside.AnsweredSizes.{numbers-sized}
 use Rattle.plan.proofs.nodes.node_answer.Statement.{statement}
 use Rattle.plan.proofs.nodes.node_answer.Tie as tie
 

@@ -1,9 +1,9 @@
 use mathlib.Core.Path.{_≡_, ap₂, _∙_}
 use mathlib.Core.Bool.{_&&_}
-use Rattle.numbers.specs.SignedLocals.{kept}
+use Rattle.numbers.specs.inside.SignedLocals.{kept}
 use borrow.Author.Needs.{needs}
-use Rattle.plan.specs.NodeRules.{nodeNumbersKept, boundaryFlowKept}
-use Rattle.plan.specs.Compared.{within}
+use Rattle.plan.specs.law.NodeRules.{nodeNumbersKept, boundaryFlowKept}
+use Rattle.plan.specs.law.Compared.{within}
 use Rattle.plan.proofs.nodes.numbers_kept.Statement.{statement}
 use Rattle.plan.proofs.nodes.numbers_kept.Tie as tie
 

@@ -1,11 +1,11 @@
 use mathlib.Core.Path.{_≡_, ap, ap₂, _∙_}
 use mathlib.Core.Bool.{_&&_}
 use lib.IntN.{pos, _-ℤ_}
-use Rattle.numbers.specs.SignedLocals.{held, param, held-fits, _-ʳ_, kept}
+use Rattle.numbers.specs.inside.SignedLocals.{held, param, held-fits, _-ʳ_, kept}
 use borrow.Author.Needs.{needs}
-use Rattle.plan.specs.NodeRules.{slackLimit, slacksKept}
-use Rattle.plan.specs.Compared.{within}
-use Rattle.case.specs.Field.{mostFlow}
+use Rattle.plan.specs.law.NodeRules.{slackLimit, slacksKept}
+use Rattle.plan.specs.law.Compared.{within}
+use Rattle.case.specs.law.Field.{mostFlow}
 use Rattle.plan.proofs.nodes.slacks_kept.Statement.{statement}
 use Rattle.plan.proofs.nodes.slacks_kept.Tie as tie
 

@@ -3,11 +3,11 @@ use mathlib.Core.Logic.{⊎-elim}
 use Prim.Native.Nat.{ℕ, _≤_, _<_, _-_}
 use native.Mathlib.Omega.{arith}
 use denote.Ref.{now}
-use Rattle.case.specs.Layout.{arcsOf}
-use Rattle.case.specs.StationArcs.{arcSet}
-use Rattle.plan.specs.PlanRecords.{activeIn}
-use Rattle.plan.specs.StationPass.{activeBits}
-use Rattle.plan.specs.CaseFacts.{counted}
+use Rattle.case.specs.law.Layout.{arcsOf}
+use Rattle.case.specs.law.StationArcs.{arcSet}
+use Rattle.plan.specs.law.PlanRecords.{activeIn}
+use Rattle.plan.specs.inside.StationPass.{activeBits}
+use Rattle.plan.specs.inside.CaseSizes.{counted}
 use Rattle.plan.proofs.StationPasses.{ActivePass, active-none, active-same, active-more, active-few, active-small}
 use Rattle.plan.proofs.passes.active_sets.Statement.{statement}
 use Rattle.plan.proofs.passes.active_sets.Tie as tie

@@ -6,10 +6,10 @@ use denote.Ref.{now}
 use lib.IntN.{pos}
 use lib.Pow.{pow-lt}
 use lib.Signed.{leZ}
-use Rattle.numbers.specs.SignedLocals.{kept}
-use Rattle.numbers.specs.ItemBits.{shifted}
+use Rattle.numbers.specs.inside.SignedLocals.{kept}
+use Rattle.numbers.specs.inside.ItemBits.{shifted}
 use Rattle.plan.specs.declared.rows.ArcRow.{ArcRow}
-use Rattle.plan.specs.PlanRecords.{activeIn}
+use Rattle.plan.specs.law.PlanRecords.{activeIn}
 use Rattle.plan.proofs.passes.with_active.Statement.{statement}
 use Rattle.plan.proofs.passes.with_active.Tie as tie
 

@@ -2,9 +2,9 @@ use denote.Ref.{now}
 use lib.IntN.{_-ℤ_}
 use mir.Syntax.{w64}
 use mir.Val.{toZ, ofZ}
-use Rattle.numbers.specs.SignedLocals.{Held, held, held-fits, _-ʳ_}
-use Rattle.case.specs.Layout.{numberAt}
-use Rattle.plan.specs.Pipes.{change}
+use Rattle.numbers.specs.inside.SignedLocals.{Held, held, held-fits, _-ʳ_}
+use Rattle.case.specs.law.Layout.{numberAt}
+use Rattle.plan.specs.law.Pipes.{change}
 use Rattle.plan.proofs.ArcLaws.{read}
 use borrow.Author.Needs.{needs}
 use Rattle.plan.proofs.pipes.change.Statement.{statement}

@@ -3,8 +3,8 @@ use mathlib.Core.Bool.{false}
 use borrow.Author.Tests.{ne-eqb}
 use denote.Ref.{now}
 use Rattle.case.specs.declared.records.Arc.{Arc}
-use Rattle.plan.specs.Pipes.{isPipe, pipeMassKept, pipePressuresKept}
-use Rattle.plan.specs.ArcRules.{pipeQuestions}
+use Rattle.plan.specs.law.Pipes.{isPipe, pipeMassKept, pipePressuresKept}
+use Rattle.plan.specs.law.ArcRules.{pipeQuestions}
 use borrow.Author.Needs.{needs}
 use Rattle.plan.proofs.pipes.pipe_answer.Statement.{statement}
 use Rattle.plan.proofs.pipes.pipe_answer.Tie as tie

@@ -8,11 +8,12 @@ use lib.IntN.{pos, natAbs}
 use lib.Signed.{leZ}
 use mir.Syntax.{w64}
 use mir.Val.{toZ, ofZ}
-use Rattle.numbers.specs.Question.{answer, orElse, orElse-yes}
-use Rattle.numbers.specs.SignedLocals.{Held, held, held-fits, fit, param, literal, _*ʳ_, kept}
-use Rattle.plan.specs.Pipes.{isPipe, pipeResidual, pressureBalance, pipeMassKept, pipePressuresKept}
-use Rattle.plan.specs.ArcRules.{pipeQuestions}
-use Rattle.plan.specs.CaseFacts.{counted, tolerance-sized}
+use Rattle.numbers.specs.law.Question.{answer, orElse}
+use Rattle.numbers.specs.inside.QuestionLaws.{orElse-yes}
+use Rattle.numbers.specs.inside.SignedLocals.{Held, held, held-fits, fit, param, literal, _*ʳ_, kept}
+use Rattle.plan.specs.law.Pipes.{isPipe, pipeResidual, pressureBalance, pipeMassKept, pipePressuresKept}
+use Rattle.plan.specs.law.ArcRules.{pipeQuestions}
+use Rattle.plan.specs.inside.CaseSizes.{counted, tolerance-sized}
 use Rattle.plan.proofs.ArcLaws.{read, read-bounded, imbalance-sized, balance-sized}
 use borrow.Author.Needs.{needs}
 use Rattle.plan.proofs.pipes.pipe_kept.Statement.{statement}

@@ -5,10 +5,10 @@ use denote.Ref.{now}
 use lib.IntN.{natAbs}
 use mir.Syntax.{w64}
 use mir.Val.{toZ, ofZ}
-use Rattle.numbers.specs.SignedLocals.{Held, held}
-use Rattle.case.specs.Layout.{numberAt, nodesOf}
-use Rattle.plan.specs.Pipes.{pipeImbalance, pipeResidual}
-use Rattle.plan.specs.CaseFacts.{counted, from-node, to-node}
+use Rattle.numbers.specs.inside.SignedLocals.{Held, held}
+use Rattle.case.specs.law.Layout.{numberAt, nodesOf}
+use Rattle.plan.specs.law.Pipes.{pipeImbalance, pipeResidual}
+use Rattle.plan.specs.inside.CaseSizes.{counted, from-node, to-node}
 use Rattle.plan.proofs.ArcLaws.{read-bounded, SumRead, sum-read}
 use borrow.Author.Needs.{needs}
 use Rattle.plan.proofs.pipes.pipe_residual.Statement.{statement}

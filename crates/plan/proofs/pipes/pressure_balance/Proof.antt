@@ -5,14 +5,14 @@ use denote.Ref.{now}
 use lib.IntN.{pos}
 use mir.Syntax.{w64}
 use mir.Val.{toZ, ofZ}
-use Rattle.numbers.specs.SignedLocals.{Held, held, held-fits, literal, _+ʳ_, _-ʳ_, _*ʳ_}
+use Rattle.numbers.specs.inside.SignedLocals.{Held, held, held-fits, literal, _+ʳ_, _-ʳ_, _*ʳ_}
 use Rattle.case.specs.declared.records.Arc.{Arc}
 use Rattle.case.specs.declared.records.Pipe.{Pipe}
-use Rattle.case.specs.Records.{arcOf, pipeOf}
+use Rattle.case.specs.law.Records.{arcOf, pipeOf}
 use Rattle.plan.specs.declared.rows.ArcRow.{ArcRow}
-use Rattle.plan.specs.PlanRecords.{pressureIn, arcRow}
-use Rattle.plan.specs.Pipes.{pressureBalance}
-use Rattle.plan.specs.CaseFacts.{counted, from-node, to-node, pipe-sized}
+use Rattle.plan.specs.law.PlanRecords.{pressureIn, arcRow}
+use Rattle.plan.specs.law.Pipes.{pressureBalance}
+use Rattle.plan.specs.inside.CaseSizes.{counted, from-node, to-node, pipe-sized}
 use Rattle.plan.proofs.ArcLaws.{read}
 use borrow.Author.Needs.{needs}
 use Rattle.plan.proofs.pipes.pressure_balance.Statement.{statement}

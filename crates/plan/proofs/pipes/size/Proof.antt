@@ -5,7 +5,7 @@ use lib.Dec.{lt→ltb}
 use lib.IntN.{pos, natAbs}
 use mir.Syntax.{w64}
 use mir.Val.{toZ, ofZ}
-use Rattle.numbers.specs.SignedLocals.{Held, held<, held-fits<, plain, literal, _-ʳ_, absʳ-neg, castu, castu-is}
+use Rattle.numbers.specs.inside.SignedLocals.{Held, held<, held-fits<, plain, literal, _-ʳ_, absʳ-neg, castu, castu-is}
 use Rattle.plan.proofs.pipes.size.Statement.{statement}
 use Rattle.plan.proofs.pipes.size.Tie as tie
 

@@ -6,16 +6,16 @@ use lib.IntN.{pos, _+ℤ_}
 use lib.Signed.{leZ}
 use mir.Syntax.{w64}
 use mir.Val.{toZ, ofZ}
-use Rattle.numbers.specs.SignedLocals.{Held, held, held-fits, literal, _+ʳ_, _*ʳ_, kept}
+use Rattle.numbers.specs.inside.SignedLocals.{Held, held, held-fits, literal, _+ʳ_, _*ʳ_, kept}
 use Rattle.case.specs.declared.records.Node.{Node}
-use Rattle.case.specs.Records.{artificialOf}
+use Rattle.case.specs.law.Records.{artificialOf}
 use Rattle.plan.specs.declared.rows.ArcRow.{ArcRow}
-use Rattle.plan.specs.PlanRecords.{pressureIn, arcRow}
-use Rattle.plan.specs.Machines.{machineGain}
-use Rattle.plan.specs.Setting.{homeOf}
-use Rattle.plan.specs.Sizes.{MachinesSized}
-use Rattle.plan.specs.ArcPressures.{outBound, basePressure, ratioOf, compressionKept}
-use Rattle.plan.specs.CaseFacts.{counted}
+use Rattle.plan.specs.law.PlanRecords.{pressureIn, arcRow}
+use Rattle.plan.specs.law.Machines.{machineGain}
+use Rattle.plan.specs.law.Setting.{homeOf}
+use Rattle.plan.specs.inside.Sizes.{MachinesSized}
+use Rattle.plan.specs.law.ArcPressures.{outBound, basePressure, ratioOf, compressionKept}
+use Rattle.plan.specs.inside.CaseSizes.{counted}
 use Rattle.plan.proofs.ArcLaws.{read, gain-sized}
 use borrow.Author.Needs.{needs}
 use Rattle.plan.proofs.pressures.compression_kept.Statement.{statement}

@@ -7,15 +7,15 @@ use lib.Signed.{leZ}
 use mir.Facts.{toZ-ofZ}
 use mir.Syntax.{w64}
 use mir.Val.{toZ, ofZ}
-use Rattle.numbers.specs.Sets.{countOf}
+use Rattle.numbers.specs.law.Sets.{countOf}
 use Rattle.case.specs.declared.records.Artificial.{Artificial}
-use Rattle.case.specs.Records.{artificialOf}
-use Rattle.numbers.specs.SignedLocals.{kept}
+use Rattle.case.specs.law.Records.{artificialOf}
+use Rattle.numbers.specs.inside.SignedLocals.{kept}
 use Rattle.plan.specs.declared.rows.ArcRow.{ArcRow}
-use Rattle.plan.specs.PlanRecords.{arcRow}
-use Rattle.plan.specs.Machines.{machineFlow}
-use Rattle.plan.specs.ArcMachines.{machinesCarry}
-use Rattle.plan.specs.CaseFacts.{counted}
+use Rattle.plan.specs.law.PlanRecords.{arcRow}
+use Rattle.plan.specs.law.Machines.{machineFlow}
+use Rattle.plan.specs.law.ArcMachines.{machinesCarry}
+use Rattle.plan.specs.inside.CaseSizes.{counted}
 use borrow.Author.Needs.{needs}
 use Rattle.plan.proofs.pressures.machines_carry.Statement.{statement}
 use Rattle.plan.proofs.pressures.machines_carry.Tie as tie

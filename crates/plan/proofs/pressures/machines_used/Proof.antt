@@ -3,14 +3,14 @@ use denote.Ref.{now}
 use mir.Syntax.{w64}
 use mir.Val.{toZ, ofZ}
 use Rattle.case.specs.declared.records.Arc.{Arc}
-use Rattle.numbers.specs.SignedLocals.{kept}
+use Rattle.numbers.specs.inside.SignedLocals.{kept}
 use Rattle.plan.specs.declared.rows.ArcRow.{ArcRow}
 use Rattle.plan.specs.declared.setting.Setting.the-variants.{Unknown, Off, Active}
 use Rattle.plan.specs.declared.setting.Way.the-variants.{Forward, Backward}
-use Rattle.plan.specs.PlanRecords.{arcRow}
-use Rattle.plan.specs.Setting.{settingOf, settingIn}
-use Rattle.plan.specs.ArcMachines.{modeMachines, machinesUsed}
-use Rattle.plan.specs.CaseFacts.{counted}
+use Rattle.plan.specs.law.PlanRecords.{arcRow}
+use Rattle.plan.specs.law.Setting.{settingOf, settingIn}
+use Rattle.plan.specs.law.ArcMachines.{modeMachines, machinesUsed}
+use Rattle.plan.specs.inside.CaseSizes.{counted}
 use Rattle.plan.proofs.ArcLaws.{compressing-kind}
 use borrow.Author.Needs.{needs}
 use Rattle.plan.proofs.pressures.machines_used.Statement.{statement}

@@ -3,11 +3,11 @@ use denote.Ref.{now}
 use mir.Facts.{toZ-ofZ}
 use mir.Syntax.{w64}
 use mir.Val.{toZ, ofZ}
-use Rattle.numbers.specs.SignedLocals.{kept}
+use Rattle.numbers.specs.inside.SignedLocals.{kept}
 use Rattle.plan.specs.declared.rows.ArcRow.{ArcRow}
-use Rattle.plan.specs.PlanRecords.{arcRow}
-use Rattle.plan.specs.ArcMachines.{machinesCarry}
-use Rattle.plan.specs.CaseFacts.{counted}
+use Rattle.plan.specs.law.PlanRecords.{arcRow}
+use Rattle.plan.specs.law.ArcMachines.{machinesCarry}
+use Rattle.plan.specs.inside.CaseSizes.{counted}
 use Rattle.plan.proofs.ArcLaws.{home-is, home-machines}
 use borrow.Author.Needs.{needs}
 use Rattle.plan.proofs.pressures.mode_machines.Statement.{statement}

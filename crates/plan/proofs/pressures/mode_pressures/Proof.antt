@@ -4,9 +4,9 @@ use native.Mathlib.Omega.{arith}
 use denote.Ref.{now}
 use mir.Syntax.{w64}
 use mir.Val.{toZ, ofZ}
-use Rattle.numbers.specs.SignedLocals.{kept}
-use Rattle.plan.specs.PlanRecords.{pressureIn}
-use Rattle.plan.specs.CaseFacts.{counted}
+use Rattle.numbers.specs.inside.SignedLocals.{kept}
+use Rattle.plan.specs.law.PlanRecords.{pressureIn}
+use Rattle.plan.specs.inside.CaseSizes.{counted}
 use Rattle.plan.proofs.ArcLaws.{home-is, compresses}
 use borrow.Author.Needs.{needs}
 use Rattle.plan.proofs.pressures.mode_pressures.Statement.{statement}

@@ -8,13 +8,13 @@ use lib.Dec.{eqb}
 use mir.Syntax.{w64}
 use mir.Val.{toZ, ofZ}
 use Rattle.case.specs.declared.records.Arc.{Arc}
-use Rattle.case.specs.Records.{arcOf}
-use Rattle.numbers.specs.SignedLocals.{kept}
+use Rattle.case.specs.law.Records.{arcOf}
+use Rattle.numbers.specs.inside.SignedLocals.{kept}
 use Rattle.plan.specs.declared.rows.ArcRow.{ArcRow}
-use Rattle.plan.specs.PlanRecords.{pressureIn}
-use Rattle.plan.specs.Setting.{settingOf, settingIn}
-use Rattle.plan.specs.ArcPressures.{settingPressures, pressuresKept}
-use Rattle.plan.specs.CaseFacts.{counted, from-node, to-node}
+use Rattle.plan.specs.law.PlanRecords.{pressureIn}
+use Rattle.plan.specs.law.Setting.{settingOf, settingIn}
+use Rattle.plan.specs.law.ArcPressures.{settingPressures, pressuresKept}
+use Rattle.plan.specs.inside.CaseSizes.{counted, from-node, to-node}
 use borrow.Author.Needs.{needs}
 use Rattle.plan.proofs.pressures.pressures_kept.Statement.{statement}
 use Rattle.plan.proofs.pressures.pressures_kept.Tie as tie

@@ -5,8 +5,8 @@ use denote.Ref.{now}
 use mathlib.Core.Path.{subst}
 use mathlib.Core.Bool.{false}
 use lib.IntN.{pos}
-use Rattle.case.specs.Laid.{Holds}
-use Rattle.plan.specs.PlanRecords.{pressureIn, activeIn, directionIn, stateIn}
+use Rattle.case.specs.law.LayoutOf.{Holds}
+use Rattle.plan.specs.law.PlanRecords.{pressureIn, activeIn, directionIn, stateIn}
 use Rattle.plan.proofs.previous.after.Statement.{statement}
 use Rattle.plan.proofs.previous.after.Tie as tie
 

@@ -6,9 +6,9 @@ use borrow.Author.Needs.{needs}
 use mathlib.Core.Bool.{false}
 use lib.IntN.{pos}
 use lib.Signed.{leZ}
-use Rattle.numbers.specs.SignedLocals.{kept}
+use Rattle.numbers.specs.inside.SignedLocals.{kept}
 use Rattle.plan.specs.declared.rows.ArcRow.{ArcRow}
-use Rattle.plan.specs.PlanRecords.{activeIn}
+use Rattle.plan.specs.law.PlanRecords.{activeIn}
 use Rattle.plan.proofs.Filled.{Filling, start, turn, end}
 use Rattle.plan.proofs.previous.row_active.Statement.{statement}
 use Rattle.plan.proofs.previous.row_active.Tie as tie

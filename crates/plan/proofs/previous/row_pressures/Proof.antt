@@ -3,8 +3,8 @@ use mathlib.Core.Path.{_∙_}
 use Prim.Native.Nat.{_-_}
 use native.Mathlib.Omega.{arith}
 use lib.IntN.{pos}
-use Rattle.numbers.specs.SignedLocals.{kept}
-use Rattle.plan.specs.PlanRecords.{pressureIn}
+use Rattle.numbers.specs.inside.SignedLocals.{kept}
+use Rattle.plan.specs.law.PlanRecords.{pressureIn}
 use Rattle.plan.proofs.Filled.{Filling, start, turn, end}
 use Rattle.plan.proofs.previous.row_pressures.Statement.{statement}
 use Rattle.plan.proofs.previous.row_pressures.Tie as tie

@@ -5,9 +5,9 @@ use denote.Ref.{now}
 use mathlib.Core.Path.{subst}
 use mathlib.Core.Bool.{false}
 use lib.IntN.{pos}
-use Rattle.case.specs.Laid.{Holds}
-use Rattle.case.specs.States.{activeAtStart}
-use Rattle.plan.specs.Before.{startPressure}
+use Rattle.case.specs.law.LayoutOf.{Holds}
+use Rattle.case.specs.law.States.{activeAtStart}
+use Rattle.plan.specs.law.BeforeStep.{startPressure}
 use Rattle.plan.proofs.previous.start.Statement.{statement}
 use Rattle.plan.proofs.previous.start.Tie as tie
 

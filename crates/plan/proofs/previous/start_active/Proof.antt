@@ -4,7 +4,7 @@ use Prim.Native.Nat.{_-_}
 use native.Mathlib.Omega.{arith}
 use borrow.Author.Needs.{needs}
 use mathlib.Core.Bool.{false}
-use Rattle.case.specs.States.{activeAtStart}
+use Rattle.case.specs.law.States.{activeAtStart}
 use Rattle.plan.proofs.Filled.{Filling, start, turn, end}
 use Rattle.plan.proofs.previous.start_active.Statement.{statement}
 use Rattle.plan.proofs.previous.start_active.Tie as tie

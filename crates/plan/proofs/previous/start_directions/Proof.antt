@@ -6,9 +6,9 @@ use borrow.Author.Needs.{needs}
 use Prim.Native.Nat.{ℕ, _<_}
 use denote.Ref.{now}
 use Rattle.case.specs.declared.records.Station.{Station}
-use Rattle.case.specs.Layout.{stationsOf}
-use Rattle.case.specs.Records.{stationRow}
-use Rattle.plan.specs.Before.{startDirection}
+use Rattle.case.specs.law.Layout.{stationsOf}
+use Rattle.case.specs.law.Records.{stationRow}
+use Rattle.plan.specs.law.BeforeStep.{startDirection}
 use Rattle.plan.proofs.Filled.{Filling, start, turn, end}
 use Rattle.plan.proofs.previous.start_directions.Statement.{statement}
 use Rattle.plan.proofs.previous.start_directions.Tie as tie

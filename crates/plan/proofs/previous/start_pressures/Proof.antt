@@ -5,8 +5,8 @@ use native.Mathlib.Omega.{arith}
 use borrow.Author.Needs.{needs}
 use lib.IntN.{pos}
 use Rattle.case.specs.declared.records.Node.{Node}
-use Rattle.numbers.specs.SignedLocals.{kept}
-use Rattle.plan.specs.Before.{startPressure}
+use Rattle.numbers.specs.inside.SignedLocals.{kept}
+use Rattle.plan.specs.law.BeforeStep.{startPressure}
 use Rattle.plan.proofs.Filled.{Filling, start, turn, end}
 use Rattle.plan.proofs.previous.start_pressures.Statement.{statement}
 use Rattle.plan.proofs.previous.start_pressures.Tie as tie

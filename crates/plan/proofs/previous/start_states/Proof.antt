@@ -6,9 +6,9 @@ use borrow.Author.Needs.{needs}
 use Prim.Native.Nat.{ℕ, _<_}
 use denote.Ref.{now}
 use Rattle.case.specs.declared.records.Station.{Station}
-use Rattle.case.specs.Layout.{stationsOf}
-use Rattle.case.specs.Records.{stationRow}
-use Rattle.plan.specs.Before.{startState}
+use Rattle.case.specs.law.Layout.{stationsOf}
+use Rattle.case.specs.law.Records.{stationRow}
+use Rattle.plan.specs.law.BeforeStep.{startState}
 use Rattle.plan.proofs.Filled.{Filling, start, turn, end}
 use Rattle.plan.proofs.previous.start_states.Statement.{statement}
 use Rattle.plan.proofs.previous.start_states.Tie as tie

@@ -4,10 +4,10 @@ use borrow.Author.Needs.{needs}
 use mir.Facts.{toZ-ofZ}
 use lib.IntN.{ℤ}
 use denote.Ref.{now}
-use Rattle.numbers.specs.SignedLocals.{held, held-fits, _+ʳ_, _*ʳ_}
-use Rattle.plan.specs.Region.{suppliesIn, edgeFlows, broughtIn}
-use Rattle.plan.specs.CaseFacts.{counted, duration-sized}
-use Rattle.plan.specs.RegionSizes.{supplies-small, edges-small, step-flows}
+use Rattle.numbers.specs.inside.SignedLocals.{held, held-fits, _+ʳ_, _*ʳ_}
+use Rattle.plan.specs.law.Region.{suppliesIn, edgeFlows, broughtIn}
+use Rattle.plan.specs.inside.CaseSizes.{counted, duration-sized}
+use Rattle.plan.specs.inside.RegionSizes.{supplies-small, edges-small, step-flows}
 use Rattle.plan.proofs.region.brought_in.Statement.{statement}
 use Rattle.plan.proofs.region.brought_in.Tie as tie
 

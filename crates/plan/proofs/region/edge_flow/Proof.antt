@@ -3,10 +3,10 @@ use mir.Facts.{toZ-ofZ}
 use borrow.Author.Needs.{needs}
 use lib.IntN.{ℤ}
 use Rattle.case.specs.declared.records.Arc.{Arc}
-use Rattle.numbers.specs.Sets.{memberOf}
-use Rattle.numbers.specs.SignedBounds.{Bounded}
-use Rattle.plan.specs.Region.{edgeFlow, inward}
-use Rattle.plan.specs.RegionSizes.{from-sized, to-sized, edge-small}
+use Rattle.numbers.specs.law.Sets.{memberOf}
+use Rattle.numbers.specs.inside.SignedBounds.{Bounded}
+use Rattle.plan.specs.law.Region.{edgeFlow, inward}
+use Rattle.plan.specs.inside.RegionSizes.{from-sized, to-sized, edge-small}
 use Rattle.plan.proofs.RegionTests.{inward-same}
 use Rattle.plan.proofs.RegionSums.{read-sized}
 use Rattle.plan.proofs.region.edge_flow.Statement.{statement}

@@ -4,10 +4,10 @@ use mir.Facts.{toZ-ofZ}
 use borrow.Author.Needs.{needs}
 use lib.IntN.{ℤ}
 use denote.Ref.{now}
-use Rattle.plan.specs.Pipes.{isPipe}
-use Rattle.plan.specs.Totals.{gasPart}
-use Rattle.plan.specs.Region.{innerPipe, innerGas}
-use Rattle.plan.specs.RegionSizes.{both-true, inner-gas-small}
+use Rattle.plan.specs.law.Pipes.{isPipe}
+use Rattle.plan.specs.law.Totals.{gasPart}
+use Rattle.plan.specs.law.Region.{innerPipe, innerGas}
+use Rattle.plan.specs.inside.RegionSizes.{both-true, inner-gas-small}
 use Rattle.plan.proofs.RegionTests.{only-yes, only-no}
 use Rattle.plan.proofs.RegionSums.{read-sized}
 use Rattle.plan.proofs.region.inner_gas.Statement.{statement}

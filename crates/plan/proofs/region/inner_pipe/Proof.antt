@@ -6,9 +6,9 @@ use borrow.Author.Needs.{needs}
 use mir.Facts.{toZ-ofZ}
 use denote.Ref.{now}
 use Rattle.case.specs.declared.records.Arc.{Arc}
-use Rattle.numbers.specs.Sets.{memberOf}
-use Rattle.case.specs.Records.{arcOf}
-use Rattle.plan.specs.Pipes.{isPipe}
+use Rattle.numbers.specs.law.Sets.{memberOf}
+use Rattle.case.specs.law.Records.{arcOf}
+use Rattle.plan.specs.law.Pipes.{isPipe}
 use Rattle.plan.proofs.RegionTests.{all-three, not-first, not-second}
 use Rattle.plan.proofs.region.inner_pipe.Statement.{statement}
 use Rattle.plan.proofs.region.inner_pipe.Tie as tie

@@ -1,7 +1,7 @@
 use mathlib.Core.Path.{_≡_, sym, ap, ap₂, _∙_}
 use Prim.Native.Nat.{ℕ, _+_, _-_, _≤_}
 use native.Mathlib.Omega.{arith}
-use Rattle.plan.specs.CaseFacts.{counted}
+use Rattle.plan.specs.inside.CaseSizes.{counted}
 use borrow.Author.Needs.{needs}
 use mir.Facts.{toZ-ofZ}
 use mir.Syntax.{w64}
@@ -9,9 +9,9 @@ use mir.Val.{toZ, ofZ}
 use lib.IntN.{ℤ}
 use denote.Ref.{now}
 use mathlib.Core.Bool.{Bool}
-use Rattle.numbers.specs.Sum.{sumN, onlyN, count}
-use Rattle.case.specs.Layout.{arcsOf}
-use Rattle.plan.specs.Region.{innerPipe, innerPipes}
+use Rattle.numbers.specs.law.Sums.{sumN, onlyN, count}
+use Rattle.case.specs.law.Layout.{arcsOf}
+use Rattle.plan.specs.law.Region.{innerPipe, innerPipes}
 use Rattle.plan.proofs.RegionTests.{onlyN-most}
 use Rattle.plan.proofs.Sums.{sumN-none, sumN-more}
 use Rattle.plan.proofs.RegionSums.{addN-fits}

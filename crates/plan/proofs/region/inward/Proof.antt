@@ -1,7 +1,7 @@
 use mathlib.Core.Path.{_∙_}
 use mir.Facts.{toZ-ofZ}
 use lib.IntN.{pos}
-use Rattle.numbers.specs.SignedLocals.{param, literal, held-fits, held, _-ʳ_}
+use Rattle.numbers.specs.inside.SignedLocals.{param, literal, held-fits, held, _-ʳ_}
 use lib.IntN.{negℤ, +ℤ-idl}
 use Rattle.plan.proofs.region.inward.Statement.{statement}
 use Rattle.plan.proofs.region.inward.Tie as tie

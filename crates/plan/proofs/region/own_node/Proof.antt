@@ -2,8 +2,8 @@ use mathlib.Core.Path.{sym, ap, _∙_}
 use mir.Facts.{toZ-ofZ}
 use borrow.Author.Needs.{needs}
 use lib.IntN.{ℤ}
-use Rattle.numbers.specs.Sets.{memberOf}
-use Rattle.plan.specs.RegionResidual.{ownNode}
+use Rattle.numbers.specs.law.Sets.{memberOf}
+use Rattle.plan.specs.law.RegionResidual.{ownNode}
 use Rattle.plan.proofs.RegionTests.{onlyN-yes, onlyN-no}
 use Rattle.plan.proofs.region.own_node.Statement.{statement}
 use Rattle.plan.proofs.region.own_node.Tie as tie

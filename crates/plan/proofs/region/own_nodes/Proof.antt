@@ -8,11 +8,11 @@ use lib.IntN.{ℤ, pos}
 use denote.Ref.{now}
 use lib.ListN.{getD}
 use native.Mathlib.Nat.{mul-le-mul-right}
-use Rattle.numbers.specs.Sum.{sumN}
-use Rattle.case.specs.Layout.{nodesOf}
-use Rattle.plan.specs.RegionResidual.{ownNode, ownNodes}
-use Rattle.plan.specs.CaseFacts.{counted}
-use Rattle.plan.specs.RegionSizes.{own-node-small}
+use Rattle.numbers.specs.law.Sums.{sumN}
+use Rattle.case.specs.law.Layout.{nodesOf}
+use Rattle.plan.specs.law.RegionResidual.{ownNode, ownNodes}
+use Rattle.plan.specs.inside.CaseSizes.{counted}
+use Rattle.plan.specs.inside.RegionSizes.{own-node-small}
 use Rattle.plan.proofs.Sums.{sumN-none, sumN-more}
 use Rattle.plan.proofs.RegionSums.{addN-fits}
 use Rattle.plan.proofs.region.own_nodes.Statement.{statement}

@@ -4,11 +4,11 @@ use mir.Facts.{toZ-ofZ}
 use borrow.Author.Needs.{needs}
 use lib.IntN.{ℤ}
 use denote.Ref.{now}
-use Rattle.plan.specs.Pipes.{isPipe}
+use Rattle.plan.specs.law.Pipes.{isPipe}
 use borrow.Author.Tests.{eqb-true}
-use Rattle.plan.specs.Region.{innerPipe}
-use Rattle.plan.specs.RegionResidual.{ownPipe}
-use Rattle.plan.specs.RegionSizes.{both-true}
+use Rattle.plan.specs.law.Region.{innerPipe}
+use Rattle.plan.specs.law.RegionResidual.{ownPipe}
+use Rattle.plan.specs.inside.RegionSizes.{both-true}
 use Rattle.plan.proofs.RegionTests.{onlyN-yes, onlyN-no}
 use Rattle.plan.proofs.region.own_pipe.Statement.{statement}
 use Rattle.plan.proofs.region.own_pipe.Tie as tie

@@ -7,11 +7,11 @@ use mir.Val.{toZ, ofZ}
 use lib.IntN.{ℤ}
 use denote.Ref.{now}
 use native.Mathlib.Nat.{mul-le-mul-right}
-use Rattle.numbers.specs.Sum.{sumN}
-use Rattle.case.specs.Layout.{numberAt, arcsOf}
-use Rattle.plan.specs.RegionResidual.{ownPipe, ownPipes}
-use Rattle.plan.specs.CaseFacts.{counted}
-use Rattle.plan.specs.RegionSizes.{own-pipe-small}
+use Rattle.numbers.specs.law.Sums.{sumN}
+use Rattle.case.specs.law.Layout.{numberAt, arcsOf}
+use Rattle.plan.specs.law.RegionResidual.{ownPipe, ownPipes}
+use Rattle.plan.specs.inside.CaseSizes.{counted}
+use Rattle.plan.specs.inside.RegionSizes.{own-pipe-small}
 use Rattle.plan.proofs.Sums.{sumN-none, sumN-more}
 use Rattle.plan.proofs.RegionSums.{addN-fits}
 use Rattle.plan.proofs.region.own_pipes.Statement.{statement}

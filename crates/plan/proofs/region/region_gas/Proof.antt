@@ -7,11 +7,11 @@ use mir.Val.{toZ, ofZ}
 use lib.IntN.{ℤ}
 use denote.Ref.{now}
 use native.Mathlib.Nat.{mul-le-mul-right}
-use Rattle.numbers.specs.Sum.{sum as total}
-use Rattle.case.specs.Layout.{numberAt, arcsOf}
-use Rattle.plan.specs.Region.{innerGas, regionGas}
-use Rattle.plan.specs.CaseFacts.{counted}
-use Rattle.plan.specs.RegionSizes.{inner-gas-small}
+use Rattle.numbers.specs.law.Sums.{sum as total}
+use Rattle.case.specs.law.Layout.{numberAt, arcsOf}
+use Rattle.plan.specs.law.Region.{innerGas, regionGas}
+use Rattle.plan.specs.inside.CaseSizes.{counted}
+use Rattle.plan.specs.inside.RegionSizes.{inner-gas-small}
 use Rattle.plan.proofs.Sums.{sum-none}
 use Rattle.plan.proofs.RegionSums.{add-fits, add-is, all-is}
 use Rattle.plan.proofs.region.region_gas.Statement.{statement}

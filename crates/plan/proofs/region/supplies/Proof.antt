@@ -7,10 +7,10 @@ use mir.Val.{toZ, ofZ}
 use lib.IntN.{ℤ}
 use denote.Ref.{now}
 use native.Mathlib.Nat.{mul-le-mul-right}
-use Rattle.numbers.specs.Sum.{sum as total}
-use Rattle.case.specs.Layout.{nodesOf}
-use Rattle.plan.specs.Region.{regionSupply, suppliesIn}
-use Rattle.plan.specs.RegionSizes.{supply-small}
+use Rattle.numbers.specs.law.Sums.{sum as total}
+use Rattle.case.specs.law.Layout.{nodesOf}
+use Rattle.plan.specs.law.Region.{regionSupply, suppliesIn}
+use Rattle.plan.specs.inside.RegionSizes.{supply-small}
 use Rattle.plan.proofs.Sums.{sum-none}
 use Rattle.plan.proofs.RegionSums.{add-fits, add-is, all-is}
 use Rattle.plan.proofs.region.supplies.Statement.{statement}

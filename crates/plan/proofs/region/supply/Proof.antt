@@ -3,9 +3,9 @@ use mir.Facts.{toZ-ofZ}
 use borrow.Author.Needs.{needs}
 use lib.IntN.{ℤ}
 use mir.Syntax.{w64}
-use Rattle.numbers.specs.Sets.{memberOf}
+use Rattle.numbers.specs.law.Sets.{memberOf}
 use Rattle.plan.specs.declared.rows.NodeRow.{NodeRow}
-use Rattle.plan.specs.Region.{regionSupply}
+use Rattle.plan.specs.law.Region.{regionSupply}
 use Rattle.plan.proofs.RegionTests.{only-yes, only-no}
 use Rattle.plan.proofs.region.supply.Statement.{statement}
 use Rattle.plan.proofs.region.supply.Tie as tie

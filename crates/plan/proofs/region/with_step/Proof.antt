@@ -5,14 +5,14 @@ use borrow.Author.Needs.{needs}
 use mir.Facts.{toZ-ofZ}
 use lib.IntN.{ℤ, pos}
 use denote.Ref.{now}
-use Rattle.case.specs.Layout.{numberAt}
-use Rattle.case.specs.Laid.{Holds}
-use Rattle.numbers.specs.SignedLocals.{plain, held, held-fits, _+ʳ_}
-use Rattle.plan.specs.PlanRecords.{pressureIn}
-use Rattle.plan.specs.CaseFacts.{counted}
-use Rattle.plan.specs.Region.{broughtIn}
-use Rattle.plan.specs.RegionResidual.{ownNodes, ownPipes, regionResidual}
-use Rattle.plan.specs.RegionSizes.{brought-small, residual-small}
+use Rattle.case.specs.law.Layout.{numberAt}
+use Rattle.case.specs.law.LayoutOf.{Holds}
+use Rattle.numbers.specs.inside.SignedLocals.{plain, held, held-fits, _+ʳ_}
+use Rattle.plan.specs.law.PlanRecords.{pressureIn}
+use Rattle.plan.specs.inside.CaseSizes.{counted}
+use Rattle.plan.specs.law.Region.{broughtIn}
+use Rattle.plan.specs.law.RegionResidual.{ownNodes, ownPipes, regionResidual}
+use Rattle.plan.specs.inside.RegionSizes.{brought-small, residual-small}
 use Rattle.plan.proofs.region.with_step.Statement.{statement}
 use Rattle.plan.proofs.region.with_step.Tie as tie
 

@@ -2,10 +2,10 @@ use mathlib.Core.Path.{_≡_, ap, _∙_}
 use Prim.Native.Nat.{_-_}
 use native.Mathlib.Omega.{arith}
 use denote.Ref.{now}
-use Rattle.numbers.specs.SignedLocals.{kept}
+use Rattle.numbers.specs.inside.SignedLocals.{kept}
 use borrow.Author.Needs.{needs}
-use Rattle.case.specs.Layout.{nodesOf}
-use Rattle.numbers.specs.SignedParts.{posPart}
+use Rattle.case.specs.law.Layout.{nodesOf}
+use Rattle.numbers.specs.law.Signed.{posPart}
 use Rattle.plan.proofs.rows.arc_row.Statement.{statement}
 use Rattle.plan.proofs.rows.arc_row.Tie as tie
 

@@ -1,5 +1,5 @@
 use mathlib.Core.Path.{_∙_}
-use Rattle.numbers.specs.SignedLocals.{kept}
+use Rattle.numbers.specs.inside.SignedLocals.{kept}
 use borrow.Author.Needs.{needs}
 use Rattle.plan.proofs.rows.node_row.Statement.{statement}
 use Rattle.plan.proofs.rows.node_row.Tie as tie

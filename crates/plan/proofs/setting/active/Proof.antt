@@ -2,7 +2,7 @@ use Prim.Native.Nat.{_-_, _<_, _≤_}
 use native.Mathlib.Omega.{arith}
 use borrow.Author.Tests.{le-leb, lt-leb, ne-eqb}
 use borrow.Author.Needs.{needs}
-use Rattle.plan.specs.Setting.{activeOf}
+use Rattle.plan.specs.law.Setting.{activeOf}
 use Rattle.plan.proofs.setting.active.Statement.{statement}
 use Rattle.plan.proofs.setting.active.Tie as tie
 

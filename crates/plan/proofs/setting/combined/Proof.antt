@@ -1,6 +1,6 @@
 use borrow.Author.Tests.{le-leb, lt-leb}
 use borrow.Author.Needs.{needs}
-use Rattle.plan.specs.Setting.{combinedOf}
+use Rattle.plan.specs.law.Setting.{combinedOf}
 use Rattle.plan.proofs.setting.combined.Statement.{statement}
 use Rattle.plan.proofs.setting.combined.Tie as tie
 

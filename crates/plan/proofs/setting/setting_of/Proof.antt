@@ -5,8 +5,8 @@ use borrow.Author.Needs.{needs}
 use mir.Facts.{toZ-ofZ}
 use lib.IntN.{pos}
 use lib.Signed.{leZ}
-use Rattle.plan.specs.Setting.{settingOf}
-use Rattle.numbers.specs.SignedParts.{posPart}
+use Rattle.plan.specs.law.Setting.{settingOf}
+use Rattle.numbers.specs.law.Signed.{posPart}
 use lib.Dec.{eqb}
 use Prim.Native.Nat.{_-_}
 use Rattle.plan.proofs.setting.setting_of.Statement.{statement}

@@ -1,5 +1,5 @@
 use borrow.Author.Tests.{eq-eqb, ne-eqb}
-use Rattle.plan.specs.Setting.{valveOf}
+use Rattle.plan.specs.law.Setting.{valveOf}
 use Rattle.plan.proofs.setting.valve.Statement.{statement}
 use Rattle.plan.proofs.setting.valve.Tie as tie
 

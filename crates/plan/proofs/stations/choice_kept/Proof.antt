@@ -8,15 +8,15 @@ use lib.IntN.{ℤ, pos}
 use mir.Facts.{toZ-pos}
 use mir.Syntax.{w64}
 use mir.Val.{toZ, ofZ}
-use Rattle.numbers.specs.SignedParts.{posPart}
-use Rattle.case.specs.Records.{stationRow, stateRow, stationOf, stateOf}
+use Rattle.numbers.specs.law.Signed.{posPart}
+use Rattle.case.specs.law.Records.{stationRow, stateRow, stationOf, stateOf}
 use Rattle.case.specs.declared.records.Station.{Station}
-use Rattle.numbers.specs.SignedLocals.{kept}
+use Rattle.numbers.specs.inside.SignedLocals.{kept}
 use Rattle.plan.specs.declared.rows.Choice.{Choice}
-use Rattle.plan.specs.PlanRecords.{choiceOf, stateIn}
-use Rattle.plan.specs.StationRules.{oneOf, activeSet, obeyed, choiceKept}
-use Rattle.plan.specs.StationPass.{activeBits}
-use Rattle.plan.specs.CaseFacts.{counted}
+use Rattle.plan.specs.law.PlanRecords.{choiceOf, stateIn}
+use Rattle.plan.specs.law.StationRules.{oneOf, activeSet, obeyed, choiceKept}
+use Rattle.plan.specs.inside.StationPass.{activeBits}
+use Rattle.plan.specs.inside.CaseSizes.{counted}
 use Rattle.plan.proofs.StationPasses.{active-bits}
 use Rattle.plan.proofs.stations.choice_kept.Statement.{statement}
 use Rattle.plan.proofs.stations.choice_kept.Tie as tie

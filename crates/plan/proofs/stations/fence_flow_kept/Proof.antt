@@ -3,7 +3,7 @@ use borrow.Author.Needs.{needs}
 use lib.IntN.{ℤ, pos}
 use lib.Signed.{leZ}
 use mir.Facts.{toZ-ofZ}
-use Rattle.plan.specs.Compared.{isZero}
+use Rattle.plan.specs.law.Compared.{isZero}
 use Rattle.plan.proofs.stations.fence_flow_kept.Statement.{statement}
 use Rattle.plan.proofs.stations.fence_flow_kept.Tie as tie
 

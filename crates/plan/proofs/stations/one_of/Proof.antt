@@ -3,7 +3,7 @@ use borrow.Author.Needs.{needs}
 use lib.IntN.{pos}
 use lib.Signed.{leZ}
 use mir.Facts.{toZ-ofZ}
-use Rattle.numbers.specs.SignedParts.{posPart}
+use Rattle.numbers.specs.law.Signed.{posPart}
 use Rattle.plan.proofs.stations.one_of.Statement.{statement}
 use Rattle.plan.proofs.stations.one_of.Tie as tie
 

@@ -3,11 +3,11 @@ use borrow.Author.Needs.{needs}
 use denote.Ref.{now}
 use lib.IntN.{ℤ}
 use mir.Facts.{toZ-ofZ}
-use Rattle.numbers.specs.Sets.{memberOf, subsetOf, disjointOf}
-use Rattle.case.specs.Records.{stateRow}
+use Rattle.numbers.specs.law.Sets.{memberOf, subsetOf, disjointOf}
+use Rattle.case.specs.law.Records.{stateRow}
 use Rattle.case.specs.declared.records.State.{State}
-use Rattle.numbers.specs.SignedLocals.{kept}
-use Rattle.plan.specs.StationRules.{obeyed}
+use Rattle.numbers.specs.inside.SignedLocals.{kept}
+use Rattle.plan.specs.law.StationRules.{obeyed}
 use Rattle.plan.proofs.stations.state_obeyed.Statement.{statement}
 use Rattle.plan.proofs.stations.state_obeyed.Tie as tie
 

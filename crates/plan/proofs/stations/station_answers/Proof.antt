@@ -5,11 +5,11 @@ use native.Mathlib.Omega.{arith}
 use borrow.Author.Needs.{needs}
 use denote.Ref.{now}
 use lib.ListN.{length}
-use Rattle.numbers.specs.Items.{rest, rest-on, rest-no, rest-end}
-use Rattle.numbers.specs.Question.{firstNo}
-use Rattle.case.specs.Layout.{stationsOf}
-use Rattle.plan.specs.CaseFacts.{counted}
-use Rattle.plan.specs.StationRules.{stationQuestions, allStationQuestions}
+use Rattle.numbers.specs.inside.ItemLaws.{rest, rest-on, rest-no, rest-end}
+use Rattle.numbers.specs.law.Question.{firstNo}
+use Rattle.case.specs.law.Layout.{stationsOf}
+use Rattle.plan.specs.inside.CaseSizes.{counted}
+use Rattle.plan.specs.law.StationRules.{stationQuestions, allStationQuestions}
 use Rattle.plan.proofs.StationPasses.{getD-any}
 use Rattle.plan.proofs.stations.station_answers.Statement.{statement}
 use Rattle.plan.proofs.stations.station_answers.Tie as tie

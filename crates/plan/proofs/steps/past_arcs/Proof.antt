@@ -1,7 +1,7 @@
 use mathlib.Core.Path.{sym, _∙_}
 use borrow.Author.Needs.{needs}
 use denote.Ref.{now}
-use Rattle.plan.specs.Totals.{nodeResiduals}
+use Rattle.plan.specs.law.Totals.{nodeResiduals}
 use Rattle.plan.proofs.StepGroups.{stations-stop, stations-passed}
 use Rattle.plan.proofs.steps.past_arcs.Statement.{statement}
 use Rattle.plan.proofs.steps.past_arcs.Tie as tie

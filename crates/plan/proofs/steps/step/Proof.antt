@@ -1,14 +1,14 @@
 use mathlib.Core.Path.{_≡_, sym, _∙_}
 use borrow.Author.Needs.{needs}
 use denote.Ref.{now}
-use Rattle.numbers.specs.Question.{firstNo}
+use Rattle.numbers.specs.law.Question.{firstNo}
 use Rattle.numbers.specs.declared.answer.Answer.the-variants.{Yes}
-use Rattle.case.specs.Layout.{numberAt}
-use Rattle.plan.specs.NodeRules.{allNodeQuestions}
-use Rattle.plan.specs.ArcRules.{allArcQuestions}
-use Rattle.plan.specs.Totals.{nodeResiduals}
-use Rattle.plan.specs.Sizes.{NodesSized, FlowsSized}
-use Rattle.plan.specs.Kept.{nodes-sized, pressures-sized, flows-sized, machines-kept}
+use Rattle.case.specs.law.Layout.{numberAt}
+use Rattle.plan.specs.law.NodeRules.{allNodeQuestions}
+use Rattle.plan.specs.law.ArcRules.{allArcQuestions}
+use Rattle.plan.specs.law.Totals.{nodeResiduals}
+use Rattle.plan.specs.inside.Sizes.{NodesSized, FlowsSized}
+use Rattle.plan.specs.inside.AnsweredSizes.{nodes-sized, pressures-sized, flows-sized, machines-kept}
 use Rattle.plan.proofs.StepGroups.{nodes-stop, arcs-stop, arcs-passed}
 use Rattle.plan.proofs.steps.step.Statement.{statement}
 use Rattle.plan.proofs.steps.step.Tie as tie

@@ -7,15 +7,15 @@ use denote.Ref.{now}
 use lib.IntN.{ℤ}
 use lib.ListN.{length}
 use mathlib.Core.List.{List}
-use Rattle.numbers.specs.Question.{firstNo}
+use Rattle.numbers.specs.law.Question.{firstNo}
 use Rattle.numbers.specs.declared.answer.Answer.the-variants.{Yes}
-use Rattle.case.specs.Layout.{numberAt, stepsOf}
-use Rattle.plan.specs.Handed.{AtStep}
-use Rattle.plan.specs.PlanLayout.{stepAt, stepWidth, stepRow}
-use Rattle.plan.specs.CaseFacts.{counted}
-use Rattle.plan.specs.Step.{stepQuestions}
-use Rattle.plan.specs.SteppedBy.{kept-yes, no-first}
-use Rattle.plan.specs.Totals.{nodeResiduals}
+use Rattle.case.specs.law.Layout.{numberAt, stepsOf}
+use Rattle.plan.specs.inside.Preconditions.{AtStep}
+use Rattle.plan.specs.law.PlanLayout.{stepAt, stepWidth, stepRow}
+use Rattle.plan.specs.inside.CaseSizes.{counted}
+use Rattle.plan.specs.law.Step.{stepQuestions}
+use Rattle.plan.specs.inside.StepAnswer.{kept-yes, no-first}
+use Rattle.plan.specs.law.Totals.{nodeResiduals}
 use Rattle.plan.proofs.Going.{Going, going, held-sized, start-sized, part-within, part-is, width-is, kept, room, refused, went-on, finished}
 use Rattle.plan.proofs.steps.steps.Statement.{statement}
 use Rattle.plan.proofs.steps.steps.Tie as tie

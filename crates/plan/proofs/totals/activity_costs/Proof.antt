@@ -3,13 +3,13 @@ use mathlib.Core.Path.{ap, _∙_}
 use Prim.Native.Nat.{ℕ, _-_, _<_, _≤_}
 use native.Mathlib.Omega.{arith}
 use denote.Ref.{now}
-use Rattle.numbers.specs.Sum.{sum, sumN}
-use Rattle.case.specs.Layout.{arcsOf}
-use Rattle.plan.specs.Carried.{activeOf}
-use Rattle.plan.specs.CaseFacts.{counted}
-use Rattle.plan.specs.Totals.{activityPart, activityCosts}
+use Rattle.numbers.specs.law.Sums.{sum, sumN}
+use Rattle.case.specs.law.Layout.{arcsOf}
+use Rattle.plan.specs.inside.PreviousHolds.{activeOf}
+use Rattle.plan.specs.inside.CaseSizes.{counted}
+use Rattle.plan.specs.law.Totals.{activityPart, activityCosts}
 use Rattle.plan.proofs.Adding.{Counting, startN, turnN, endN}
-use Rattle.plan.specs.StepSizes.{activity-le}
+use Rattle.plan.specs.inside.StepSizes.{activity-le}
 use Rattle.plan.proofs.totals.activity_costs.Statement.{statement}
 use Rattle.plan.proofs.totals.activity_costs.Tie as tie
 

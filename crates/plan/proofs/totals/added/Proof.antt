@@ -6,12 +6,12 @@ use native.Mathlib.Omega.{arith}
 use borrow.Author.Needs.{needs}
 use denote.Ref.{now}
 use lib.ListN.{length-map}
-use Rattle.numbers.specs.SignedLocals.{held, held-fits, _+ʳ_, kept}
-use Rattle.case.specs.Layout.{numberAt}
-use Rattle.plan.specs.Carried.{activeOf, indexOf}
-use Rattle.plan.specs.Totals.{choiceCosts, pipeResiduals}
+use Rattle.numbers.specs.inside.SignedLocals.{held, held-fits, _+ʳ_, kept}
+use Rattle.case.specs.law.Layout.{numberAt}
+use Rattle.plan.specs.inside.PreviousHolds.{activeOf, indexOf}
+use Rattle.plan.specs.law.Totals.{choiceCosts, pipeResiduals}
 use Rattle.plan.proofs.Adding.{got}
-use Rattle.plan.specs.StepSizes.{pressure-slack-sized, demand-slack-sized, choice-costs-le, activity-costs-le, pipe-residuals-le, node-residuals-le}
+use Rattle.plan.specs.inside.StepSizes.{pressure-slack-sized, demand-slack-sized, choice-costs-le, activity-costs-le, pipe-residuals-le, node-residuals-le}
 use Rattle.plan.proofs.totals.added.Statement.{statement}
 use Rattle.plan.proofs.totals.added.Tie as tie
 

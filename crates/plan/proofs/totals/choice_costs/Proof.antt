@@ -3,13 +3,13 @@ use mathlib.Core.Path.{_≡_, ap, _∙_}
 use Prim.Native.Nat.{ℕ, _+_, _-_, _<_, _≤_}
 use native.Mathlib.Omega.{arith}
 use denote.Ref.{now}
-use Rattle.numbers.specs.Sum.{sum, sumN}
-use Rattle.case.specs.Layout.{stationsOf}
-use Rattle.plan.specs.Carried.{indexOf}
-use Rattle.plan.specs.CaseFacts.{counted}
-use Rattle.plan.specs.Totals.{directionCost, choiceCost, choiceCosts}
+use Rattle.numbers.specs.law.Sums.{sum, sumN}
+use Rattle.case.specs.law.Layout.{stationsOf}
+use Rattle.plan.specs.inside.PreviousHolds.{indexOf}
+use Rattle.plan.specs.inside.CaseSizes.{counted}
+use Rattle.plan.specs.law.Totals.{directionCost, choiceCost, choiceCosts}
 use Rattle.plan.proofs.Adding.{Counting, startN, turnN, endN}
-use Rattle.plan.specs.StepSizes.{direction-le, state-le}
+use Rattle.plan.specs.inside.StepSizes.{direction-le, state-le}
 use Rattle.plan.proofs.totals.choice_costs.Statement.{statement}
 use Rattle.plan.proofs.totals.choice_costs.Tie as tie
 

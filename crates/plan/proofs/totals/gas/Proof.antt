@@ -3,13 +3,13 @@ use mathlib.Core.Path.{refl, ap, _∙_}
 use Prim.Native.Nat.{ℕ, _-_, _<_, _≤_}
 use native.Mathlib.Omega.{arith}
 use denote.Ref.{now}
-use Rattle.numbers.specs.Sum.{sum}
-use Rattle.case.specs.Layout.{numberAt, arcsOf}
-use Rattle.numbers.specs.SignedLocals.{kept}
-use Rattle.plan.specs.CaseFacts.{counted}
-use Rattle.plan.specs.Totals.{gasPart, gasAt}
+use Rattle.numbers.specs.law.Sums.{sum}
+use Rattle.case.specs.law.Layout.{numberAt, arcsOf}
+use Rattle.numbers.specs.inside.SignedLocals.{kept}
+use Rattle.plan.specs.inside.CaseSizes.{counted}
+use Rattle.plan.specs.law.Totals.{gasPart, gasAt}
 use Rattle.plan.proofs.Adding.{Adding, start, fits, turn, end, got}
-use Rattle.plan.specs.StepSizes.{gas-sized}
+use Rattle.plan.specs.inside.StepSizes.{gas-sized}
 use Rattle.plan.proofs.totals.gas.Statement.{statement}
 use Rattle.plan.proofs.totals.gas.Tie as tie
 

@@ -4,13 +4,13 @@ use Prim.Native.Nat.{_+_, _-_, _*_}
 use borrow.Author.Needs.{needs}
 use borrow.Author.Tests.{eq-eqb, ne-eqb}
 use denote.Ref.{now}
-use Rattle.numbers.specs.SignedLocals.{held, held-fits, _+ʳ_, _*ʳ_}
+use Rattle.numbers.specs.inside.SignedLocals.{held, held-fits, _+ʳ_, _*ʳ_}
 use Rattle.case.specs.declared.records.Arc.{Arc}
 use Rattle.case.specs.declared.records.Pipe.{Pipe}
-use Rattle.case.specs.Layout.{numberAt}
-use Rattle.case.specs.Records.{arcOf}
-use Rattle.plan.specs.CaseFacts.{from-node, to-node, pipe-sized}
-use Rattle.plan.specs.Totals.{gasPart}
+use Rattle.case.specs.law.Layout.{numberAt}
+use Rattle.case.specs.law.Records.{arcOf}
+use Rattle.plan.specs.inside.CaseSizes.{from-node, to-node, pipe-sized}
+use Rattle.plan.specs.law.Totals.{gasPart}
 use Rattle.plan.proofs.Adding.{got, taken-part, left-part}
 use Rattle.plan.proofs.totals.pipe_gas.Statement.{statement}
 use Rattle.plan.proofs.totals.pipe_gas.Tie as tie

@@ -5,8 +5,8 @@ use borrow.Author.Needs.{needs}
 use borrow.Author.Tests.{eq-eqb, ne-eqb}
 use denote.Ref.{now}
 use Rattle.case.specs.declared.records.Arc.{Arc}
-use Rattle.case.specs.Records.{arcOf}
-use Rattle.plan.specs.Totals.{pipePart}
+use Rattle.case.specs.law.Records.{arcOf}
+use Rattle.plan.specs.law.Totals.{pipePart}
 use Rattle.plan.proofs.Adding.{takenN, leftN}
 use Rattle.plan.proofs.totals.pipe_part.Statement.{statement}
 use Rattle.plan.proofs.totals.pipe_part.Tie as tie

@@ -3,10 +3,10 @@ use mathlib.Core.Path.{ap, _∙_}
 use Prim.Native.Nat.{ℕ, _-_, _<_, _≤_}
 use native.Mathlib.Omega.{arith}
 use denote.Ref.{now}
-use Rattle.numbers.specs.Sum.{sum, sumN}
-use Rattle.case.specs.Layout.{numberAt, arcsOf}
-use Rattle.plan.specs.CaseFacts.{counted}
-use Rattle.plan.specs.Totals.{pipePart, pipeResiduals}
+use Rattle.numbers.specs.law.Sums.{sum, sumN}
+use Rattle.case.specs.law.Layout.{numberAt, arcsOf}
+use Rattle.plan.specs.inside.CaseSizes.{counted}
+use Rattle.plan.specs.law.Totals.{pipePart, pipeResiduals}
 use Rattle.plan.proofs.Adding.{Counting, startN, turnN, endN}
 use Rattle.plan.proofs.totals.pipe_residuals.Statement.{statement}
 use Rattle.plan.proofs.totals.pipe_residuals.Tie as tie

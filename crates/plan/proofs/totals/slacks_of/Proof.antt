@@ -3,11 +3,11 @@ use mathlib.Core.Path.{refl, ap, _∙_}
 use Prim.Native.Nat.{ℕ, _+_, _-_, _≤_}
 use native.Mathlib.Omega.{arith}
 use denote.Ref.{now}
-use Rattle.numbers.specs.SignedLocals.{held, held-fits, _+ʳ_}
-use Rattle.numbers.specs.Sum.{sum}
+use Rattle.numbers.specs.inside.SignedLocals.{held, held-fits, _+ʳ_}
+use Rattle.numbers.specs.law.Sums.{sum}
 use Rattle.plan.specs.declared.rows.NodeRow.{NodeRow}
-use Rattle.plan.specs.CaseFacts.{counted}
-use Rattle.plan.specs.Totals.{pressureSlackAt, demandSlackAt, pressureSlackIn, demandSlackIn}
+use Rattle.plan.specs.inside.CaseSizes.{counted}
+use Rattle.plan.specs.law.Totals.{pressureSlackAt, demandSlackAt, pressureSlackIn, demandSlackIn}
 use Rattle.plan.proofs.Adding.{Adding, start, fits, turn, end, got}
 use Rattle.plan.proofs.totals.slacks_of.Statement.{statement}
 use Rattle.plan.proofs.totals.slacks_of.Tie as tie

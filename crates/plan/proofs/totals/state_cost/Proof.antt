@@ -3,15 +3,15 @@ use mathlib.Core.Path.{_≡_, sym, ap, _∙_}
 use Prim.Native.Nat.{ℕ, _-_}
 use borrow.Author.Needs.{needs}
 use denote.Ref.{now}
-use Rattle.numbers.specs.SignedParts.{posPart}
+use Rattle.numbers.specs.law.Signed.{posPart}
 use Rattle.case.specs.declared.records.State.{State}
-use Rattle.case.specs.Records.{stateRow, stateOf}
-use Rattle.numbers.specs.SignedLocals.{kept}
+use Rattle.case.specs.law.Records.{stateRow, stateOf}
+use Rattle.numbers.specs.inside.SignedLocals.{kept}
 use Rattle.plan.specs.declared.rows.Choice.{Choice}
-use Rattle.plan.specs.PlanRecords.{stateIn}
-use Rattle.plan.specs.CaseFacts.{counted}
-use Rattle.plan.specs.Totals.{stateCost}
-use Rattle.plan.specs.StepSizes.{cost-same, cost-new}
+use Rattle.plan.specs.law.PlanRecords.{stateIn}
+use Rattle.plan.specs.inside.CaseSizes.{counted}
+use Rattle.plan.specs.law.Totals.{stateCost}
+use Rattle.plan.specs.inside.StepSizes.{cost-same, cost-new}
 use Rattle.plan.proofs.totals.state_cost.Statement.{statement}
 use Rattle.plan.proofs.totals.state_cost.Tie as tie
 

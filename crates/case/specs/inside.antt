@@ -1,0 +1,12 @@
+pub mod MachineOf
+pub mod FieldLaws
+pub mod FenceNode
+pub mod CountLaws
+pub mod SetLaws
+pub mod Counts
+pub mod CountsInRange
+pub mod InSet
+pub mod HoldsLaws
+pub mod Ranges
+pub mod AcceptedCase
+pub mod SmallRefusals

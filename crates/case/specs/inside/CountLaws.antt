@@ -1,0 +1,169 @@
+-- Counts, a station's arcs and the sets gathered from arcs, one item further; what every of some items says of one.
+-- Assumes nothing.
+use mathlib.Core.Path.{_≡_, refl, sym, ap, _∙_}
+use mathlib.Core.Bool.{Bool, true, false, and-false}
+use mathlib.Core.List.{List}
+use Prim.Native.Nat.{ℕ, zero, suc, _+_, _-_, _^_, _<_, _≤_}
+use native.Mathlib.Numerals.{add-one}
+use native.Mathlib.Nat.{pow-suc}
+use native.Mathlib.Omega.{arith}
+use lib.Bits.{or-lt}
+use lib.Dec.{ltb}
+use lib.IntN.{ℤ}
+use lib.Pow.{pow-lt}
+use borrow.Author.Tests.{ltb-true, ltb-false}
+use Rattle.numbers.specs.law.Sums.{sumN, onlyN, count}
+use Rattle.case.specs.law.StationArcs.{belongs, arcsBefore, arcBit, arcSet, every}
+use Rattle.case.specs.law.StationNodes.{withNode, withEnds, endsOf}
+use Rattle.case.specs.inside.FieldLaws.{and-first, and-second}
+
+only-le : (b : Bool) → onlyN b 1 ≤ 1
+only-le true = omega arith
+only-le false = omega arith
+
+-- ---- counts
+
+module _ (w : ℕ → Bool) where
+  pub count-none : count 0 w ≡ 0
+  unfolding count sumN
+  count-none = refl
+
+  pub count-yes : (i : ℕ) → w i ≡ true → count (i + 1) w ≡ count i w + 1
+  unfolding count sumN
+  count-yes i e = rw (add-one i, e)
+
+  pub count-no : (i : ℕ) → w i ≡ false → count (i + 1) w ≡ count i w
+  unfolding count sumN
+  count-no i e = let z : count i w + 0 ≡ count i w = omega arith in rw (add-one i, e, z)
+
+  pub count-le : (i : ℕ) → count i w ≤ i
+  unfolding count sumN
+  count-le zero = omega arith
+  count-le (suc i) = omega (arith, count-le i, only-le (w i))
+
+  pub count-grows : (i d : ℕ) → count i w ≤ count (i + d) w
+  unfolding count sumN
+  count-grows i zero = let z : i + 0 ≡ i = omega arith in rw z (omega arith)
+  count-grows i (suc d) = let z : i + suc d ≡ suc (i + d) = omega arith in rw z (omega (arith, count-grows i d))
+
+pub count-same : (f g : ℕ → Bool) (n : ℕ) → ((i : ℕ) → i < n → f i ≡ g i) → count n f ≡ count n g
+unfolding count sumN
+count-same f g zero h = refl
+count-same f g (suc n) h =
+    let e = count-same f g n (λ i p. h i (omega arith)) in
+    let d = h n (omega arith) in
+    rw (e, d)
+
+-- ---- a station's arcs
+
+module _ (case : List ℤ) (s : ℕ) where
+  pub before-none : arcsBefore case s 0 ≡ 0
+  unfolding arcsBefore
+  before-none = count-none (belongs case s)
+
+  pub before-yes : (e : ℕ) → belongs case s e ≡ true → arcsBefore case s (e + 1) ≡ arcsBefore case s e + 1
+  unfolding arcsBefore
+  before-yes e = count-yes (belongs case s) e
+
+  pub before-no : (e : ℕ) → belongs case s e ≡ false → arcsBefore case s (e + 1) ≡ arcsBefore case s e
+  unfolding arcsBefore
+  before-no e = count-no (belongs case s) e
+
+  pub before-le : (e : ℕ) → arcsBefore case s e ≤ e
+  unfolding arcsBefore
+  before-le e = count-le (belongs case s) e
+
+  pub before-mono : (e n : ℕ) → e ≤ n → arcsBefore case s e ≤ arcsBefore case s n
+  unfolding arcsBefore
+  before-mono e n h = let z : e + (n - e) ≡ n = omega arith in rw z at (count-grows (belongs case s) e (n - e))
+
+  -- ---- a set of the station's arcs
+
+  module _ (w : ℕ → Bool) where
+    pub arcs-none : arcSet case s w 0 ≡ 0
+    unfolding arcSet sumN
+    arcs-none = refl
+
+    pub arcs-yes : (e : ℕ) → belongs case s e ≡ true → arcSet case s w (e + 1) ≡ arcSet case s w e + onlyN (w e) (2 ^ arcsBefore case s e)
+    unfolding arcSet sumN
+    arcs-yes e h = rw (add-one e, h)
+
+    pub arcs-no : (e : ℕ) → belongs case s e ≡ false → arcSet case s w (e + 1) ≡ arcSet case s w e
+    unfolding arcSet sumN
+    arcs-no e h = let z : sumN e (arcBit case s w) + 0 ≡ sumN e (arcBit case s w) = omega arith in rw (add-one e, h, z)
+
+    -- the set has no item at or past the count of arcs
+    pub arcs-lt : (e : ℕ) → arcSet case s w e < 2 ^ arcsBefore case s e
+    unfolding arcSet sumN
+    arcs-lt zero = rw before-none (omega arith)
+    arcs-lt (suc e) = go (arcs-lt e) (belongs case s e) refl (w e) refl
+      where
+        go : arcSet case s w e < 2 ^ arcsBefore case s e → (b : Bool) → belongs case s e ≡ b → (v : Bool) → w e ≡ v → arcSet case s w (suc e) < 2 ^ arcsBefore case s (suc e)
+        go k true p true q =
+            let n : arcsBefore case s (suc e) ≡ suc (arcsBefore case s e) = rw (add-one e, add-one (arcsBefore case s e)) at (before-yes e p) in
+            rw (p, q, n, pow-suc 2 (arcsBefore case s e)) (omega (arith, k))
+        go k true p false q =
+            let n : arcsBefore case s (suc e) ≡ suc (arcsBefore case s e) = rw (add-one e, add-one (arcsBefore case s e)) at (before-yes e p) in
+            rw (p, q, n, pow-suc 2 (arcsBefore case s e)) (omega (arith, k))
+        go k false p v q =
+            let n : arcsBefore case s (suc e) ≡ arcsBefore case s e = rw (add-one e) at (before-no e p) in
+            rw (p, n) (omega (arith, k))
+
+-- ---- node sets
+
+pub node-lt : (set v : ℕ) → set < 2 ^ 60 → withNode set v < 2 ^ 60
+unfolding withNode
+node-lt set v h = go (ltb v 60) refl
+  where
+    go : (b : Bool) → ltb v 60 ≡ b → withNode set v < 2 ^ 60
+    go true e = let p : 2 ^ v < 2 ^ 60 = pow-lt (ltb-true v 60 e) in rw e (or-lt 60 set (2 ^ v) h p)
+    go false e = rw e h
+
+module _ (case : List ℤ) (w : ℕ → Bool) where
+  pub ends-none : endsOf case w 0 ≡ 0
+  unfolding endsOf
+  ends-none = refl
+
+  pub ends-yes : (e : ℕ) → w e ≡ true → endsOf case w (e + 1) ≡ withEnds case (endsOf case w e) e
+  unfolding endsOf
+  ends-yes e h = rw (add-one e, h)
+
+  pub ends-no : (e : ℕ) → w e ≡ false → endsOf case w (e + 1) ≡ endsOf case w e
+  unfolding endsOf
+  ends-no e h = rw (add-one e, h)
+
+  pub ends-lt : (e : ℕ) → endsOf case w e < 2 ^ 60
+  unfolding endsOf
+  ends-lt zero = omega arith
+  ends-lt (suc e) = go (ends-lt e) (w e) refl
+    where
+      go : endsOf case w e < 2 ^ 60 → (b : Bool) → w e ≡ b → endsOf case w (suc e) < 2 ^ 60
+      go k true p = rw p (node-lt _ _ (node-lt _ _ k))
+      go k false p = rw p k
+
+-- ---- every of the first n items
+
+pub every-at : (n : ℕ) (w : ℕ → Bool) → every n w ≡ true → (i : ℕ) → i < n → w i ≡ true
+every-at zero w e i p = let f : ⊥ = omega arith in absurd f
+every-at (suc n) w e i p = go (λ q. every-at n w (and-first _ _ e) i q) (ltb i n) refl
+  where
+    go : (i < n → w i ≡ true) → (b : Bool) → ltb i n ≡ b → w i ≡ true
+    go k true q = k (ltb-true i n q)
+    go k false q = let z : i ≡ n = omega (arith, ltb-false i n q) in rw z (and-second (every n w) _ e)
+
+pub at-every : (n : ℕ) (w : ℕ → Bool) → ((i : ℕ) → i < n → w i ≡ true) → every n w ≡ true
+at-every zero w h = refl
+at-every (suc n) w h = rw (at-every n w (λ i p. h i (omega arith)), h n (omega arith))
+
+-- a loop that has found one that is not so
+pub every-not : (n : ℕ) (w : ℕ → Bool) (i : ℕ) → i < n → w i ≡ false → every n w ≡ false
+every-not zero w i p e = let f : ⊥ = omega arith in absurd f
+every-not (suc n) w i p e = go (λ q. every-not n w i q e) (ltb i n) refl
+  where
+    go : (i < n → every n w ≡ false) → (b : Bool) → ltb i n ≡ b → every (suc n) w ≡ false
+    go k true q = rw (k (ltb-true i n q))
+    go k false q = let z : i ≡ n = omega (arith, ltb-false i n q) in rw (sym (ap w z) ∙ e, and-false (every n w))
+
+-- a loop that has found another that is so
+pub every-more : (i : ℕ) (w : ℕ → Bool) → every i w ≡ true → w i ≡ true → every (i + 1) w ≡ true
+every-more i w e h = rw (add-one i, e, h)

@@ -1,0 +1,37 @@
+-- What the functions inside hand each other: counts as they are read, and counts that the questions have let pass.
+-- Assumes nothing.
+use mathlib.Core.Path.{_≡_}
+use mathlib.Core.List.{List}
+use Prim.Native.Nat.{ℕ, _<_, _≤_, _^_}
+use lib.IntN.{ℤ}
+use Rattle.case.specs.law.Layout.{countAt, nodesOf, arcsOf, stationsOf, stepsOf, directionsAt, statesAt, machinesAt, stationAt}
+use Rattle.case.specs.law.StationArcs.{stationArcs}
+
+-- a number that was read as a count
+pub record Counts (case : List ℤ) (i r : ℕ) : Type 0 where
+  pub value : r ≡ countAt case i
+  pub small : r < 2 ^ 63
+
+-- the head's counts
+pub record Counted (case : List ℤ) : Type 0 where
+  pub nodes : nodesOf case ≤ 60
+  pub some-node : 1 ≤ nodesOf case
+  pub arcs : arcsOf case ≤ 120
+  pub stations : stationsOf case ≤ 8
+  pub steps : stepsOf case ≤ 48
+  pub some-step : 1 ≤ stepsOf case
+
+-- the counts of the station whose rows begin at `row`
+pub record StationCounted (case : List ℤ) (row : ℕ) : Type 0 where
+  pub directions : directionsAt case row ≤ 8
+  pub some-direction : 1 ≤ directionsAt case row
+  pub states : statesAt case row ≤ 16
+  pub some-state : 1 ≤ statesAt case row
+  pub machines : machinesAt case row ≤ 12
+
+pub record StationsCounted (case : List ℤ) : Type 0 where
+  pub each : (s : ℕ) → s < stationsOf case → StationCounted case (stationAt case s)
+
+-- what 15 has let pass
+pub record Sized (case : List ℤ) : Type 0 where
+  pub each : (s : ℕ) → s < stationsOf case → stationArcs case s ≤ 30

@@ -1,0 +1,75 @@
+-- What a field is known to be once 10 and 11 have let it pass.
+-- Assumes nothing.
+use mathlib.Core.Path.{_≡_, refl, sym, _∙_}
+use mathlib.Core.Bool.{Bool, true, false, _&&_}
+use mathlib.Core.List.{List, _++_}
+use Prim.Native.Nat.{ℕ, _+_, _<_, _≤_}
+use native.Mathlib.Omega.{arith}
+use borrow.Author.Tests.{ltb-true}
+use lib.IntN.{ℤ, pos}
+use lib.ListN.{length}
+use lib.Signed.{leZ}
+use Rattle.numbers.specs.inside.SignedParts.{ints, size}
+use Rattle.numbers.specs.law.Question.{Question, firstNo}
+use Rattle.numbers.specs.inside.QuestionLaws.{firstNo-append, orElse-first, orElse-second, all-yes}
+use Rattle.numbers.specs.law.Items.{over}
+use Rattle.numbers.specs.inside.ItemLaws.{over-yes}
+use Rattle.numbers.specs.declared.answer.Answer.the-variants.{Yes}
+use Rattle.case.specs.law.Layout.{numberAt, countAt}
+use Rattle.case.specs.law.Field.{field, fields, nextField}
+
+pub record InRange (case : List ℤ) (i : ℕ) (low high : ℤ) : Type 0 where
+  pub there : i < length case
+  pub least : leZ low (numberAt case i) ≡ true
+  pub most : leZ (numberAt case i) high ≡ true
+
+pub and-first : (a b : Bool) → (a && b) ≡ true → a ≡ true
+and-first true b e = refl
+and-first false b e = e
+
+pub and-second : (a b : Bool) → (a && b) ≡ true → b ≡ true
+and-second true b e = e
+and-second false b e = let z : _≡_ {A = Bool} false true = e in let y : _≡_ {A = ℕ} 0 1 = cc in let f : ⊥ = omega arith in absurd f
+
+-- two groups of which no question is answered no
+pub first-yes : (X Y : List Question) → firstNo (X ++ Y) ≡ Yes → firstNo X ≡ Yes
+first-yes X Y e = orElse-first (firstNo X) (firstNo Y) (sym (firstNo-append X Y) ∙ e)
+
+pub second-yes : (X Y : List Question) → firstNo (X ++ Y) ≡ Yes → firstNo Y ≡ Yes
+second-yes X Y e = orElse-second (firstNo X) (firstNo Y) (sym (firstNo-append X Y) ∙ e)
+
+zero-add : (n : ℕ) → 0 + n ≡ n
+zero-add n = omega arith
+
+-- item j of n items of which no question is answered no
+pub item-yes : (f : ℕ → List Question) (n : ℕ) → firstNo (over f 0 n) ≡ Yes → (j : ℕ) → j < n → firstNo (f j) ≡ Yes
+item-yes f n e j p = rw (zero-add j) at (over-yes f 0 n e j p)
+
+pub field-yes : (case : List ℤ) (i : ℕ) (low high : ℤ) → firstNo (field case i low high) ≡ Yes → InRange case i low high
+unfolding field
+field-yes case i low high e =
+    let a = all-yes (field case i low high) e in
+    record {
+      there = ltb-true _ _ (a .0);
+      least = and-first _ _ (a .1 .0);
+      most = and-second (leZ low (numberAt case i)) _ (a .1 .0);
+    }
+
+pub fields-yes : (case : List ℤ) (i n : ℕ) (low high : ℤ) → firstNo (fields case i n low high) ≡ Yes → (j : ℕ) → j < n → InRange case (i + j) low high
+unfolding fields
+fields-yes case i n low high e j p = field-yes case (i + j) low high (item-yes (nextField case i low high) n e j p)
+
+-- a field, or fields that share a range, before other questions: what is known of it, and that none of the others is answered no
+pub field-then : (case : List ℤ) (i : ℕ) (low high : ℤ) (Y : List Question) → firstNo (field case i low high ++ Y) ≡ Yes → InRange case i low high × (firstNo Y ≡ Yes)
+field-then case i low high Y e = (field-yes case i low high (first-yes (field case i low high) Y e), second-yes (field case i low high) Y e)
+
+pub fields-then : (case : List ℤ) (i n : ℕ) (low high : ℤ) (Y : List Question) → firstNo (fields case i n low high ++ Y) ≡ Yes
+    → ((j : ℕ) → j < n → InRange case (i + j) low high) × (firstNo Y ≡ Yes)
+fields-then case i n low high Y e = (fields-yes case i n low high (first-yes (fields case i n low high) Y e), second-yes (fields case i n low high) Y e)
+
+-- a count from m to n
+pub count-most : {case : List ℤ} {i : ℕ} {m n : ℕ} → InRange case i (pos m) (pos n) → countAt case i ≤ n
+count-most {case} {i} r = omega (ints, r .most, size (numberAt case i))
+
+pub count-least : {case : List ℤ} {i : ℕ} {m n : ℕ} → InRange case i (pos m) (pos n) → m ≤ countAt case i
+count-least {case} {i} r = omega (ints, r .least, size (numberAt case i))

@@ -1,0 +1,37 @@
+-- "Node row: kind (0 inner, 1 source, 2 sink); p0, low, high, actlow, acthigh, each 0..200,000 with low ≤ actlow ≤ acthigh ≤ high (p0 is free of these;
+-- a bound between two fields counts for the later one); then k demands D: inner 0, source 0..10,000,000, sink -10,000,000..0."
+-- Assumes nothing.
+use mathlib.Core.Bool.{cond}
+use mathlib.Core.List.{List, _++_}
+use Prim.Native.Nat.{ℕ, _+_}
+use lib.Dec.{eqb}
+use lib.IntN.{ℤ, pos, negsuc}
+use Rattle.numbers.specs.law.Question.{Question}
+use Rattle.numbers.specs.law.Items.{over}
+use Rattle.case.specs.law.Layout.{numberAt, countAt, nodesOf, stepsOf, nodeAt, nodeHeadWidth}
+use Rattle.case.specs.law.Field.{field, fields, mostPressure, mostFlow}
+
+-- The six fields of the row that begins at index `row`. In list order low ≤ actlow counts for actlow, actlow ≤ acthigh and acthigh ≤ high for acthigh.
+unfoldable pub boundFields : List ℤ → ℕ → List Question
+boundFields case row =
+    field case row (pos 0) (pos 2)
+    ++ (fields case (row + 1) 3 (pos 0) mostPressure
+    ++ (field case (row + 4) (numberAt case (row + 2)) mostPressure
+    ++ field case (row + 5) (numberAt case (row + 4)) (numberAt case (row + 3))))
+
+-- the range of a demand, by the node's kind: -10,000,000 is `negsuc 9999999`
+abbrev pub leastDemand : ℕ → ℤ
+leastDemand kind = cond (eqb kind 2) (negsuc 9999999) (pos 0)
+
+abbrev pub mostDemand : ℕ → ℤ
+mostDemand kind = cond (eqb kind 1) mostFlow (pos 0)
+
+unfoldable pub demandFields : List ℤ → ℕ → List Question
+demandFields case row =
+    fields case (row + nodeHeadWidth) (stepsOf case) (leastDemand (countAt case row)) (mostDemand (countAt case row))
+
+unfoldable pub nodeFields : List ℤ → ℕ → List Question
+nodeFields case v = boundFields case (nodeAt case v) ++ demandFields case (nodeAt case v)
+
+unfoldable pub allNodeFields : List ℤ → List Question
+allNodeFields case = over (nodeFields case) 0 (nodesOf case)

@@ -1,0 +1,62 @@
+-- "Station (each with all its rows before the following one): directions F 1..8, states Z 1..16, machines M 0..12, direction at step 0 (0..F-1),
+-- state at step 0 (0..Z-1). Then F rows: entry set, exit set (0..2^60-1), weight. Z rows: direction set 0..2^F-1, on set, off set (0..2^30-1), weight.
+-- M rows: flow Q 0..10,000,000, ratio R 1,001..10,000. Weights are 0..1,000,000."
+-- Assumes nothing.
+use mathlib.Core.List.{List, _++_}
+use Prim.Native.Nat.{ℕ, _+_, _-_, _^_}
+use lib.IntN.{ℤ, pos}
+use Rattle.numbers.specs.law.Question.{Question}
+use Rattle.numbers.specs.law.Items.{over}
+use Rattle.case.specs.law.Layout.{directionsAt, statesAt, machinesAt, directionAt, stateAt, machineAt, stationAt, stationsOf}
+use Rattle.case.specs.law.Field.{field, fields, lastOf, mostFlow, mostWeight}
+
+-- the set of the first n items
+abbrev pub firstItems : ℕ → ℤ
+firstItems n = pos (2 ^ n - 1)
+
+unfoldable pub stationHead : List ℤ → ℕ → List Question
+stationHead case row =
+    field case row (pos 1) (pos 8)
+    ++ (field case (row + 1) (pos 1) (pos 16)
+    ++ (field case (row + 2) (pos 0) (pos 12)
+    ++ (field case (row + 3) (pos 0) (lastOf (directionsAt case row))
+    ++ field case (row + 4) (pos 0) (lastOf (statesAt case row)))))
+
+-- entry set, exit set, weight
+unfoldable pub directionFields : List ℤ → ℕ → ℕ → List Question
+directionFields case row f =
+    fields case (directionAt row f) 2 (pos 0) (firstItems 60)
+    ++ field case (directionAt row f + 2) (pos 0) mostWeight
+
+-- direction set, on set, off set, weight, from index `at` on
+unfoldable pub stateRowFields : List ℤ → ℕ → ℤ → List Question
+stateRowFields case at sets =
+    field case at (pos 0) sets
+    ++ (fields case (at + 1) 2 (pos 0) (firstItems 30)
+    ++ field case (at + 3) (pos 0) mostWeight)
+
+unfoldable pub stateFields : List ℤ → ℕ → ℕ → List Question
+stateFields case row z = stateRowFields case (stateAt case row z) (firstItems (directionsAt case row))
+
+-- Q and R
+unfoldable pub machineFields : List ℤ → ℕ → ℕ → List Question
+machineFields case row m =
+    field case (machineAt case row m) (pos 0) mostFlow
+    ++ field case (machineAt case row m + 1) (pos 1001) (pos 10000)
+
+-- the rows past the station's first
+unfoldable pub partFields : List ℤ → ℕ → List Question
+partFields case row =
+    over (directionFields case row) 0 (directionsAt case row)
+    ++ (over (stateFields case row) 0 (statesAt case row)
+    ++ over (machineFields case row) 0 (machinesAt case row))
+
+-- all rows of the station whose first number has the index `row`
+unfoldable pub rowFields : List ℤ → ℕ → List Question
+rowFields case row = stationHead case row ++ partFields case row
+
+unfoldable pub stationFields : List ℤ → ℕ → List Question
+stationFields case s = rowFields case (stationAt case s)
+
+unfoldable pub allStationFields : List ℤ → List Question
+allStationFields case = over (stationFields case) 0 (stationsOf case)

@@ -1,0 +1,3 @@
+pub mod CodecInputs
+pub mod RoundTrip
+pub mod TableT

@@ -1,0 +1,53 @@
+-- Laws for a loop over items that are each asked the same questions.
+-- Assumes nothing.
+use mathlib.Core.Path.{_≡_, refl, ap, sym, _∙_}
+use mathlib.Core.List.{List}
+use Prim.Native.Nat.{ℕ, zero, suc, _+_, _-_, _≤_, _<_}
+use native.Mathlib.Numerals.{add-one}
+use native.Mathlib.Omega.{arith}
+use Rattle.numbers.specs.law.Question.{Question, firstNo, orElse}
+use Rattle.numbers.specs.inside.QuestionLaws.{firstNo-append, orElse-first, orElse-second}
+use Rattle.numbers.specs.declared.answer.Answer.{Answer}
+use Rattle.numbers.specs.declared.answer.Answer.the-variants.{Yes, No}
+use Rattle.numbers.specs.law.Items.{over}
+
+-- what a loop at item i of n still has to ask
+abbrev pub rest : (ℕ → List Question) → ℕ → ℕ → Answer
+rest f i n = firstNo (over f i (n - i))
+
+pub rest-turn : (f : ℕ → List Question) (i n : ℕ) → i < n → rest f i n ≡ orElse (firstNo (f i)) (rest f (i + 1) n)
+rest-turn f i n p =
+    let e : n - i ≡ suc (n - (i + 1)) = omega arith in
+    rw (e, add-one i) (firstNo-append (f i) (over f (suc i) (n - suc i)))
+
+pub rest-done : (f : ℕ → List Question) (i n : ℕ) → n ≤ i → rest f i n ≡ Yes
+rest-done f i n p = let e : n - i ≡ 0 = omega arith in rw e
+
+module _ (f : ℕ → List Question) (i n : ℕ) {all : Answer} (so-far : all ≡ rest f i n) where
+  -- one turn whose answer is yes
+  pub rest-on : {one : Answer} → i < n → one ≡ firstNo (f i) → one ≡ Yes → all ≡ rest f (i + 1) n
+  rest-on p e y = so-far ∙ rest-turn f i n p ∙ ap (λ (a : Answer). orElse a (rest f (i + 1) n)) (sym e ∙ y)
+
+  -- one turn whose answer is no
+  pub rest-no : {one : Answer} {m s q : ℕ} → i < n → one ≡ firstNo (f i) → one ≡ No m s q → all ≡ one
+  rest-no p e y = so-far ∙ rest-turn f i n p ∙ ap (λ (a : Answer). orElse a (rest f (i + 1) n)) (sym e ∙ y) ∙ sym y
+
+  pub rest-end : n ≤ i → all ≡ Yes
+  rest-end p = so-far ∙ rest-done f i n p
+
+-- no item of those from i on has a no, where none of them together has
+pub over-yes : (f : ℕ → List Question) (i c : ℕ) → firstNo (over f i c) ≡ Yes → (j : ℕ) → j < c → firstNo (f (i + j)) ≡ Yes
+over-yes f i zero e j p = let b : ⊥ = omega arith in absurd b
+over-yes f i (suc c) e zero p =
+    let z : i + 0 ≡ i = omega arith in
+    rw z (orElse-first (firstNo (f i)) (firstNo (over f (suc i) c)) (sym (firstNo-append (f i) (over f (suc i) c)) ∙ e))
+over-yes f i (suc c) e (suc j) p =
+    let z : i + suc j ≡ suc i + j = omega arith in
+    rw z (over-yes f (suc i) c (orElse-second (firstNo (f i)) (firstNo (over f (suc i) c)) (sym (firstNo-append (f i) (over f (suc i) c)) ∙ e)) j (omega arith))
+
+pub over-all : (f : ℕ → List Question) (i c : ℕ) → ((j : ℕ) → j < c → firstNo (f (i + j)) ≡ Yes) → firstNo (over f i c) ≡ Yes
+over-all f i zero h = refl
+over-all f i (suc c) h =
+    let z : i + 0 ≡ i = omega arith in
+    let a : firstNo (f i) ≡ Yes = rw z at (h 0 (omega arith)) in
+    rw (firstNo-append, a) (over-all f (suc i) c (λ j p. let y : suc i + j ≡ i + suc j = omega arith in rw y (h (suc j) (omega arith))))

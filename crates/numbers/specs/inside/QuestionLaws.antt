@@ -1,0 +1,62 @@
+-- Laws of the first "no": of two lists, of every question, of what is told.
+-- Assumes nothing.
+use mathlib.Core.Path.{_≡_, refl, ap, sym, _∙_}
+use mathlib.Core.Bool.{Bool, true, false}
+use mathlib.Core.List.{List, [], _∷_, _++_}
+use Prim.Native.Nat.{ℕ}
+use native.Mathlib.Omega.{arith}
+use lib.ListN.{length}
+use Rattle.numbers.specs.law.Told.{Told}
+use Rattle.numbers.specs.declared.answer.Answer.{Answer}
+use Rattle.numbers.specs.declared.answer.Answer.the-variants.{Yes, No}
+use Rattle.numbers.specs.law.Question.{Question, answer, answerTo, orElse, firstNo, told}
+
+pub orElse-assoc : (a b c : Answer) → orElse (orElse a b) c ≡ orElse a (orElse b c)
+orElse-assoc Yes b c = refl
+orElse-assoc (No n s p) b c = refl
+
+pub orElse-yes : (a : Answer) → orElse a Yes ≡ a
+orElse-yes Yes = refl
+orElse-yes (No n s p) = refl
+
+pub firstNo-append : (xs ys : List Question) → firstNo (xs ++ ys) ≡ orElse (firstNo xs) (firstNo ys)
+firstNo-append [] ys = refl
+firstNo-append (q ∷ xs) ys = ap (orElse (answerTo q)) (firstNo-append xs ys) ∙ sym (orElse-assoc (answerTo q) (firstNo xs) (firstNo ys))
+
+no-yes {ℓ} : {X : Type ℓ} (n s p : ℕ) → No n s p ≡ Yes → X
+no-yes n s p e = let z : _≡_ {A = ℕ} 0 1 = cc in let b : ⊥ = omega arith in absurd b
+
+pub answer-yes : (b : Bool) (n s p : ℕ) (r : Answer) → orElse (answer b n s p) r ≡ Yes → b ≡ true
+answer-yes true n s p r e = refl
+answer-yes false n s p r e = no-yes n s p e
+
+pub orElse-first : (a b : Answer) → orElse a b ≡ Yes → a ≡ Yes
+orElse-first Yes b e = refl
+orElse-first (No n s p) b e = e
+
+pub orElse-second : (a b : Answer) → orElse a b ≡ Yes → b ≡ Yes
+orElse-second Yes b e = e
+orElse-second (No n s p) b e = no-yes n s p e
+
+-- two answers of which the same is told are the same
+pub told-same : (a b : Answer) → told a ≡ told b → a ≡ b
+told-same Yes Yes e = refl
+told-same Yes (No n s p) e = let v = ap (λ (t : Told). length (t .values)) e in let f : ⊥ = omega arith in absurd f
+told-same (No n s p) Yes e = let v = ap (λ (t : Told). length (t .values)) e in let f : ⊥ = omega arith in absurd f
+told-same (No n s p) (No m t q) e =
+    let a = ap (λ (t : Told). t .number) e in
+    let b = ap (λ (t : Told). t .values) e in
+    cc
+
+-- every question is answered yes
+abbrev pub AllYes : List Question → Type 0
+AllYes [] = Unit {0}
+AllYes (q ∷ qs) = (q .yes ≡ true) × AllYes qs
+
+pub all-yes : (qs : List Question) → firstNo qs ≡ Yes → AllYes qs
+all-yes [] e = tt
+all-yes (q ∷ qs) e = (answer-yes (q .yes) (q .number) (q .step) (q .place) (firstNo qs) e, all-yes qs (orElse-second (answerTo q) (firstNo qs) e))
+
+pub none-no : (qs : List Question) → AllYes qs → firstNo qs ≡ Yes
+none-no [] a = refl
+none-no (q ∷ qs) a = rw (a .0) (none-no qs (a .1))

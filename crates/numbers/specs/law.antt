@@ -1,0 +1,10 @@
+pub mod Told
+pub mod Question
+pub mod Items
+pub mod Sums
+pub mod Sets
+pub mod Mapping
+pub mod Groups
+pub mod Reading
+pub mod CodecTold
+pub mod Signed

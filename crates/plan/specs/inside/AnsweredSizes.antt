@@ -1,0 +1,225 @@
+-- What a step's questions give once they have been answered yes: sizes, by which no later sum or product is too large.
+-- Assumes nothing.
+use mathlib.Core.Path.{_≡_, refl, sym, ap, _∙_, subst}
+use mathlib.Core.Bool.{Bool, true, false, cond, not, _&&_, _||_}
+use mathlib.Core.List.{List, _++_}
+use Prim.Native.Nat.{ℕ, _+_, _-_, _<_, _≤_}
+use native.Mathlib.Omega.{arith}
+use borrow.Author.Tests.{ltb-true}
+use lib.Dec.{eqb, leb, ltb}
+use lib.IntN.{ℤ, pos, natAbs, _-ℤ_}
+use lib.Signed.{leZ}
+use Rattle.numbers.specs.law.Signed.{posPart}
+use Rattle.numbers.specs.inside.SignedParts.{ints, size, taken}
+use Rattle.numbers.specs.inside.SignedBounds.{Bounded}
+use Rattle.numbers.specs.law.Sums.{onlyN}
+use Rattle.numbers.specs.law.Question.{Question, firstNo}
+use Rattle.numbers.specs.inside.QuestionLaws.{all-yes}
+use Rattle.numbers.specs.declared.answer.Answer.the-variants.{Yes}
+use Rattle.case.specs.declared.records.Node.{Node}
+use Rattle.case.specs.declared.records.Arc.{Arc}
+use Rattle.case.specs.declared.records.Artificial.{Artificial}
+use Rattle.case.specs.law.Layout.{numberAt, nodesOf, arcsOf, stationsOf, stepsOf, massTolerance}
+use Rattle.case.specs.law.Records.{nodeOf, arcOf, artificialOf, stationOf}
+use Rattle.case.specs.law.Field.{mostFlow}
+use Rattle.case.specs.law.NodeFields.{leastDemand, mostDemand}
+use Rattle.case.specs.inside.FieldLaws.{first-yes, second-yes, item-yes, and-first, and-second}
+use Rattle.plan.specs.declared.rows.NodeRow.{NodeRow}
+use Rattle.plan.specs.declared.rows.ArcRow.{ArcRow}
+use Rattle.plan.specs.law.Compared.{within}
+use Rattle.plan.specs.law.PlanRecords.{nodeRow, arcRow, choiceOf, pressureIn, directionIn, stateIn}
+use Rattle.plan.specs.law.Setting.{settingOf}
+use Rattle.plan.specs.law.NodeRules.{slackLimit, slacksKept, boundaryFlowKept, nodeNumbersKept, nodeQuestions, allNodeQuestions}
+use Rattle.plan.specs.law.ArcFlows.{leastFlow, mostBackward, flowsKept, machinesWithin, settingAllowed, arcNumbersKept}
+use Rattle.plan.specs.law.Pipes.{isPipe, pipeResidual, pipeMassKept}
+use Rattle.plan.specs.law.ArcRules.{flowQuestions, pressureQuestions, pipeQuestions, arcQuestions, allArcQuestions}
+use Rattle.plan.specs.law.StationRules.{oneOf, stateObeyed, choiceKept, stationQuestions, allStationQuestions}
+use Rattle.plan.specs.law.Balance.{nodeResidual, balanceKept, balanceQuestions, allBalanceQuestions}
+use Rattle.plan.specs.law.Step.{stepQuestions}
+use Rattle.plan.specs.law.Totals.{pipePart}
+use Rattle.plan.specs.inside.Sizes.{NodeSized, NodeRowSized, NodesSized, PressuresSized, ArcRowSized, FlowsSized}
+use Rattle.plan.specs.inside.Preconditions.{AcceptedCase, MachinesKept, ChoicesKept, StepKept}
+use Rattle.plan.specs.inside.CaseSizes.{node-sized, qmax-sized, mass-sized}
+
+within-sized : (low x high : ℤ) (n : ℕ) → within low x high ≡ true → natAbs low ≤ n → natAbs high ≤ n → Bounded x n
+within-sized low x high n e h k =
+    let a : leZ low x ≡ true = and-first (leZ low x) (leZ x high) e in
+    let b : leZ x high ≡ true = and-second (leZ low x) (leZ x high) e in
+    record { bound = omega (ints, size low, size high, size x) }
+
+-- ---- 21
+
+slack-limit : (kind : ℕ) (limit : ℤ) {n : ℕ} → natAbs limit ≤ n → natAbs (slackLimit kind limit) ≤ n
+slack-limit kind limit {n} h = go (eqb kind 0)
+  where
+    go : (b : Bool) → natAbs (cond b (pos 0) limit) ≤ n
+    go true = omega arith
+    go false = h
+
+cond-sized : (b : Bool) (x y : ℤ) {n : ℕ} → natAbs x ≤ n → natAbs y ≤ n → natAbs (cond b x y) ≤ n
+cond-sized true x y h k = h
+cond-sized false x y h k = k
+
+difference : {x y : ℤ} {m n : ℕ} → Bounded x m → Bounded y n → natAbs (x -ℤ y) ≤ m + n
+difference {x} {y} h k = omega (arith, taken x y, size x, size y, size (x -ℤ y), h .bound, k .bound)
+
+pub numbers-sized : (n : Node) (r : NodeRow) → NodeSized n → nodeNumbersKept n r ≡ true → NodeRowSized r
+unfolding nodeNumbersKept boundaryFlowKept slacksKept
+numbers-sized n r z e =
+    let w1 = within (n .low) (r .p) (n .high) in
+    let w2 = within (leastDemand (n .kind)) (r .d) (mostDemand (n .kind)) in
+    let w3 = within (pos 0) (r .splus) (slackLimit (n .kind) mostFlow) in
+    let w4 = within (pos 0) (r .sminus) (slackLimit (n .kind) mostFlow) in
+    let w5 = within (pos 0) (r .uplus) (slackLimit (n .kind) (n .actlow -ℤ n .low)) in
+    let w6 = within (pos 0) (r .uminus) (slackLimit (n .kind) (n .high -ℤ n .acthigh)) in
+    let e2 : (w2 && (w3 && (w4 && (w5 && w6)))) ≡ true = and-second w1 (w2 && (w3 && (w4 && (w5 && w6)))) e in
+    let e3 : (w3 && (w4 && (w5 && w6))) ≡ true = and-second w2 (w3 && (w4 && (w5 && w6))) e2 in
+    let e4 : (w4 && (w5 && w6)) ≡ true = and-second w3 (w4 && (w5 && w6)) e3 in
+    let e5 : (w5 && w6) ≡ true = and-second w4 (w5 && w6) e4 in
+    record {
+      p = within-sized (n .low) (r .p) (n .high) 200000 (and-first w1 (w2 && (w3 && (w4 && (w5 && w6)))) e) (z .low .bound) (z .high .bound);
+      d = within-sized (leastDemand (n .kind)) (r .d) (mostDemand (n .kind)) 10000000 (and-first w2 (w3 && (w4 && (w5 && w6))) e2) (cond-sized (eqb (n .kind) 2) _ _ (omega arith) (omega arith)) (cond-sized (eqb (n .kind) 1) _ _ (omega arith) (omega arith));
+      splus = within-sized (pos 0) (r .splus) (slackLimit (n .kind) mostFlow) 10000000 (and-first w3 (w4 && (w5 && w6)) e3) (omega arith) (slack-limit (n .kind) mostFlow (omega arith));
+      sminus = within-sized (pos 0) (r .sminus) (slackLimit (n .kind) mostFlow) 10000000 (and-first w4 (w5 && w6) e4) (omega arith) (slack-limit (n .kind) mostFlow (omega arith));
+      uplus = within-sized (pos 0) (r .uplus) (slackLimit (n .kind) (n .actlow -ℤ n .low)) 400000 (and-first w5 w6 e5) (omega arith) (slack-limit (n .kind) (n .actlow -ℤ n .low) (difference (z .actlow) (z .low)));
+      uminus = within-sized (pos 0) (r .uminus) (slackLimit (n .kind) (n .high -ℤ n .acthigh)) 400000 (and-second w5 w6 e5) (omega arith) (slack-limit (n .kind) (n .high -ℤ n .acthigh) (difference (z .high) (z .acthigh)));
+    }
+
+pub nodes-sized : (case row : List ℤ) (i : ℕ) → AcceptedCase case → i < stepsOf case → firstNo (allNodeQuestions case row i) ≡ Yes → NodesSized case row
+unfolding allNodeQuestions nodeQuestions
+nodes-sized case row i c p e = record {
+  each = λ v q.
+      numbers-sized (nodeOf case v i) (nodeRow row v) (node-sized c v q i p) (all-yes (nodeQuestions case row i v) (item-yes (nodeQuestions case row i) (nodesOf case) e v q) .0);
+}
+
+pub pressures-sized : {case row : List ℤ} → NodesSized case row → PressuresSized (pressureIn row) (nodesOf case)
+pressures-sized n = record { each = λ v q. n .each v q .p }
+
+-- ---- 24
+
+pub flows-kept-sized : (c : Arc) (r : ArcRow) → Bounded (c .qmax) 10000000 → flowsKept c r ≡ true → ArcRowSized r
+unfolding flowsKept
+flows-kept-sized c r q e =
+    let least : natAbs (leastFlow c) ≤ 10000000 = cond-sized (eqb (c .kind) 2) (pos 0 -ℤ c .qmax) (pos 0) (omega (arith, taken (pos 0) (c .qmax), size (c .qmax), size (pos 0 -ℤ c .qmax), q .bound)) (omega arith) in
+    let w1 = within (leastFlow c) (r .a) (c .qmax) in
+    let w2 = within (leastFlow c) (r .b) (mostBackward c) in
+    record {
+      a = within-sized (leastFlow c) (r .a) (c .qmax) 10000000 (and-first w1 w2 e) least (q .bound);
+      b = within-sized (leastFlow c) (r .b) (mostBackward c) 10000000 (and-second w1 w2 e) least (cond-sized (eqb (c .kind) 1) (pos 0) (c .qmax) (omega arith) (q .bound));
+    }
+
+small : (n : ℕ) (z : ℤ) → leZ (pos n) z ≡ true → Bounded z 1000000 → n ≤ 1000000
+small n z e b = omega (ints, size z, b .bound)
+
+module _ (case : List ℤ) (old : ℕ → ℤ) (row : List ℤ) (i : ℕ) where
+  -- the groups of an arc's questions
+  pub flow-yes : (e : ℕ) → firstNo (arcQuestions case old row i e) ≡ Yes → firstNo (flowQuestions case row i e) ≡ Yes
+  unfolding arcQuestions
+  flow-yes e y = first-yes (flowQuestions case row i e) (pressureQuestions case row i e ++ pipeQuestions case old row i e) y
+
+  pub pipe-yes : (e : ℕ) → firstNo (arcQuestions case old row i e) ≡ Yes → firstNo (pipeQuestions case old row i e) ≡ Yes
+  unfolding arcQuestions
+  pipe-yes e y =
+      second-yes (pressureQuestions case row i e) (pipeQuestions case old row i e)
+      (second-yes (flowQuestions case row i e) (pressureQuestions case row i e ++ pipeQuestions case old row i e) y)
+
+  pub arc-numbers : (e : ℕ) → firstNo (flowQuestions case row i e) ≡ Yes → arcNumbersKept (arcOf case e) (artificialOf case e) (arcRow case row e) ≡ true
+  unfolding flowQuestions
+  arc-numbers e y = all-yes (flowQuestions case row i e) y .0
+
+  pub arc-sized : AcceptedCase case → (e : ℕ) → e < arcsOf case → firstNo (flowQuestions case row i e) ≡ Yes → ArcRowSized (arcRow case row e)
+  unfolding arcNumbersKept
+  arc-sized c e q y =
+      let r = arcRow case row e in
+      flows-kept-sized (arcOf case e) r (qmax-sized c e q) (and-first (flowsKept (arcOf case e) r) _ (arc-numbers e y))
+
+  pub flows-sized : AcceptedCase case → firstNo (allArcQuestions case old row i) ≡ Yes → FlowsSized case row
+  unfolding allArcQuestions
+  flows-sized c y = record { each = λ e q. arc-sized c e q (flow-yes e (item-yes (arcQuestions case old row i) (arcsOf case) y e q)) }
+
+  pub machines-kept : firstNo (allArcQuestions case old row i) ≡ Yes → MachinesKept case row
+  unfolding allArcQuestions arcNumbersKept
+  machines-kept y = record {
+    each = λ e q.
+        let x = artificialOf case e in
+        let r = arcRow case row e in
+        let k = arcOf case e .kind in
+        let s = settingAllowed (leb 1 (x .bothways)) (settingOf k (r .setting)) in
+        and-second s (machinesWithin k (x .machines) (r .machines))
+        (and-second (flowsKept (arcOf case e) r) (s && machinesWithin k (x .machines) (r .machines)) (arc-numbers e (flow-yes e (item-yes (arcQuestions case old row i) (arcsOf case) y e q))));
+  }
+
+  -- ---- 28
+
+  pub pipe-small : AcceptedCase case → firstNo (allArcQuestions case old row i) ≡ Yes → (e : ℕ) → e < arcsOf case → pipePart case old row i e ≤ 1000000
+  unfolding allArcQuestions pipeQuestions pipeMassKept pipePart
+  pipe-small c y e q =
+      let k = all-yes (pipeQuestions case old row i e) (pipe-yes e (item-yes (arcQuestions case old row i) (arcsOf case) y e q)) .0 in
+      go (isPipe case e) k
+    where
+      go : (b : Bool) → (not b || leZ (pos (pipeResidual case old row i e)) (massTolerance case)) ≡ true → onlyN b (pipeResidual case old row i e) ≤ 1000000
+      go true k = small (pipeResidual case old row i e) (massTolerance case) k (mass-sized c)
+      go false k = omega arith
+
+-- ---- 30
+
+one-of : (x : ℤ) (n : ℕ) → oneOf x n ≡ true → posPart x < n
+one-of x n e = ltb-true (posPart x) n (and-second (leZ (pos 0) x) (ltb (posPart x) n) e)
+
+module _ (case row : List ℤ) (i : ℕ) where
+  choice-kept : firstNo (allStationQuestions case row i) ≡ Yes → (s : ℕ) → s < stationsOf case → choiceKept case row s ≡ true
+  unfolding allStationQuestions stationQuestions
+  choice-kept y s q = all-yes (stationQuestions case row i s) (item-yes (stationQuestions case row i) (stationsOf case) y s q) .0
+
+  pub choices-kept : firstNo (allStationQuestions case row i) ≡ Yes → ChoicesKept case row
+  unfolding choiceKept
+  choices-kept y = record {
+    direction = λ s q. one-of (choiceOf case row s .direction) (stationOf case s .directions) (and-first _ _ (choice-kept y s q));
+    state = λ s q.
+        let d = oneOf (choiceOf case row s .direction) (stationOf case s .directions) in
+        one-of (choiceOf case row s .state) (stationOf case s .states) (and-first _ _ (and-second d _ (choice-kept y s q)));
+  }
+
+  -- ---- 33
+
+  pub node-small : AcceptedCase case → firstNo (allBalanceQuestions case row i) ≡ Yes → (v : ℕ) → v < nodesOf case → nodeResidual case row i v ≤ 1000000
+  unfolding allBalanceQuestions balanceQuestions balanceKept
+  node-small c y v q =
+      small (nodeResidual case row i v) (massTolerance case) (all-yes (balanceQuestions case row i v) (item-yes (balanceQuestions case row i) (nodesOf case) y v q) .0) (mass-sized c)
+
+-- ---- a whole step
+
+module _ (case : List ℤ) (old : ℕ → ℤ) (row : List ℤ) (i : ℕ) (y : firstNo (stepQuestions case old row i) ≡ Yes) where
+  pub nodes-yes : firstNo (allNodeQuestions case row i) ≡ Yes
+  unfolding stepQuestions
+  nodes-yes = first-yes (allNodeQuestions case row i) (allArcQuestions case old row i ++ (allStationQuestions case row i ++ allBalanceQuestions case row i)) y
+
+  past-nodes : firstNo (allArcQuestions case old row i ++ (allStationQuestions case row i ++ allBalanceQuestions case row i)) ≡ Yes
+  unfolding stepQuestions
+  past-nodes = second-yes (allNodeQuestions case row i) (allArcQuestions case old row i ++ (allStationQuestions case row i ++ allBalanceQuestions case row i)) y
+
+  pub arcs-yes : firstNo (allArcQuestions case old row i) ≡ Yes
+  arcs-yes = first-yes (allArcQuestions case old row i) (allStationQuestions case row i ++ allBalanceQuestions case row i) past-nodes
+
+  past-arcs : firstNo (allStationQuestions case row i ++ allBalanceQuestions case row i) ≡ Yes
+  past-arcs = second-yes (allArcQuestions case old row i) (allStationQuestions case row i ++ allBalanceQuestions case row i) past-nodes
+
+  pub stations-yes : firstNo (allStationQuestions case row i) ≡ Yes
+  stations-yes = first-yes (allStationQuestions case row i) (allBalanceQuestions case row i) past-arcs
+
+  pub balances-yes : firstNo (allBalanceQuestions case row i) ≡ Yes
+  balances-yes = second-yes (allStationQuestions case row i) (allBalanceQuestions case row i) past-arcs
+
+pub step-kept : (case old row : List ℤ) (i : ℕ) → AcceptedCase case → i < stepsOf case → PressuresSized (numberAt old) (nodesOf case)
+    → firstNo (stepQuestions case (numberAt old) row i) ≡ Yes → StepKept case old row i
+step-kept case old row i c p z y =
+    let p0 = numberAt old in
+    let a = arcs-yes case p0 row i y in
+    record {
+      before = z;
+      rows = nodes-sized case row i c p (nodes-yes case p0 row i y);
+      flows = flows-sized case p0 row i c a;
+      choices = choices-kept case row i (stations-yes case p0 row i y);
+      pipes = pipe-small case p0 row i c a;
+      nodes = node-small case row i c (balances-yes case p0 row i y);
+    }

@@ -1,0 +1,142 @@
+-- What an accepted case gives the judge of a plan: counts, sizes and rows that are there, by the laws of the case.
+-- Assumes nothing.
+use mathlib.Core.Path.{_≡_}
+use mathlib.Core.Bool.{Bool, true, false, cond}
+use mathlib.Core.List.{List}
+use Prim.Native.Nat.{ℕ, _+_, _<_, _≤_}
+use native.Mathlib.Omega.{arith}
+use lib.Dec.{eqb}
+use lib.IntN.{ℤ, pos, negsuc, natAbs}
+use lib.ListN.{length}
+use Rattle.numbers.specs.inside.SignedParts.{ints, size}
+use Rattle.numbers.specs.inside.SignedBounds.{Bounded}
+use Rattle.numbers.specs.law.Question.{firstNo}
+use Rattle.numbers.specs.law.Sets.{subsetOf}
+use Rattle.numbers.specs.declared.answer.Answer.the-variants.{Yes}
+use Rattle.case.specs.law.Layout.{nodesOf, arcsOf, stationsOf, stepsOf, massTolerance, pressureTolerance, nodeAt, nodeHeadWidth, arcAt, stationAt}
+use Rattle.case.specs.law.Records.{nodeOf, arcOf, pipeOf, artificialOf, stationOf, directionOf, stateOf}
+use Rattle.case.specs.law.Field.{mostFlow}
+use Rattle.case.specs.law.NodeFields.{leastDemand, mostDemand}
+use Rattle.case.specs.law.StationFields.{firstItems}
+use Rattle.case.specs.law.StationArcs.{belongs, stationArcs}
+use Rattle.case.specs.law.Judged.{listQuestions}
+use Rattle.case.specs.inside.Counts.{Counted}
+use Rattle.case.specs.inside.Ranges.{Between}
+use Rattle.case.specs.inside.AcceptedCase as laws
+use Rattle.plan.specs.law.Pipes.{duration}
+use Rattle.plan.specs.inside.Sizes.{NodeSized, PipeSized, MachinesSized}
+use Rattle.plan.specs.inside.Preconditions.{AcceptedCase}
+
+-- ---- from a range to a size
+
+sized : {low z high : ℤ} (n : ℕ) → Between low z high → natAbs low ≤ n → natAbs high ≤ n → Bounded z n
+sized {low} {z} {high} n r h k = record { bound = omega (ints, r .least, r .most, size low, size high, size z) }
+
+least-demand : (kind : ℕ) → natAbs (leastDemand kind) ≤ 10000000
+least-demand kind = go (eqb kind 2)
+  where
+    go : (b : Bool) → natAbs (cond b (negsuc 9999999) (pos 0)) ≤ 10000000
+    go true = omega arith
+    go false = omega arith
+
+most-demand : (kind : ℕ) → natAbs (mostDemand kind) ≤ 10000000
+most-demand kind = go (eqb kind 1)
+  where
+    go : (b : Bool) → natAbs (cond b mostFlow (pos 0)) ≤ 10000000
+    go true = omega arith
+    go false = omega arith
+
+module _ {case : List ℤ} (c : AcceptedCase case) where
+  pub list-yes : firstNo (listQuestions case) ≡ Yes
+  list-yes = laws.list-yes case (c .yes)
+
+  -- ---- the head, and times
+
+  pub counted : Counted case
+  counted = laws.counted case (c .yes)
+
+  pub head-there : 6 < length case
+  head-there = laws.head-there case (c .yes)
+
+  pub mass-sized : Bounded (massTolerance case) 1000000
+  mass-sized = laws.between-bounded (laws.mass-range case (c .yes))
+
+  pub tolerance-sized : Bounded (pressureTolerance case) 1000
+  tolerance-sized = laws.between-bounded (laws.pressure-range case (c .yes))
+
+  pub duration-sized : (i : ℕ) → i < stepsOf case → Bounded (duration case i) 86400
+  unfolding duration
+  duration-sized i p = sized 86400 (laws.step-range case (c .yes) i p) (omega arith) (omega arith)
+
+  -- ---- nodes
+
+  module _ (v : ℕ) (p : v < nodesOf case) where
+    pub node-sized : (i : ℕ) → i < stepsOf case → NodeSized (nodeOf case v i)
+    node-sized i q =
+        let r = laws.node-ranges case (c .yes) v i p q in
+        record {
+          p0 = laws.between-bounded (r .p0);
+          low = laws.between-bounded (r .low);
+          high = laws.between-bounded (r .high);
+          actlow = laws.between-bounded (r .actlow);
+          acthigh = laws.between-bounded (r .acthigh);
+          demand = sized 10000000 (r .demand) (least-demand (nodeOf case v i .kind)) (most-demand (nodeOf case v i .kind));
+        }
+
+    pub node-there : (i : ℕ) → i < stepsOf case → nodeAt case v + (nodeHeadWidth + i) < length case
+    node-there i q = laws.node-there case (c .yes) v i p q
+
+  -- ---- arcs
+
+  module _ (e : ℕ) (p : e < arcsOf case) where
+    pub arc-there : arcAt case e + 10 < length case
+    arc-there = laws.arc-there case (c .yes) e p
+
+    pub from-node : arcOf case e .from < nodesOf case
+    from-node = laws.arc-ranges case (c .yes) e p .from
+
+    pub to-node : arcOf case e .to < nodesOf case
+    to-node = laws.arc-ranges case (c .yes) e p .to
+
+    pub qmax-sized : Bounded (arcOf case e .qmax) 10000000
+    qmax-sized = laws.between-bounded (laws.arc-ranges case (c .yes) e p .qmax)
+
+    pub pipe-sized : arcOf case e .kind ≡ 2 → PipeSized (pipeOf case e)
+    pipe-sized k =
+        let r = laws.pipe-ranges case (c .yes) e p k in
+        record {
+          c = sized 100000000 (r .c) (omega arith) (omega arith);
+          f = laws.between-bounded (r .f);
+          g = laws.between-bounded (r .g);
+          h = sized 200000 (r .h) (omega arith) (omega arith);
+        }
+
+    module _ (k : 3 ≤ arcOf case e .kind) where
+      pub station-in : artificialOf case e .station < stationsOf case
+      station-in = laws.artificial-ranges case (c .yes) e p k .station
+
+      pub weight-in : artificialOf case e .weight ≤ 1000000
+      weight-in = laws.artificial-ranges case (c .yes) e p k .weight
+
+  -- ---- stations
+
+  module _ (s : ℕ) (p : s < stationsOf case) where
+    pub direction-weight : (f : ℕ) → f < stationOf case s .directions → directionOf case s f .weight ≤ 1000000
+    direction-weight f q = laws.direction-ranges case (c .yes) s f p q .weight
+
+    pub state-weight : (z : ℕ) → z < stationOf case s .states → stateOf case s z .weight ≤ 1000000
+    state-weight z q = laws.state-ranges case (c .yes) s z p q .weight
+
+    pub machines-sized : MachinesSized case (stationAt case s)
+    machines-sized = record {
+      count = laws.station-ranges case (c .yes) s p .machines;
+      flow = λ m q. laws.between-bounded (laws.machine-ranges case (c .yes) s m p q .flow);
+      ratio = λ m q. sized 10000 (laws.machine-ranges case (c .yes) s m p q .ratio) (omega arith) (omega arith);
+    }
+
+    pub station-size : stationArcs case s ≤ 30
+    station-size = laws.sized case (c .yes) .each s p
+
+    -- 17: the machines of the station's arcs are its own
+    pub own-machines : (e : ℕ) → e < arcsOf case → belongs case s e ≡ true → subsetOf (artificialOf case e .machines) (firstItems (stationOf case s .machines)) ≡ true
+    own-machines e q b = laws.machines-own case (c .yes) s e p q b

@@ -1,0 +1,176 @@
+-- The loop over the steps: what is gathered before the step with index i, and one turn.
+-- Assumes nothing.
+use mathlib.Core.Path.{_≡_, sym, ap, ap₂, _∙_, subst}
+use mathlib.Core.Bool.{_&&_}
+use mathlib.Core.List.{List}
+use Prim.Native.Nat.{ℕ, zero, suc, _+_, _*_, _-_, _<_, _≤_}
+use native.Mathlib.Nat.{mul-le-mul, mul-le-mul-right, add-sub-cancel-left}
+use native.Mathlib.Omega.{arith}
+use borrow.Author.Tests.{eqb-true}
+use lib.IntN.{ℤ, pos, natAbs, _+ℤ_}
+use lib.Dec.{eqb}
+use lib.ListN.{length, take, drop}
+use Rattle.numbers.specs.law.Question.{firstNo}
+use Rattle.numbers.specs.declared.answer.Answer.the-variants.{Yes}
+use Rattle.numbers.specs.inside.SignedBounds.{Bounded, abs-add}
+use Rattle.numbers.specs.law.Sums.{sum, sumN}
+use Rattle.case.specs.law.Layout.{numberAt, nodesOf, stepsOf}
+use Rattle.case.specs.inside.FieldLaws.{and-second}
+use Rattle.case.specs.law.LayoutOf.{Holds}
+use Rattle.plan.specs.declared.region.Gathered.{Gathered}
+use Rattle.plan.specs.law.PlanLayout.{stepWidth, stepAt, stepRow}
+use Rattle.plan.specs.law.PlanRecords.{pressureIn}
+use Rattle.plan.specs.law.BeforeStep.{startPressure, pressureAt}
+use Rattle.plan.specs.law.Compared.{same}
+use Rattle.plan.specs.law.PlanHead.{headKept}
+use Rattle.plan.specs.law.Step.{stepQuestions}
+use Rattle.plan.specs.inside.Sizes.{NodesSized}
+use Rattle.plan.specs.inside.Preconditions.{AcceptedCase}
+use Rattle.plan.specs.inside.CaseSizes.{counted, node-sized}
+use Rattle.plan.specs.inside.AnsweredSizes.{nodes-sized, flows-sized, choices-kept, pipe-small, node-small, nodes-yes, arcs-yes, stations-yes, balances-yes}
+use Rattle.plan.specs.claims.Acceptance.{PlanRules, rules-step}
+use Rattle.plan.specs.law.Region.{broughtIn, regionGas}
+use Rattle.plan.specs.law.RegionResidual.{regionResidual}
+use Rattle.plan.specs.law.RegionFigures.{broughtAt, residualAt, gasInside}
+use Rattle.plan.specs.inside.RegionBalance.{EndsAreNodes}
+use Rattle.plan.specs.inside.RegionPreconditions.{RegionPressures, RegionStep, RegionRoom, RegionAdded}
+use Rattle.plan.specs.inside.RegionSizes.{ends-nodes, brought-small, residual-small}
+use Rattle.plan.specs.inside.RegionSame.{gas-same, part-same, residual-same}
+
+-- before the step with index i: the pressures, and the sums over the steps from index s on
+pub record Gathering (case plan : List ℤ) (set : ℤ) (s i : ℕ) (g : Gathered) : Type 0 where
+  pub from : s ≤ i
+  pub held : Holds (pos 0) (g .pressures) (pressureAt case plan i) (nodesOf case)
+  pub brought : g .brought ≡ sum (i - s) (broughtAt case plan set s)
+  pub residual : g .residual ≡ sumN (i - s) (residualAt case plan set s)
+  pub brought-few : natAbs (g .brought) ≤ i * 259200000000000
+  pub residual-few : g .residual ≤ i * 180000000
+
+module _ {case plan : List ℤ} (r : PlanRules case plan) where
+  accepted-case : AcceptedCase case
+  accepted-case = record { yes = r .case-yes }
+
+  pub ends-of : EndsAreNodes case
+  ends-of = ends-nodes accepted-case
+
+  step-yes : (i : ℕ) → i < stepsOf case → firstNo (stepQuestions case (pressureAt case plan i) (stepRow case plan i) i) ≡ Yes
+  step-yes i l = rules-step case (pressureAt case plan i) (stepRow case plan i) i (r .steps i l)
+
+  rows-sized : (i : ℕ) → i < stepsOf case → NodesSized case (stepRow case plan i)
+  rows-sized i l = nodes-sized case (stepRow case plan i) i accepted-case l (nodes-yes case (pressureAt case plan i) (stepRow case plan i) i (step-yes i l))
+
+  -- the pressures at every time are in range
+  sized-at : (t : ℕ) → t ≤ stepsOf case → (u : ℕ) → u < nodesOf case → Bounded (pressureAt case plan t u) 200000
+  unfolding pressureAt
+  sized-at zero h u l = node-sized accepted-case u l 0 (omega (arith, counted accepted-case .some-step)) .p0
+  sized-at (suc i) h u l = rows-sized i (omega arith) .each u l .p
+
+  pub pressures-held : {p : List ℤ} (t : ℕ) → t ≤ stepsOf case → Holds (pos 0) p (pressureAt case plan t) (nodesOf case) → RegionPressures case p
+  pressures-held t h k = record {
+    accepted = accepted-case;
+    sized = record { each = λ u l. subst (λ (z : ℤ). Bounded z 200000) (sym (k .each u l)) (sized-at t h u l) };
+  }
+
+  -- the gas, by pressures that an array holds
+  pub gas-held : {p : List ℤ} (set : ℤ) (t : ℕ) → Holds (pos 0) p (pressureAt case plan t) (nodesOf case) → regionGas case set (numberAt p) ≡ gasInside case plan set t
+  unfolding gasInside
+  gas-held {p} set t k = gas-same case (numberAt p) (pressureAt case plan t) ends-of (k .each) set
+
+  -- a step, by pressures that an array holds
+  pub step-handed : {old : List ℤ} (i : ℕ) → i < stepsOf case → Holds (pos 0) old (pressureAt case plan i) (nodesOf case) → RegionStep case old (stepRow case plan i) i
+  step-handed {old} i l k =
+      let row = stepRow case plan i in
+      let p = pressureAt case plan i in
+      let y = step-yes i l in
+      let a = arcs-yes case p row i y in
+      record {
+        accepted = accepted-case;
+        step = l;
+        kept = record {
+          before = pressures-held i (omega arith) k .sized;
+          rows = rows-sized i l;
+          flows = flows-sized case p row i accepted-case a;
+          choices = choices-kept case row i (stations-yes case p row i y);
+          pipes = λ e q. subst (λ (n : ℕ). n ≤ 1000000) (sym (part-same case (numberAt old) p ends-of (k .each) row i e q)) (pipe-small case p row i accepted-case a e q);
+          nodes = node-small case row i accepted-case (balances-yes case p row i y);
+        };
+      }
+
+  pub room : {set : ℤ} {s i : ℕ} {g : Gathered} → Gathering case plan set s i g → i < stepsOf case → RegionRoom g
+  room h l =
+      let n = counted accepted-case in
+      record {
+        brought = record { bound = omega (arith, h .brought-few, n .steps) };
+        residual = omega (arith, h .residual-few, n .steps);
+      }
+
+  -- a turn
+  pub turn : {set : ℤ} {s i : ℕ} {g h : Gathered} {row : List ℤ} → Gathering case plan set s i g → i < stepsOf case → row ≡ stepRow case plan i
+      → RegionAdded case set row i g h → Gathering case plan set s (i + 1) h
+  unfolding sum sumN broughtAt residualAt pressureAt
+  turn {set} {s} {i} {g} {h} {row} k l e d =
+      let step = step-handed {old = g .pressures} i l (k .held) in
+      let count : i + 1 - s ≡ suc (i - s) = omega (arith, k .from) in
+      let here : s + (i - s) ≡ i = omega (arith, k .from) in
+      let next : i + 1 ≡ suc i = omega arith in
+      let b : h .brought ≡ g .brought +ℤ broughtIn case set (stepRow case plan i) i = subst (λ (x : List ℤ). h .brought ≡ g .brought +ℤ broughtIn case set x i) e (d .brought) in
+      let c : h .residual ≡ g .residual + regionResidual case set (numberAt (g .pressures)) (stepRow case plan i) i
+      = subst (λ (x : List ℤ). h .residual ≡ g .residual + regionResidual case set (numberAt (g .pressures)) x i) e (d .residual) in
+      let same = residual-same case (numberAt (g .pressures)) (pressureAt case plan i) ends-of (k .held .each) (stepRow case plan i) i set in
+      record {
+        from = omega (arith, k .from);
+        held = rw next (record { each = λ u q. d .pressures .each u q ∙ ap (λ (x : List ℤ). pressureIn x u) e });
+        brought = rw (count, here) (b ∙ ap (λ (z : ℤ). z +ℤ broughtIn case set (stepRow case plan i) i) (k .brought));
+        residual = rw (count, here) (c ∙ ap₂ _+_ (k .residual) same);
+        brought-few = omega (arith, ap natAbs b, abs-add (g .brought) (broughtIn case set (stepRow case plan i) i), brought-small step set, k .brought-few);
+        residual-few = omega (arith, c, residual-small step set, k .residual-few);
+      }
+
+pub gathering : {case plan : List ℤ} {set : ℤ} {s : ℕ} {p : List ℤ} → Holds (pos 0) p (pressureAt case plan s) (nodesOf case)
+    → Gathering case plan set s s (record { pressures = p; brought = pos 0; residual = 0 })
+unfolding sum sumN
+gathering {s = s} h =
+    let e : s - s ≡ 0 = omega arith in
+    record { from = omega arith; held = h; brought = rw e; residual = rw e; brought-few = omega arith; residual-few = omega arith }
+
+-- ---- the part of a step in the plan's list
+
+-- it lies within the list, and not far in
+pub record StepWithin (plan : List ℤ) (i width : ℕ) : Type 0 where
+  pub inside : 2 + i * width + width ≤ length plan
+  pub near : 2 + i * width + width ≤ 50000
+
+module _ {case plan : List ℤ} {width : ℕ} (r : PlanRules case plan) (wide : width ≡ stepWidth case) where
+  narrow : width ≤ 856
+  unfolding stepWidth
+  narrow = let n = counted (accepted-case r) in omega (arith, wide, n .nodes, n .arcs, n .stations)
+
+  long : length plan ≡ 2 + stepsOf case * width
+  unfolding headKept stepAt
+  long =
+      let h = and-second (same (numberAt plan 0) (pos 1)) (same (numberAt plan 1) (pos (stepsOf case)) && eqb (length plan) (stepAt case (stepsOf case))) (r .rule20) in
+      let e = eqb-true (length plan) (stepAt case (stepsOf case)) (and-second (same (numberAt plan 1) (pos (stepsOf case))) _ h) in
+      e ∙ ap (λ (w : ℕ). 2 + stepsOf case * w) (sym wide)
+
+  pub step-within : (i : ℕ) → i < stepsOf case → StepWithin plan i width
+  step-within i l =
+      let n = counted (accepted-case r) in
+      let a : suc i * width ≤ stepsOf case * width = mul-le-mul-right width l in
+      let b : stepsOf case * width ≤ 48 * 856 = mul-le-mul (n .steps) narrow in
+      record { inside = omega (arith, long); near = omega arith }
+
+  pub row-is : (i : ℕ) → take (2 + i * width + width - (2 + i * width)) (drop (2 + i * width) plan) ≡ stepRow case plan i
+  unfolding stepRow stepAt
+  row-is i = rw (add-sub-cancel-left (2 + i * width) width, wide)
+
+-- ---- the pressures at a time, as an array holds them
+
+pub pressures-first : (case plan : List ℤ) {p : List ℤ} {n t : ℕ} → n ≡ nodesOf case → t ≡ 0 → Holds (pos 0) p (startPressure case) n → Holds (pos 0) p (pressureAt case plan t) (nodesOf case)
+unfolding pressureAt
+pressures-first case plan e z h = rw (z, ← e) h
+
+pub pressures-after : (case plan : List ℤ) {p row : List ℤ} {n t : ℕ} → n ≡ nodesOf case → 0 < t → row ≡ stepRow case plan (t - 1) → Holds (pos 0) p (pressureIn row) n → Holds (pos 0) p (pressureAt case plan t) (nodesOf case)
+unfolding pressureAt
+pressures-after case plan {p} {row} {n} {t} e z q h =
+    let s : t ≡ suc (t - 1) = omega arith in
+    subst (λ (x : ℕ). Holds (pos 0) p (pressureAt case plan x) (nodesOf case)) (sym s) (record { each = λ u l. h .each u (omega (arith, e)) ∙ ap (λ (x : List ℤ). pressureIn x u) q })

@@ -1,0 +1,40 @@
+-- A region's gas and residual go by the pressures of nodes only: pressures that are the same at every node give the same.
+-- Assumes nothing.
+use mathlib.Core.Path.{_≡_, ap, ap₂}
+use mathlib.Core.List.{List}
+use Prim.Native.Nat.{ℕ, _+_, _<_}
+use lib.IntN.{ℤ, natAbs, _+ℤ_, _-ℤ_, _*ℤ_}
+use Rattle.numbers.specs.law.Sums.{only, onlyN}
+use Rattle.numbers.specs.inside.SumLaws.{sum-cong, sumN-cong}
+use Rattle.case.specs.law.Layout.{nodesOf, arcsOf}
+use Rattle.case.specs.law.Records.{arcOf, pipeOf}
+use Rattle.plan.specs.law.PlanRecords.{arcRow, pressureIn}
+use Rattle.plan.specs.law.Pipes.{duration, isPipe, pipeImbalance, pipeResidual}
+use Rattle.plan.specs.law.Totals.{pipePart}
+use Rattle.plan.specs.law.Region.{innerPipe, innerGas, regionGas}
+use Rattle.plan.specs.law.RegionResidual.{ownNodes, ownPipe, ownPipes, regionResidual}
+use Rattle.plan.specs.inside.RegionBalance.{EndsAreNodes}
+
+module _ (case : List ℤ) (p q : ℕ → ℤ) (ends : EndsAreNodes case) (same : (u : ℕ) → u < nodesOf case → p u ≡ q u) where
+  pub gas-same : (set : ℤ) → regionGas case set p ≡ regionGas case set q
+  unfolding regionGas innerGas
+  gas-same set =
+      sum-cong (arcsOf case) _ _ (λ e l. ap₂ (λ (x y : ℤ). only (innerPipe case set e) (pipeOf case e .c *ℤ (x +ℤ y)))
+      (same (arcOf case e .from) (ends .from-node e l)) (same (arcOf case e .to) (ends .to-node e l)))
+
+  module _ (row : List ℤ) (i : ℕ) where
+    pipe-same : (e : ℕ) → e < arcsOf case → pipeResidual case p row i e ≡ pipeResidual case q row i e
+    unfolding pipeResidual pipeImbalance
+    pipe-same e l =
+        ap₂ (λ (x y : ℤ).
+        natAbs (duration case i *ℤ (arcRow case row e .a -ℤ arcRow case row e .b)
+        -ℤ pipeOf case e .c *ℤ ((pressureIn row (arcOf case e .from) -ℤ x) +ℤ (pressureIn row (arcOf case e .to) -ℤ y))))
+        (same (arcOf case e .from) (ends .from-node e l)) (same (arcOf case e .to) (ends .to-node e l))
+
+    pub part-same : (e : ℕ) → e < arcsOf case → pipePart case p row i e ≡ pipePart case q row i e
+    unfolding pipePart
+    part-same e l = ap (onlyN (isPipe case e)) (pipe-same e l)
+
+    pub residual-same : (set : ℤ) → regionResidual case set p row i ≡ regionResidual case set q row i
+    unfolding regionResidual ownPipes ownPipe
+    residual-same set = ap (λ (n : ℕ). ownNodes case set row i + n) (sumN-cong (arcsOf case) _ _ (λ e l. ap (onlyN (innerPipe case set e)) (pipe-same e l)))

@@ -1,0 +1,126 @@
+-- How large what a step adds to the totals can be, and the parts of a cost by the code's tests.
+-- Assumes nothing.
+use mathlib.Core.Path.{_≡_, refl, sym, ap}
+use mathlib.Core.Bool.{Bool, true, false, not, _&&_}
+use mathlib.Core.List.{List}
+use Prim.Native.Nat.{ℕ, _+_, _*_, _<_, _≤_}
+use native.Mathlib.Omega.{arith}
+use borrow.Author.Tests.{leb-true, eqb-true, eq-eqb, ne-eqb}
+use lib.Dec.{eqb, leb}
+use lib.IntN.{ℤ, _+ℤ_, _*ℤ_}
+use Rattle.numbers.specs.inside.SignedBounds.{Bounded}
+use Rattle.numbers.specs.inside.SignedLocals.{Held, plain, _+ʳ_, _*ʳ_}
+use Rattle.numbers.specs.law.Sums.{only, onlyN}
+use Rattle.numbers.specs.inside.SumLaws.{abs-sum-le, sumN-bound}
+use Rattle.case.specs.law.Layout.{numberAt, nodesOf, arcsOf, stationsOf}
+use Rattle.case.specs.law.Records.{arcOf, pipeOf, artificialOf, directionOf, stateOf}
+use Rattle.plan.specs.law.PlanRecords.{directionIn, stateIn, activeIn}
+use Rattle.plan.specs.inside.Sizes.{NodesSized, PressuresSized}
+use Rattle.plan.specs.inside.Preconditions.{AcceptedCase, ChoicesKept, StepKept}
+use Rattle.plan.specs.inside.CaseSizes.{counted, from-node, to-node, pipe-sized, weight-in, direction-weight, state-weight}
+use Rattle.plan.specs.law.Pipes.{isPipe}
+use Rattle.plan.specs.law.Balance.{nodeResidual}
+use Rattle.plan.specs.law.Totals.{changed, pressureSlackAt, demandSlackAt, pressureSlackIn, demandSlackIn, directionCost, stateCost, activityCost, choiceCost, choiceCosts, activityPart, activityCosts, pipePart, pipeResiduals, nodeResiduals, gasPart}
+
+-- ---- a cost by the code's tests
+
+pub cost-same : {x was : ℕ} (w : ℕ) → x ≡ was → 0 ≡ onlyN (not (eqb x was)) w
+cost-same {x} {was} w e = ap (λ (b : Bool). onlyN (not b) w) (sym (eq-eqb x was e))
+
+pub cost-new : {x was : ℕ} (w : ℕ) → (x ≡ was → ⊥) → w ≡ onlyN (not (eqb x was)) w
+cost-new {x} {was} w n = ap (λ (b : Bool). onlyN (not b) w) (sym (ne-eqb x was n))
+
+pub both-yes : {a b : Bool} (w : ℕ) → a ≡ true → b ≡ true → w ≡ onlyN (a && b) w
+both-yes w p q = rw (p, q)
+
+pub first-no : {a : Bool} (b : Bool) (w : ℕ) → a ≡ false → 0 ≡ onlyN (a && b) w
+first-no b w p = rw p
+
+pub second-no : {a b : Bool} (w : ℕ) → a ≡ true → b ≡ false → 0 ≡ onlyN (a && b) w
+second-no w p q = rw (p, q)
+
+only-le : {n : ℕ} (b : Bool) (w : ℕ) → w ≤ n → onlyN b w ≤ n
+only-le true w h = h
+only-le false w h = omega arith
+
+sized : {z : ℤ} {n : ℕ} → Bounded z n → Held z z n
+sized h = plain (h .bound)
+
+-- ---- the parts
+
+module _ {case : List ℤ} (c : AcceptedCase case) where
+  pub gas-sized : {p : ℕ → ℤ} → PressuresSized p (nodesOf case) → (e : ℕ) → e < arcsOf case → Bounded (gasPart case p e) 40000000000000
+  unfolding gasPart
+  gas-sized {p} h e q = go (isPipe case e) refl
+    where
+      x : ℤ
+      x = pipeOf case e .c *ℤ (p (arcOf case e .from) +ℤ p (arcOf case e .to))
+
+      go : (b : Bool) → isPipe case e ≡ b → Bounded (only b x) 40000000000000
+      go true k =
+          let a = h .each (arcOf case e .from) (from-node c e q) in
+          let b = h .each (arcOf case e .to) (to-node c e q) in
+          let s = pipe-sized c e q (eqb-true (arcOf case e .kind) 2 k) .c in
+          record { bound = (sized s *ʳ (sized a +ʳ sized b)) .bound }
+      go false k = record { bound = omega arith }
+
+  pub activity-le : (was : Bool) (row : List ℤ) (e : ℕ) → e < arcsOf case → activityCost case was row e ≤ 1000000
+  unfolding activityCost
+  activity-le was row e q = go (leb 3 (arcOf case e .kind)) refl
+    where
+      go : (a : Bool) → leb 3 (arcOf case e .kind) ≡ a → onlyN (a && changed was (activeIn case row e)) (artificialOf case e .weight) ≤ 1000000
+      go true k = only-le (changed was (activeIn case row e)) (artificialOf case e .weight) (weight-in c e q (leb-true 3 (arcOf case e .kind) k))
+      go false k = omega arith
+
+  module _ {row : List ℤ} (h : ChoicesKept case row) (s : ℕ) (q : s < stationsOf case) where
+    pub direction-le : (was : ℕ) → directionCost case was row s ≤ 1000000
+    unfolding directionCost
+    direction-le was = only-le (not (eqb (directionIn case row s) was)) (directionOf case s (directionIn case row s) .weight) (direction-weight c s q (directionIn case row s) (h .direction s q))
+
+    pub state-le : (was : ℕ) → stateCost case was row s ≤ 1000000
+    unfolding stateCost
+    state-le was = only-le (not (eqb (stateIn case row s) was)) (stateOf case s (stateIn case row s) .weight) (state-weight c s q (stateIn case row s) (h .state s q))
+
+-- ---- the sums of a step
+
+module _ {case : List ℤ} (row : List ℤ) (c : AcceptedCase case) where
+  pub pressure-slack-sized : NodesSized case row → Bounded (pressureSlackIn case row) 48000000
+  unfolding pressureSlackIn pressureSlackAt
+  pressure-slack-sized h = record {
+    bound =
+        let b = abs-sum-le (nodesOf case) 800000 (pressureSlackAt row) (λ v q. let r = h .each v q in (sized (r .uplus) +ʳ sized (r .uminus)) .bound) in
+        omega (arith, b, counted c .nodes);
+  }
+
+  pub demand-slack-sized : NodesSized case row → Bounded (demandSlackIn case row) 1200000000
+  unfolding demandSlackIn demandSlackAt
+  demand-slack-sized h = record {
+    bound =
+        let b = abs-sum-le (nodesOf case) 20000000 (demandSlackAt row) (λ v q. let r = h .each v q in (sized (r .splus) +ʳ sized (r .sminus)) .bound) in
+        omega (arith, b, counted c .nodes);
+  }
+
+  pub choice-costs-le : ChoicesKept case row → (f z : ℕ → ℕ) → choiceCosts case f z row ≤ 16000000
+  unfolding choiceCosts choiceCost
+  choice-costs-le h f z =
+      let b = sumN-bound (stationsOf case) 2000000 (choiceCost case f z row) (λ s q. omega (arith, direction-le c h s q (f s), state-le c h s q (z s))) in
+      omega (arith, b, counted c .stations)
+
+  pub activity-costs-le : (was : ℕ → Bool) → activityCosts case was row ≤ 120000000
+  unfolding activityCosts
+  activity-costs-le was =
+      let b = sumN-bound (arcsOf case) 1000000 (activityPart case was row) (λ e q. activity-le c (was e) row e q) in
+      omega (arith, b, counted c .arcs)
+
+  module _ {old : List ℤ} {i : ℕ} (k : StepKept case old row i) where
+    pub pipe-residuals-le : pipeResiduals case (numberAt old) row i ≤ 120000000
+    unfolding pipeResiduals
+    pipe-residuals-le =
+        let b = sumN-bound (arcsOf case) 1000000 (pipePart case (numberAt old) row i) (k .pipes) in
+        omega (arith, b, counted c .arcs)
+
+    pub node-residuals-le : nodeResiduals case row i ≤ 60000000
+    unfolding nodeResiduals
+    node-residuals-le =
+        let b = sumN-bound (nodesOf case) 1000000 (nodeResidual case row i) (k .nodes) in
+        omega (arith, b, counted c .nodes)

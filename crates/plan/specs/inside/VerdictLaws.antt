@@ -1,0 +1,149 @@
+-- From the answer on a case to the verdict, over plain lists.
+-- Assumes nothing.
+use mathlib.Core.Path.{_≡_, refl, ap, sym, _∙_}
+use mathlib.Core.Bool.{Bool, true, false}
+use mathlib.Core.List.{List, [], _∷_}
+use Prim.Native.Nat.{ℕ, _+_, _*_}
+use native.Mathlib.Omega.{arith}
+use borrow.Author.Tests.{eqb-true}
+use lib.Dec.{eqb}
+use lib.IntN.{ℤ, pos, natAbs}
+use lib.ListN.{length, getD, take, drop}
+use lib.Seq.{take-at}
+use Rattle.numbers.specs.law.Told.{Told, gives, refuses, overlay}
+use Rattle.numbers.specs.law.Question.{firstNo, told}
+use Rattle.numbers.specs.inside.QuestionLaws.{firstNo-append, told-same}
+use Rattle.numbers.specs.law.Reading.{Ending, all, no, readOf, endTold, readTold}
+use Rattle.numbers.specs.declared.answer.Answer.{Answer}
+use Rattle.numbers.specs.declared.answer.Answer.the-variants.{Yes, No}
+use Rattle.case.specs.law.Layout.{numberAt, stepsOf}
+use Rattle.case.specs.inside.FieldLaws.{and-second}
+use Rattle.case.specs.law.Judged.{caseQuestions, judgedCase}
+use Rattle.case.specs.declared.records.Layout.{Layout}
+use Rattle.case.specs.law.LayoutOf.{Laid}
+use Rattle.plan.specs.law.Compared.{same}
+use Rattle.plan.specs.inside.Preconditions.{PlanLaid}
+use Rattle.plan.specs.law.PlanLayout.{stepAt, stepWidth}
+use Rattle.plan.specs.law.PlanHead.{headKept}
+use Rattle.plan.specs.law.Totals.{totalsOf}
+use Rattle.plan.specs.law.Judged.{planStep, planQuestions, questions, verdictOf, verdictTold, judgeOf}
+use Rattle.plan.specs.law.JudgedBytes.{planBytesTold, planNumber, caseBytesTold, bytesTold, planListAfter, planListOf}
+use Rattle.plan.specs.declared.verdict.Verdict.{Verdict}
+use Rattle.plan.specs.declared.verdict.Verdict.the-variants.{Refused}
+use Rattle.numbers.specs.law.Items.{over}
+
+-- the answer that was told is the first no of the case's questions
+pub case-answer : (case : List ℤ) (a : Answer) → told a ≡ judgedCase case → firstNo (caseQuestions case) ≡ a
+unfolding judgedCase
+case-answer case a e = sym (told-same a (firstNo (caseQuestions case)) e)
+
+module _ (case plan : List ℤ) where
+  -- ---- 20
+
+  pub head-length : (l : Layout) → Laid case l → 2 + l .steps * (l .nodes * 6 + l .arcs * 4 + l .stations * 2) ≡ stepAt case (stepsOf case)
+  unfolding stepAt stepWidth
+  head-length l d = rw (d .steps, d .nodes, d .arcs, d .stations)
+
+  pub head-yes : {a b : Bool} → a ≡ same (numberAt plan 0) (pos 1) → b ≡ same (numberAt plan 1) (pos (stepsOf case)) → a ≡ true → b ≡ true → eqb (length plan) (stepAt case (stepsOf case)) ≡ headKept case plan
+  unfolding headKept
+  head-yes e d h k = rw (sym e ∙ h, sym d ∙ k)
+
+  pub head-second : {a b : Bool} → a ≡ same (numberAt plan 0) (pos 1) → b ≡ same (numberAt plan 1) (pos (stepsOf case)) → a ≡ true → b ≡ false → false ≡ headKept case plan
+  unfolding headKept
+  head-second e d h k = rw (sym e ∙ h, sym d ∙ k)
+
+  pub head-first : {a : Bool} → a ≡ same (numberAt plan 0) (pos 1) → a ≡ false → false ≡ headKept case plan
+  unfolding headKept
+  head-first e h = rw (sym e ∙ h)
+
+  pub plan-laid : headKept case plan ≡ true → PlanLaid case plan
+  unfolding headKept
+  plan-laid h = record {
+    long = eqb-true _ _ (and-second (same (numberAt plan 1) (pos (stepsOf case))) _ (and-second (same (numberAt plan 0) (pos 1)) _ h));
+  }
+
+  pub head-refused : headKept case plan ≡ false → Refused 20 0 0 ≡ verdictOf (firstNo (planQuestions case plan)) (totalsOf case plan)
+  unfolding planQuestions
+  head-refused h = rw h
+
+  pub head-passed : {r : Verdict} → headKept case plan ≡ true → r ≡ verdictOf (firstNo (over (planStep case plan) 0 (stepsOf case))) (totalsOf case plan) → r ≡ verdictOf (firstNo (planQuestions case plan)) (totalsOf case plan)
+  unfolding planQuestions
+  head-passed h e = rw h e
+
+  -- ---- the verdict on two lists
+
+  pub judge-yes : firstNo (caseQuestions case) ≡ Yes → {r : Verdict} → r ≡ verdictOf (firstNo (planQuestions case plan)) (totalsOf case plan) → verdictTold r ≡ judgeOf case plan
+  unfolding judgeOf questions
+  judge-yes y e = ap verdictTold e ∙ rw (firstNo-append, y)
+
+  pub judge-no : {n s p : ℕ} → firstNo (caseQuestions case) ≡ No n s p → refuses n s p ≡ judgeOf case plan
+  unfolding judgeOf questions
+  judge-no e = rw (firstNo-append, e)
+
+-- ---- what is told of a reading tells how it ended
+
+module _ (bytes : List ℕ) (room : ℕ) where
+  pub record ReadAll (count : ℕ) : Type 0 where
+    pub ended : readOf bytes room .ended ≡ all
+    pub counted : count ≡ length (readOf bytes room .stored)
+
+  pub read-all : {count : ℕ} → gives (pos count ∷ []) ≡ readTold (readOf bytes room) → ReadAll count
+  unfolding readTold
+  read-all {count} e = go (readOf bytes room .ended) refl e
+    where
+      go : (d : Ending) → readOf bytes room .ended ≡ d → gives (pos count ∷ []) ≡ endTold d (length (readOf bytes room .stored)) → ReadAll count
+      go all h e = record { ended = h; counted = ap (λ (t : Told). natAbs (getD (t .values) 0 (pos 0))) e }
+      go (no n p) h e = let v = ap (λ (t : Told). length (t .values)) e in let f : ⊥ = omega arith in absurd f
+
+  pub read-no : {n p : ℕ} → refuses n 0 p ≡ readTold (readOf bytes room) → readOf bytes room .ended ≡ no n p
+  unfolding readTold
+  read-no {n} {p} e = go (readOf bytes room .ended) refl e
+    where
+      go : (d : Ending) → readOf bytes room .ended ≡ d → refuses n 0 p ≡ endTold d (length (readOf bytes room .stored)) → readOf bytes room .ended ≡ no n p
+      go all h e = let v = ap (λ (t : Told). length (t .values)) e in let f : ⊥ = omega arith in absurd f
+      go (no m q) h e =
+          let a : n ≡ m = ap (λ (t : Told). t .number) e in
+          let b : p ≡ q = ap (λ (t : Told). natAbs (getD (t .values) 1 (pos 0))) e in
+          h ∙ rw (a, b)
+
+  -- the numbers that were read are the front of the list
+  pub read-front : {count : ℕ} (old list : List ℤ) → ReadAll count → list ≡ overlay (readOf bytes room .stored) old → take count list ≡ readOf bytes room .stored
+  read-front {count} old list r e = rw e (take-at (readOf bytes room .stored) (drop (length (readOf bytes room .stored)) old) count (sym (r .counted)))
+
+-- ---- the verdict on two byte strings
+
+module _ (case : List ℤ) (planBytes : List ℕ) (room : ℕ) where
+  pub plan-read : {count : ℕ} (list : List ℤ) {r : Verdict} → firstNo (caseQuestions case) ≡ Yes → ReadAll planBytes room count → take count list ≡ readOf planBytes room .stored
+      → r ≡ verdictOf (firstNo (planQuestions case (take count list))) (totalsOf case (take count list)) → verdictTold r ≡ planBytesTold case planBytes room
+  unfolding planBytesTold
+  plan-read {count} list y a e h = judge-yes case (take count list) y h ∙ rw (e, a .ended)
+
+  pub plan-unread : {n p m : ℕ} → readOf planBytes room .ended ≡ no n p → m ≡ planNumber n → refuses m 0 p ≡ planBytesTold case planBytes room
+  unfolding planBytesTold
+  plan-unread e d = rw (d, e)
+
+module _ (case : List ℤ) (planBytes : List ℕ) (list : List ℤ) where
+  pub case-passed : {t : Told} → firstNo (caseQuestions case) ≡ Yes → t ≡ planBytesTold case planBytes (length list) → t ≡ caseBytesTold case planBytes (length list)
+  unfolding caseBytesTold
+  case-passed y e = rw y e
+
+  pub list-reached : {new : List ℤ} → firstNo (caseQuestions case) ≡ Yes → new ≡ overlay (readOf planBytes (length list) .stored) list → new ≡ planListAfter case planBytes list
+  unfolding planListAfter
+  list-reached y e = rw y e
+
+  pub case-stopped : {n s p : ℕ} → firstNo (caseQuestions case) ≡ No n s p → (refuses n s p ≡ caseBytesTold case planBytes (length list)) × (list ≡ planListAfter case planBytes list)
+  unfolding caseBytesTold planListAfter
+  case-stopped e = (rw e, rw e)
+
+module _ (caseBytes planBytes : List ℕ) (room : ℕ) (list : List ℤ) where
+  pub case-read : {front : List ℤ} {t : Told} → readOf caseBytes room .ended ≡ all → front ≡ readOf caseBytes room .stored → t ≡ caseBytesTold front planBytes (length list) → t ≡ bytesTold caseBytes planBytes room (length list)
+  unfolding bytesTold
+  case-read a e h = h ∙ rw (e, a)
+
+  pub list-of : {front new : List ℤ} → readOf caseBytes room .ended ≡ all → front ≡ readOf caseBytes room .stored → new ≡ planListAfter front planBytes list → new ≡ planListOf caseBytes planBytes room list
+  unfolding planListOf
+  list-of a e h = h ∙ rw (e, a)
+
+  pub case-unread : {n p : ℕ} → readOf caseBytes room .ended ≡ no n p → (refuses n 0 p ≡ bytesTold caseBytes planBytes room (length list)) × (list ≡ planListOf caseBytes planBytes room list)
+  unfolding bytesTold planListOf
+  case-unread e = (rw e, rw e)

@@ -1,0 +1,207 @@
+-- The numbers of a verdict, of the answer on two byte strings and of the ledger fit what an export hands on.
+-- Assumes nothing.
+use mathlib.Core.Path.{_≡_, refl, ap, sym, subst, _∙_}
+use mathlib.Core.Bool.{Bool, true, false, cond}
+use mathlib.Core.List.{List, [], _∷_}
+use Prim.Native.Nat.{ℕ, _+_, _*_, _<_, _≤_, _^_}
+use native.Mathlib.Nat.{mul-le-mul}
+use native.Mathlib.Omega.{arith}
+use lib.IntN.{ℤ, pos, natAbs, _-ℤ_, _*ℤ_}
+use lib.Dec.{eqb}
+use lib.ListN.{length, getD}
+use lib.Signed.{_≤ℤ_}
+use Rattle.numbers.specs.law.Told.{Told, refuses}
+use Rattle.numbers.specs.law.Question.{firstNo}
+use Rattle.numbers.specs.inside.QuestionLaws.{all-yes}
+use Rattle.numbers.specs.law.Sets.{memberOf, countOf}
+use Rattle.numbers.specs.law.Signed.{posPart}
+use Rattle.numbers.specs.inside.SignedParts.{ints, taken, size}
+use Rattle.numbers.specs.inside.SignedBounds.{abs-mul}
+use Rattle.numbers.specs.law.Items.{over}
+use Rattle.numbers.specs.inside.SmallRefusals.{Small}
+use Rattle.numbers.specs.law.Reading.{Ending, all, no, readOf, readTold}
+use Rattle.numbers.specs.inside.ReadingBounds.{refusal-within}
+use Rattle.numbers.specs.inside.SumLaws.{sumN-bound}
+use Rattle.numbers.specs.law.Sums.{onlyN, count}
+use Rattle.numbers.specs.declared.answer.Answer.{Answer}
+use Rattle.numbers.specs.declared.answer.Answer.the-variants.{Yes, No}
+use Rattle.case.specs.law.Layout.{nodesOf, arcsOf, stepsOf, massTolerance}
+use Rattle.case.specs.inside.FieldLaws.{first-yes, second-yes, item-yes}
+use Rattle.case.specs.law.Judged.{caseQuestions}
+use Rattle.case.specs.inside.SmallRefusals.{limit, case-small}
+use Rattle.plan.specs.inside.Preconditions.{AcceptedCase}
+use Rattle.plan.specs.inside.CaseSizes.{counted, mass-sized}
+use Rattle.plan.specs.inside.AnsweredSizes.{arcs-yes, stations-yes, balances-yes, choices-kept, pipe-small, node-small}
+use Rattle.plan.specs.law.PlanLayout.{stepRow}
+use Rattle.plan.specs.law.BeforeStep.{pressureAt, activeAt, directionAt, stateAt}
+use Rattle.plan.specs.law.PlanHead.{headQuestion}
+use Rattle.plan.specs.law.Step.{stepQuestions}
+use Rattle.plan.specs.law.Balance.{nodeResidual}
+use Rattle.plan.specs.law.Totals.{stepSwitching, stepResidual, pipePart, pipeResiduals, nodeResiduals, totalsTo, totalsOf}
+use Rattle.plan.specs.law.Judged.{planStep, planQuestions, questions, verdictOf, verdictTold, judgeOf}
+use Rattle.plan.specs.law.JudgedBytes.{planNumber, planEnding, planBytesTold, caseAnswer, caseBytesTold, caseEnding, bytesTold}
+use Rattle.plan.specs.law.Region.{innerPipe, innerPipes}
+use Rattle.plan.specs.law.RegionFigures.{figuresOf}
+use Rattle.plan.specs.inside.RegionSet.{nodes-counted}
+use Rattle.plan.specs.claims.Demand3.{times-of, region-balanced}
+use Rattle.plan.specs.law.Ledger.{regionQuestions, ledgerQuestions, ledgerBy, ledgerTold, ledgerOf}
+use Rattle.plan.specs.inside.SmallRefusals.{judge-small, ledger-small}
+use Rattle.plan.specs.declared.verdict.Verdict.{Verdict}
+use Rattle.plan.specs.declared.verdict.Verdict.the-variants.{Accepted, Refused}
+use Rattle.plan.specs.declared.figures.Figures.{Figures}
+use Rattle.plan.specs.declared.figures.Ledger.{Ledger}
+use Rattle.plan.specs.declared.figures.Ledger.the-variants.{Given}
+use Rattle.plan.specs.declared.figures.Ledger.the-variants as stopped
+use Rattle.plan.specs.inside.StepSizes.{choice-costs-le, activity-costs-le}
+
+-- the counts of a verdict are below b
+abbrev pub Fit : ℕ → Verdict → Type 0
+Fit b (Accepted t) = (t .switching < b) × (t .residual < b)
+Fit b (Refused n s p) = (n < b) × (s < b) × (p < b)
+
+module _ (case plan : List ℤ) (y : firstNo (questions case plan) ≡ Yes) where
+  accepted : AcceptedCase case
+  unfolding questions
+  accepted = record { yes = first-yes (caseQuestions case) (planQuestions case plan) y }
+
+  step-yes : (i : ℕ) → i < stepsOf case → firstNo (stepQuestions case (pressureAt case plan i) (stepRow case plan i) i) ≡ Yes
+  unfolding questions planQuestions planStep
+  step-yes i l = item-yes (planStep case plan) (stepsOf case) (second-yes (headQuestion case plan ∷ []) (over (planStep case plan) 0 (stepsOf case)) (second-yes (caseQuestions case) (planQuestions case plan) y)) i l
+
+  switching-small : totalsOf case plan .switching ≤ 6528000000
+  unfolding totalsOf totalsTo stepSwitching
+  switching-small =
+      let b = sumN-bound (stepsOf case) 136000000 (stepSwitching case plan) (λ i l.
+      let row = stepRow case plan i in
+      omega (arith, choice-costs-le row accepted (choices-kept case row i (stations-yes case (pressureAt case plan i) row i (step-yes i l))) (directionAt case plan i) (stateAt case plan i), activity-costs-le row accepted (activeAt case plan i))) in
+      omega (arith, b, counted accepted .steps)
+
+  residual-small : totalsOf case plan .residual ≤ 8640000000
+  unfolding totalsOf totalsTo stepResidual pipeResiduals nodeResiduals
+  residual-small =
+      let b = sumN-bound (stepsOf case) 180000000 (stepResidual case plan) (λ i l.
+      let old = pressureAt case plan i in
+      let row = stepRow case plan i in
+      let p = sumN-bound (arcsOf case) 1000000 (pipePart case old row i) (pipe-small case old row i accepted (arcs-yes case old row i (step-yes i l))) in
+      let n = sumN-bound (nodesOf case) 1000000 (nodeResidual case row i) (node-small case row i accepted (balances-yes case old row i (step-yes i l))) in
+      omega (arith, p, n, counted accepted .arcs, counted accepted .nodes)) in
+      omega (arith, b, counted accepted .steps)
+
+-- ---- the verdict on two lists
+
+refused-same : {n s p m t q : ℕ} → refuses n s p ≡ refuses m t q → (n ≡ m) × (s ≡ t) × (p ≡ q)
+refused-same e = (ap (λ (x : Told). x .number) e, ap (λ (x : Told). natAbs (getD (x .values) 0 (pos 0))) e, ap (λ (x : Told). natAbs (getD (x .values) 1 (pos 0))) e)
+
+values : Told → ℕ
+values t = length (t .values)
+
+at : Told → ℕ → ℕ
+at t i = natAbs (getD (t .values) i (pos 0))
+
+module _ (case plan : List ℤ) where
+  pub judge-fits : (v : Verdict) → verdictTold v ≡ judgeOf case plan → Fit (2 ^ 63) v
+  unfolding judgeOf values at
+  judge-fits v e = go (firstNo (questions case plan)) refl (judge-small case plan) v e
+    where
+      go : (a : Answer) → firstNo (questions case plan) ≡ a → Small limit a → (v : Verdict) → verdictTold v ≡ verdictTold (verdictOf a (totalsOf case plan)) → Fit (2 ^ 63) v
+      go Yes y s (Accepted t) e =
+          (omega (arith, ap (λ (x : Told). at x 2) e, switching-small case plan y), omega (arith, ap (λ (x : Told). at x 3) e, residual-small case plan y))
+      go Yes y s (Refused n t p) e = let f : ⊥ = omega (arith, ap values e) in absurd f
+      go (No m u q) y s (Accepted t) e = let f : ⊥ = omega (arith, ap values e) in absurd f
+      go (No m u q) y s (Refused n t p) e = let k = refused-same e in (omega (arith, k .0, s .0), omega (arith, k .1, s .1), omega (arith, k .2, s .2))
+
+-- ---- the verdict on two byte strings
+
+fit-refused : (v : Verdict) {n s p : ℕ} → verdictTold v ≡ refuses n s p → n < 2 ^ 63 → s < 2 ^ 63 → p < 2 ^ 63 → Fit (2 ^ 63) v
+unfolding values
+fit-refused (Accepted t) e h k l = let f : ⊥ = omega (arith, ap values e) in absurd f
+fit-refused (Refused m t q) e h k l = let r = refused-same e in (omega (arith, r .0), omega (arith, r .1), omega (arith, r .2))
+
+unread-small : (bytes : List ℕ) (room : ℕ) {n p : ℕ} → readOf bytes room .ended ≡ no n p → (n ≤ 3) × (p < length bytes)
+unfolding readTold
+unread-small bytes room {n} {p} e = refusal-within bytes room n p (rw e)
+
+plan-number-small : (n : ℕ) → planNumber n ≤ 7
+plan-number-small n = go (eqb n 1) (eqb n 2)
+  where
+    go : (a b : Bool) → cond a 5 (cond b 6 7) ≤ 7
+    go true b = omega arith
+    go false true = omega arith
+    go false false = omega arith
+
+module _ (planBytes : List ℕ) (room : ℕ) (short : length planBytes < 2 ^ 63) where
+  plan-bytes-fit : (case : List ℤ) (v : Verdict) → verdictTold v ≡ planBytesTold case planBytes room → Fit (2 ^ 63) v
+  unfolding planBytesTold
+  plan-bytes-fit case v e = go (readOf planBytes room .ended) refl e
+    where
+      go : (d : Ending) → readOf planBytes room .ended ≡ d → verdictTold v ≡ planEnding d (judgeOf case (readOf planBytes room .stored)) → Fit (2 ^ 63) v
+      go all h e = judge-fits case (readOf planBytes room .stored) v e
+      go (no n p) h e = let w = unread-small planBytes room h in fit-refused v e (omega (arith, plan-number-small n)) (omega arith) (omega (arith, w .1))
+
+  case-list-fit : (case : List ℤ) (v : Verdict) → verdictTold v ≡ caseBytesTold case planBytes room → Fit (2 ^ 63) v
+  unfolding caseBytesTold
+  case-list-fit case v e = go (firstNo (caseQuestions case)) (case-small case) e
+    where
+      go : (a : Answer) → Small limit a → verdictTold v ≡ caseAnswer a (planBytesTold case planBytes room) → Fit (2 ^ 63) v
+      go Yes s e = plan-bytes-fit case v e
+      go (No n t p) s e = fit-refused v e (omega (arith, s .0)) (omega (arith, s .1)) (omega (arith, s .2))
+
+  pub bytes-fit : (caseBytes : List ℕ) (caseRoom : ℕ) → length caseBytes < 2 ^ 63 → (v : Verdict) → verdictTold v ≡ bytesTold caseBytes planBytes caseRoom room → Fit (2 ^ 63) v
+  unfolding bytesTold
+  bytes-fit caseBytes caseRoom small v e = go (readOf caseBytes caseRoom .ended) refl e
+    where
+      go : (d : Ending) → readOf caseBytes caseRoom .ended ≡ d → verdictTold v ≡ caseEnding d (caseBytesTold (readOf caseBytes caseRoom .stored) planBytes room) → Fit (2 ^ 63) v
+      go all h e = case-list-fit (readOf caseBytes caseRoom .stored) v e
+      go (no n p) h e = let w = unread-small caseBytes caseRoom h in fit-refused v e (omega (arith, w .0)) (omega arith) (omega (arith, w .1))
+
+-- ---- the ledger
+
+abbrev pub FitLedger : ℕ → Ledger → Type 0
+FitLedger b (Given f) = (f .nodes < b) × (f .pipes < b) × (f .residual < b)
+FitLedger b (stopped.Refused n s p) = (n < b) × (s < b) × (p < b)
+
+count-most : (k : ℕ) (w : ℕ → Bool) → count k w ≤ k
+unfolding count
+count-most k w = let b = sumN-bound k 1 (λ i. onlyN (w i) 1) (λ i l. one (w i)) in omega (arith, b)
+  where
+    one : (x : Bool) → onlyN x 1 ≤ 1
+    one true = omega arith
+    one false = omega arith
+
+module _ (case plan : List ℤ) (set s t : ℤ) where
+  -- the figures of a region of an accepted plan
+  figures-fit : firstNo (ledgerQuestions case plan set s t) ≡ Yes → FitLedger (2 ^ 63) (Given (figuresOf case plan set (posPart s) (posPart t)))
+  unfolding ledgerQuestions regionQuestions judgeOf innerPipes figuresOf
+  figures-fit y =
+      let j = first-yes (questions case plan) (regionQuestions case set s t) y in
+      let r = all-yes (regionQuestions case set s t) (second-yes (questions case plan) (regionQuestions case set s t) y) in
+      let c = counted (accepted case plan j) in
+      let told : judgeOf case plan ≡ verdictTold (Accepted (totalsOf case plan)) = rw j in
+      let k = times-of case s t (r .1 .0) in
+      let b = region-balanced case plan set s t (totalsOf case plan) told (r .0) (r .1 .0) in
+      let g : Given (figuresOf case plan set (posPart s) (posPart t)) ≡ Given (b .figures) = sym (ap (λ (w : Answer). ledgerBy w (figuresOf case plan set (posPart s) (posPart t))) y) ∙ b .given in
+      let f : figuresOf case plan set (posPart s) (posPart t) ≡ b .figures = cc in
+      let h = subst (λ (w : Figures). pos (w .residual) ≤ℤ (pos (w .nodes + w .pipes) *ℤ (t -ℤ s) *ℤ massTolerance case)) (sym f) (b .bound) in
+      let n : countOf set ≤ 60 = omega (arith, nodes-counted case set (r .0), count-most (nodesOf case) (memberOf set), c .nodes) in
+      let p : innerPipes case set ≤ 120 = omega (arith, count-most (arcsOf case) (innerPipe case set), c .arcs) in
+      let m = mass-sized (accepted case plan j) .bound in
+      let d : natAbs (t -ℤ s) ≤ 48 = omega (ints, k .first, k .order, k .last, size s, size t, taken t s, size (t -ℤ s), c .steps) in
+      let x = pos (countOf set + innerPipes case set) in
+      let a : natAbs (x *ℤ (t -ℤ s) *ℤ massTolerance case) ≤ 180 * 48 * 1000000 =
+      rw (abs-mul (x *ℤ (t -ℤ s)) (massTolerance case), abs-mul x (t -ℤ s)) (mul-le-mul (mul-le-mul (sum-le n p) d) m) in
+      (omega (arith, n), omega (arith, p), omega (ints, h, a, size (x *ℤ (t -ℤ s) *ℤ massTolerance case)))
+    where
+      sum-le : {a b : ℕ} → a ≤ 60 → b ≤ 120 → a + b ≤ 180
+      sum-le h k = omega (arith, h, k)
+
+  pub ledger-fits : (v : Ledger) → ledgerTold v ≡ ledgerOf case plan set s t → FitLedger (2 ^ 63) v
+  unfolding ledgerOf values at
+  ledger-fits v e = go (firstNo (ledgerQuestions case plan set s t)) refl (ledger-small case plan set s t) v e
+    where
+      go : (a : Answer) → firstNo (ledgerQuestions case plan set s t) ≡ a → Small limit a → (v : Ledger) → ledgerTold v ≡ ledgerTold (ledgerBy a (figuresOf case plan set (posPart s) (posPart t))) → FitLedger (2 ^ 63) v
+      go Yes y w (Given f) e =
+          let k = figures-fit y in
+          (omega (arith, ap (λ (x : Told). at x 0) e, k .0), omega (arith, ap (λ (x : Told). at x 1) e, k .1), omega (arith, ap (λ (x : Told). at x 5) e, k .2))
+      go Yes y w (stopped.Refused n u p) e = let f : ⊥ = omega (arith, ap values e) in absurd f
+      go (No m i q) y w (Given g) e = let f : ⊥ = omega (arith, ap values e) in absurd f
+      go (No m i q) y w (stopped.Refused n u p) e = let k = refused-same e in (omega (arith, k .0, w .0), omega (arith, k .1, w .1), omega (arith, k .2, w .2))

@@ -1,0 +1,97 @@
+-- 30 to 32, of one station in one step.
+-- Assumes nothing.
+use mathlib.Core.Bool.{Bool, cond, not, _&&_, _||_}
+use mathlib.Core.List.{List, [], _∷_}
+use Prim.Native.Nat.{ℕ}
+use lib.Dec.{eqb, leb, ltb}
+use lib.IntN.{ℤ, pos, _-ℤ_}
+use lib.Signed.{leZ}
+use Rattle.numbers.specs.law.Question.{Question}
+use Rattle.numbers.specs.law.Items.{over}
+use Rattle.numbers.specs.law.Signed.{posPart}
+use Rattle.numbers.specs.law.Sets.{memberOf, subsetOf, disjointOf}
+use Rattle.numbers.specs.law.Sums.{sum, only, count}
+use Rattle.case.specs.declared.records.Direction.{Direction}
+use Rattle.case.specs.declared.records.State.{State}
+use Rattle.case.specs.law.Layout.{nodesOf, arcsOf, stationsOf}
+use Rattle.case.specs.law.Records.{arcOf, stationOf, directionOf, stateOf}
+use Rattle.case.specs.law.StationArcs.{belongs, arcSet, every}
+use Rattle.case.specs.law.StationNodes.{stationNodes, plainNodes}
+use Rattle.plan.specs.law.Compared.{isZero, asked}
+use Rattle.plan.specs.law.PlanRecords.{arcRow, choiceOf, activeIn, directionIn, stateIn}
+
+-- ---- 30: "Are direction and state in range, does the state support the direction, are all on arcs active and no off arc?"
+
+-- one of n items
+abbrev pub oneOf : ℤ → ℕ → Bool
+oneOf x n = leZ (pos 0) x && ltb (posPart x) n
+
+-- the station's arcs that are active in the step
+unfoldable pub activeSet : List ℤ → List ℤ → ℕ → ℤ
+activeSet case row s = pos (arcSet case s (activeIn case row) (arcsOf case))
+
+-- what a state asks of the direction f and of the active arcs
+unfoldable pub obeyed : State → ℕ → ℤ → Bool
+obeyed z f active = memberOf (z .directions) f && (subsetOf (z .on) active && disjointOf (z .off) active)
+
+abbrev pub stateObeyed : List ℤ → List ℤ → ℕ → ℕ → ℕ → Bool
+stateObeyed case row s f z = obeyed (stateOf case s z) f (activeSet case row s)
+
+unfoldable pub choiceKept : List ℤ → List ℤ → ℕ → Bool
+choiceKept case row s =
+    oneOf (choiceOf case row s .direction) (stationOf case s .directions)
+    && (oneOf (choiceOf case row s .state) (stationOf case s .states)
+    && stateObeyed case row s (directionIn case row s) (stateIn case row s))
+
+-- ---- 31: "Is each machine on at most one arc?"
+
+-- is machine m on arc e?
+abbrev pub onArc : List ℤ → List ℤ → ℕ → ℕ → ℕ → Bool
+onArc case row s m e = belongs case s e && memberOf (arcRow case row e .machines) m
+
+abbrev pub machineOnce : List ℤ → List ℤ → ℕ → ℕ → Bool
+machineOnce case row s m = leb (count (arcsOf case) (onArc case row s m)) 1
+
+unfoldable pub machinesOnce : List ℤ → List ℤ → ℕ → Bool
+machinesOnce case row s = every (stationOf case s .machines) (machineOnce case row s)
+
+-- ---- 32: "Net flow from each fence node into the station's artificial arcs: at or above 0 for the direction's entry nodes, at or below 0 for its exit nodes,
+-- exactly 0 for fence nodes in neither set?"
+
+-- what arc e takes from node v, if the arc is the station's
+unfoldable pub stationPart : List ℤ → List ℤ → ℕ → ℕ → ℕ → ℤ
+stationPart case row s v e =
+    only (belongs case s e)
+    (only (eqb (arcOf case e .from) v) (arcRow case row e .a -ℤ arcRow case row e .b)
+    -ℤ only (eqb (arcOf case e .to) v) (arcRow case row e .a -ℤ arcRow case row e .b))
+
+unfoldable pub stationFlow : List ℤ → List ℤ → ℕ → ℕ → ℤ
+stationFlow case row s v = sum (arcsOf case) (stationPart case row s v)
+
+-- by whether the node is an entry and whether it is an exit
+abbrev pub fenceFlowKept : Bool → Bool → ℤ → Bool
+fenceFlowKept entry exit flow = cond entry (leZ (pos 0) flow) (cond exit (leZ flow (pos 0)) (isZero flow))
+
+-- `inside` are the station's nodes, `plain` the nodes that end an arc of kind 0 to 2; a fence node is in both
+unfoldable pub fenceNodeKept : Direction → ℤ → ℤ → ℕ → ℤ → Bool
+fenceNodeKept chosen inside plain v flow =
+    not (memberOf inside v && memberOf plain v)
+    || fenceFlowKept (memberOf (chosen .entry) v) (memberOf (chosen .exit) v) flow
+
+abbrev pub fenceKept : List ℤ → List ℤ → ℕ → ℕ → ℕ → Bool
+fenceKept case row s f v = fenceNodeKept (directionOf case s f) (stationNodes case s) (plainNodes case) v (stationFlow case row s v)
+
+unfoldable pub fenceFlowsKept : List ℤ → List ℤ → ℕ → Bool
+fenceFlowsKept case row s = every (nodesOf case) (fenceKept case row s (directionIn case row s))
+
+-- ---- the questions
+
+unfoldable pub stationQuestions : List ℤ → List ℤ → ℕ → ℕ → List Question
+stationQuestions case row i s =
+    asked 30 i s (choiceKept case row s)
+    ∷ asked 31 i s (machinesOnce case row s)
+    ∷ asked 32 i s (fenceFlowsKept case row s)
+    ∷ []
+
+unfoldable pub allStationQuestions : List ℤ → List ℤ → ℕ → List Question
+allStationQuestions case row i = over (stationQuestions case row i) 0 (stationsOf case)

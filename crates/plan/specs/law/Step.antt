@@ -1,0 +1,18 @@
+-- The questions of one step: "first every node", "then every arc", "then every station", "then every node".
+-- Assumes nothing.
+use mathlib.Core.List.{List, _++_}
+use Prim.Native.Nat.{ℕ}
+use lib.IntN.{ℤ}
+use Rattle.numbers.specs.law.Question.{Question}
+use Rattle.plan.specs.law.NodeRules.{allNodeQuestions}
+use Rattle.plan.specs.law.ArcRules.{allArcQuestions}
+use Rattle.plan.specs.law.StationRules.{allStationQuestions}
+use Rattle.plan.specs.law.Balance.{allBalanceQuestions}
+
+-- `row` is the step's part of the plan, and `old v` the pressure of node v before the step
+unfoldable pub stepQuestions : List ℤ → (ℕ → ℤ) → List ℤ → ℕ → List Question
+stepQuestions case old row i =
+    allNodeQuestions case row i
+    ++ (allArcQuestions case old row i
+    ++ (allStationQuestions case row i
+    ++ allBalanceQuestions case row i))
