@@ -11,6 +11,7 @@ pub mod RegionSet
 pub mod RegionBalance
 pub mod RegionBalanceSteps
 pub mod RegionBalanceBound
+pub mod RegionVouched
 pub mod LedgerAnswer
 pub mod LedgerVerdict
 pub mod RegionPreconditions

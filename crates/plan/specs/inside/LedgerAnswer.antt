@@ -15,7 +15,7 @@ use Rattle.plan.specs.declared.region.Gathered.{Gathered}
 use Rattle.plan.specs.law.Region.{innerPipes}
 use Rattle.plan.specs.law.RegionFigures.{gasInside, broughtOver, residualOver, figuresOf}
 use Rattle.plan.specs.inside.RegionLoop.{Gathering}
-use Rattle.plan.specs.claims.Demand3.{times-of, region-vouched}
+use Rattle.plan.specs.inside.RegionVouched.{times-of, region-vouched}
 use Rattle.plan.specs.law.Vouched.{Vouched}
 use Rattle.plan.specs.law.Ledger.{timesOrdered, ledgerTold, ledgerIs, ledgerOf}
 

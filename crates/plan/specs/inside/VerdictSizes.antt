@@ -43,7 +43,7 @@ use Rattle.plan.specs.law.JudgedBytes.{planNumber, planEnding, planBytes
 use Rattle.plan.specs.law.Region.{innerPipe, innerPipes}
 use Rattle.plan.specs.law.RegionFigures.{figuresOf}
 use Rattle.plan.specs.inside.RegionSet.{nodes-counted}
-use Rattle.plan.specs.claims.Demand3.{times-of, region-balanced}
+use Rattle.plan.specs.inside.RegionVouched.{times-of, region-balanced}
 use Rattle.plan.specs.law.Ledger.{regionQuestions, ledgerQuestions, ledgerBy, ledgerTold, ledgerOf}
 use Rattle.plan.specs.inside.SmallRefusals.{judge-small, ledger-small}
 use Rattle.plan.specs.declared.verdict.Verdict.{Verdict}
@@ -179,9 +179,7 @@ module _ (case plan : List ℤ) (set s t : ℤ) where
       let told : judgeOf case plan ≡ verdictTold (Accepted (totalsOf case plan)) = rw j in
       let k = times-of case s t (r .1 .0) in
       let b = region-balanced case plan set s t (totalsOf case plan) told (r .0) (r .1 .0) in
-      let g : Given (figuresOf case plan set (posPart s) (posPart t)) ≡ Given (b .figures) = sym (ap (λ (w : Answer). ledgerBy w (figuresOf case plan set (posPart s) (posPart t))) y) ∙ b .given in
-      let f : figuresOf case plan set (posPart s) (posPart t) ≡ b .figures = cc in
-      let h = subst (λ (w : Figures). pos (w .residual) ≤ℤ (pos (w .nodes + w .pipes) *ℤ (t -ℤ s) *ℤ massTolerance case)) (sym f) (b .bound) in
+      let h = b .bound in
       let n : countOf set ≤ 60 = omega (arith, nodes-counted case set (r .0), count-most (nodesOf case) (memberOf set), c .nodes) in
       let p : innerPipes case set ≤ 120 = omega (arith, count-most (arcsOf case) (innerPipe case set), c .arcs) in
       let m = mass-sized (accepted case plan j) .bound in

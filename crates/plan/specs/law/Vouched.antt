@@ -1,27 +1,43 @@
--- What the ledger's answer vouches for: demand 3.
+-- Demand 3: "For every accepted case and plan, every node set and s ≤ t, the ledger answers and balances within its residual, which is at most
+-- (nodes + inner pipes) × (t - s) × E." It is part of the ledger's promise.
 -- Assumes nothing.
 use mathlib.Core.Path.{_≡_}
 use mathlib.Core.Bool.{true}
 use mathlib.Core.List.{List}
-use Prim.Native.Nat.{_+_}
+use Prim.Native.Nat.{ℕ, _+_, _<_}
 use lib.IntN.{ℤ, pos, natAbs, _-ℤ_, _*ℤ_}
 use lib.Signed.{_≤ℤ_}
-use Rattle.case.specs.law.Layout.{massTolerance}
+use Rattle.numbers.specs.law.Signed.{posPart}
+use Rattle.numbers.specs.law.Sets.{memberOf}
+use Rattle.case.specs.law.Layout.{nodesOf, stepsOf, massTolerance}
 use Rattle.plan.specs.declared.figures.Figures.{Figures}
 use Rattle.plan.specs.declared.figures.Ledger.{Ledger}
 use Rattle.plan.specs.declared.figures.Ledger.the-variants.{Given}
 use Rattle.plan.specs.declared.totals.Totals.{Totals}
 use Rattle.plan.specs.declared.verdict.Verdict.the-variants.{Accepted}
 use Rattle.plan.specs.law.Judged.{verdictTold, judgeOf}
-use Rattle.plan.specs.law.Ledger.{namesNodes, timesOrdered}
+use Rattle.plan.specs.law.RegionFigures.{figuresOf}
 
--- what a ledger's answer `r` for the times s to t vouches for
-pub record Balanced (case : List ℤ) (s t : ℤ) (r : Ledger) : Type 0 where
-  pub figures : Figures
-  pub given : r ≡ Given figures
-  pub balance : pos (natAbs (figures .closing -ℤ figures .opening -ℤ figures .brought)) ≤ℤ pos (figures .residual)
-  pub bound : pos (figures .residual) ≤ℤ (pos (figures .nodes + figures .pipes) *ℤ (t -ℤ s) *ℤ massTolerance case)
+-- a set that names only nodes of the case ("A negative number is no set"), and times 0 ≤ s ≤ t ≤ k
+pub record RegionOf (case : List ℤ) (set s t : ℤ) : Type 0 where
+  pub a-set : pos 0 ≤ℤ set
+  pub only-nodes : (v : ℕ) → memberOf set v ≡ true → v < nodesOf case
+  pub from-0 : pos 0 ≤ℤ s
+  pub in-order : s ≤ℤ t
+  pub to-k : t ≤ℤ pos (stepsOf case)
 
--- demand 3, of an answer `r` of the ledger
+-- |gas at t - gas at s - gas brought in| ≤ residual ≤ (nodes + inner pipes) × (t - s) × E
+pub record Balanced (case : List ℤ) (s t : ℤ) (f : Figures) : Type 0 where
+  pub balance : pos (natAbs (f .closing -ℤ f .opening -ℤ f .brought)) ≤ℤ pos (f .residual)
+  pub bound : pos (f .residual) ≤ℤ (pos (f .nodes + f .pipes) *ℤ (t -ℤ s) *ℤ massTolerance case)
+
+-- the ledger's figures for a set and times that are not negative
+abbrev pub figuresFor : List ℤ → List ℤ → ℤ → ℤ → ℤ → Figures
+figuresFor case plan set s t = figuresOf case plan set (posPart s) (posPart t)
+
+-- what an answer `r` of the ledger vouches for: of an accepted plan and a region of it, that it is the ledger's figures and that they balance
 pub record Vouched (case plan : List ℤ) (set s t : ℤ) (r : Ledger) : Type 0 where
-  pub vouched : (totals : Totals) → judgeOf case plan ≡ verdictTold (Accepted totals) → namesNodes case set ≡ true → timesOrdered case s t ≡ true → Balanced case s t r
+  pub answers : (totals : Totals) → judgeOf case plan ≡ verdictTold (Accepted totals) → RegionOf case set s t
+      → r ≡ Given (figuresFor case plan set s t)
+  pub balances : (totals : Totals) → judgeOf case plan ≡ verdictTold (Accepted totals) → RegionOf case set s t
+      → Balanced case s t (figuresFor case plan set s t)
