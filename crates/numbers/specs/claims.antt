@@ -1,3 +1,5 @@
+pub mod AllYes
+pub mod FirstNo
 pub mod CodecInputs
 pub mod RoundTrip
 pub mod TableT

@@ -16,7 +16,8 @@ use Rattle.numbers.specs.inside.SignedBounds.{Bounded}
 use Rattle.numbers.specs.law.Sets.{disjointOf, subsetOf}
 use Rattle.numbers.specs.law.Sums.{count}
 use Rattle.numbers.specs.law.Question.{firstNo, told}
-use Rattle.numbers.specs.inside.QuestionLaws.{told-same, AllYes, all-yes, none-no}
+use Rattle.numbers.specs.claims.AllYes.{AllYes}
+use Rattle.numbers.specs.inside.QuestionLaws.{told-same, all-yes, none-no}
 use Rattle.numbers.specs.law.Items.{over}
 use Rattle.numbers.specs.declared.answer.Answer.{Answer}
 use Rattle.numbers.specs.declared.answer.Answer.the-variants.{Yes}

@@ -10,6 +10,7 @@ use Rattle.numbers.specs.law.Told.{Told}
 use Rattle.numbers.specs.declared.answer.Answer.{Answer}
 use Rattle.numbers.specs.declared.answer.Answer.the-variants.{Yes, No}
 use Rattle.numbers.specs.law.Question.{Question, answer, answerTo, orElse, firstNo, told}
+use Rattle.numbers.specs.claims.AllYes.{AllYes}
 
 pub orElse-assoc : (a b c : Answer) → orElse (orElse a b) c ≡ orElse a (orElse b c)
 orElse-assoc Yes b c = refl
@@ -47,11 +48,6 @@ told-same (No n s p) (No m t q) e =
     let a = ap (λ (t : Told). t .number) e in
     let b = ap (λ (t : Told). t .values) e in
     cc
-
--- every question is answered yes
-abbrev pub AllYes : List Question → Type 0
-AllYes [] = Unit {0}
-AllYes (q ∷ qs) = (q .yes ≡ true) × AllYes qs
 
 pub all-yes : (qs : List Question) → firstNo qs ≡ Yes → AllYes qs
 all-yes [] e = tt
