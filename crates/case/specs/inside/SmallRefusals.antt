@@ -179,7 +179,7 @@ module _ (case : List ℤ) where
     leftover-small e =
         let counted : (m : ℕ) → m < stationsOf case → StationCounted case (stationAt case m) = λ m l. station-counted case (stationAt case m) (first-yes (stationHead case (stationAt case m)) (partFields case (stationAt case m)) (item-yes (stationFields case) (stationsOf case) e m l)) in
         let r = station-row (stationsOf case) counted in
-        all-small limit (leftover case) (omega arith, omega arith, omega (arith, r, c .stations), tt)
+        all-small limit (leftover case) (omega arith, omega arith, omega (arith, r, c .stations), omega arith, tt)
 
   -- 13 to 17: an arc, a node or a station
   rules-small : Counted case → AllSmall limit (ruleQuestions case)
@@ -187,13 +187,13 @@ module _ (case : List ℤ) where
   rules-small c =
       all-append limit (earlyRules case) (allStateSets case)
       (all-append limit (allArcEnds case) (allOneStation case ++ (allStationSizes case ++ allDirectionSets case))
-      (all-over limit (arcEnds case) 0 (arcsOf case) (λ e l. (omega arith, omega arith, omega (arith, c .arcs), tt)))
+      (all-over limit (arcEnds case) 0 (arcsOf case) (λ e l. (omega arith, omega arith, omega (arith, c .arcs), omega arith, tt)))
       (all-append limit (allOneStation case) (allStationSizes case ++ allDirectionSets case)
-      (all-over limit (oneStation case) 0 (nodesOf case) (λ v l. (omega arith, omega arith, omega (arith, c .nodes), tt)))
+      (all-over limit (oneStation case) 0 (nodesOf case) (λ v l. (omega arith, omega arith, omega (arith, c .nodes), omega arith, tt)))
       (all-append limit (allStationSizes case) (allDirectionSets case)
-      (all-over limit (stationSize case) 0 (stationsOf case) (λ s l. (omega arith, omega arith, omega (arith, c .stations), tt)))
-      (all-over limit (directionSets case) 0 (stationsOf case) (λ s l. (omega arith, omega arith, omega (arith, c .stations), tt))))))
-      (all-over limit (stateSets case) 0 (stationsOf case) (λ s l. (omega arith, omega arith, omega (arith, c .stations), tt)))
+      (all-over limit (stationSize case) 0 (stationsOf case) (λ s l. (omega arith, omega arith, omega (arith, c .stations), omega arith, tt)))
+      (all-over limit (directionSets case) 0 (stationsOf case) (λ s l. (omega arith, omega arith, omega (arith, c .stations), omega arith, tt))))))
+      (all-over limit (stateSets case) 0 (stationsOf case) (λ s l. (omega arith, omega arith, omega (arith, c .stations), omega arith, tt)))
 
   rows-small : Counted case → Small limit (firstNo (rowQuestions case))
   unfolding rowQuestions

@@ -1,4 +1,4 @@
--- Refusals have small numbers, steps and places: what an export needs before it hands them on.
+-- Refusals have small numbers, steps and places, and no number is 0: what an export needs before it hands them on.
 -- Assumes nothing.
 use mathlib.Core.Path.{_≡_, refl, ap, sym, subst, _∙_}
 use mathlib.Core.Bool.{Bool, true, false}
@@ -13,28 +13,29 @@ use Rattle.numbers.specs.declared.answer.Answer.the-variants.{Yes, No}
 
 abbrev pub Small : ℕ → Answer → Type 0
 Small b Yes = Unit {0}
-Small b (No number step place) = (number < b) × (step < b) × (place < b)
+Small b (No number step place) = (number < b) × (step < b) × (place < b) × (1 ≤ number)
 
 module _ (b : ℕ) where
   pub small-else : (x y : Answer) → Small b x → (x ≡ Yes → Small b y) → Small b (orElse x y)
   small-else Yes y s f = f refl
   small-else (No n t p) y s f = s
 
-  pub small-answer : (yes : Bool) {n t p : ℕ} → n < b → t < b → p < b → Small b (answer yes n t p)
-  small-answer true h k l = tt
-  small-answer false h k l = (h, k, l)
+  pub small-answer : (yes : Bool) {n t p : ℕ} → n < b → t < b → p < b → 1 ≤ n → Small b (answer yes n t p)
+  small-answer true h k l m = tt
+  small-answer false h k l m = (h, k, l, m)
 
   -- one question
-  pub small-one : (q : Question) → q .number < b → q .step < b → q .place < b → Small b (firstNo (q ∷ []))
-  small-one q h k l = small-else (answerTo q) Yes (small-answer (q .yes) h k l) (λ e. tt)
+  pub small-one : (q : Question) → q .number < b → q .step < b → q .place < b → 1 ≤ q .number → Small b (firstNo (q ∷ []))
+  small-one q h k l m = small-else (answerTo q) Yes (small-answer (q .yes) h k l m) (λ e. tt)
 
   -- a question and what comes after it
-  pub small-next : (q : Question) (qs : List Question) → q .number < b → q .step < b → q .place < b → (q .yes ≡ true → Small b (firstNo qs)) → Small b (firstNo (q ∷ qs))
-  small-next q qs h k l f = go (q .yes) f
+  pub small-next : (q : Question) (qs : List Question) → q .number < b → q .step < b → q .place < b → 1 ≤ q .number
+      → (q .yes ≡ true → Small b (firstNo qs)) → Small b (firstNo (q ∷ qs))
+  small-next q qs h k l m f = go (q .yes) f
     where
       go : (y : Bool) → (y ≡ true → Small b (firstNo qs)) → Small b (orElse (answer y (q .number) (q .step) (q .place)) (firstNo qs))
       go true f = f refl
-      go false f = (h, k, l)
+      go false f = (h, k, l, m)
 
   -- one list after another, which is asked only where the first has no "no"
   pub small-append : (xs ys : List Question) → Small b (firstNo xs) → (firstNo xs ≡ Yes → Small b (firstNo ys)) → Small b (firstNo (xs ++ ys))
@@ -58,16 +59,16 @@ module _ (b : ℕ) where
 -- every question of a list has a small number, step and place
 abbrev pub AllSmall : ℕ → List Question → Type 0
 AllSmall b [] = Unit {0}
-AllSmall b (q ∷ qs) = (q .number < b) × (q .step < b) × (q .place < b) × AllSmall b qs
+AllSmall b (q ∷ qs) = (q .number < b) × (q .step < b) × (q .place < b) × (1 ≤ q .number) × AllSmall b qs
 
 module _ (b : ℕ) where
   pub all-small : (qs : List Question) → AllSmall b qs → Small b (firstNo qs)
   all-small [] s = tt
-  all-small (q ∷ qs) s = small-next b q qs (s .0) (s .1) (s .2) (λ e. all-small qs (s .3))
+  all-small (q ∷ qs) s = small-next b q qs (s .0) (s .1) (s .2) (s .3) (λ e. all-small qs (s .4))
 
   pub all-append : (xs ys : List Question) → AllSmall b xs → AllSmall b ys → AllSmall b (xs ++ ys)
   all-append [] ys s t = t
-  all-append (q ∷ xs) ys s t = (s .0, s .1, s .2, all-append xs ys (s .3) t)
+  all-append (q ∷ xs) ys s t = (s .0, s .1, s .2, s .3, all-append xs ys (s .4) t)
 
   pub all-over : (f : ℕ → List Question) (i c : ℕ) → ((j : ℕ) → j < c → AllSmall b (f (i + j))) → AllSmall b (over f i c)
   all-over f i zero h = tt

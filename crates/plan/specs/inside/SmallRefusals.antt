@@ -45,7 +45,7 @@ module _ {case : List ℤ} (c : Counted case) where
   unfolding planQuestions planStep
   plan-small plan =
       all-small limit (headQuestion case plan ∷ over (planStep case plan) 0 (stepsOf case))
-      (omega arith, omega arith, omega arith, all-over limit (planStep case plan) 0 (stepsOf case) (λ i l. step-small _ _ (0 + i) (omega (arith, l))))
+      (omega arith, omega arith, omega arith, omega arith, all-over limit (planStep case plan) 0 (stepsOf case) (λ i l. step-small _ _ (0 + i) (omega (arith, l))))
 
 module _ (case plan : List ℤ) where
   pub judge-small : Small limit (firstNo (questions case plan))
@@ -72,5 +72,10 @@ module _ (case plan : List ℤ) where
   unfolding ledgerQuestions regionQuestions questions
   ledger-small set s t =
       small-append limit (questions case plan) (regionQuestions case set s t) judge-small
-      (λ y. all-small limit (regionQuestions case set s t)
-      (omega arith, omega arith, foreign-small set (counted (record { yes = first-yes (caseQuestions case) (planQuestions case plan) y }) .nodes), (omega arith, omega arith, omega arith, tt)))
+      (λ y. all-small limit (regionQuestions case set s t) (
+        omega arith,
+        omega arith,
+        foreign-small set (counted (record { yes = first-yes (caseQuestions case) (planQuestions case plan) y }) .nodes),
+        omega arith,
+        (omega arith, omega arith, omega arith, omega arith, tt),
+      ))
