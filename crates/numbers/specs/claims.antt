@@ -3,3 +3,5 @@ pub mod FirstNo
 pub mod CodecInputs
 pub mod RoundTrip
 pub mod TableT
+pub mod CallsRoundTrip
+pub mod Room
