@@ -22,3 +22,4 @@ pub mod SmallRefusals
 pub mod StepSizes
 pub mod VerdictSizes
 pub mod VerdictLaws
+pub mod Computed
