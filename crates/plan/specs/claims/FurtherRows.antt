@@ -4,10 +4,10 @@
 use mathlib.Core.Path.{refl}
 use mathlib.Core.List.{List, [], _∷_, _++_}
 use Prim.Native.Nat.{ℕ}
-use lib.IntN.{ℤ, pos, negsuc}
+use lib.IntN.{ℤ, pos}
 use Rattle.numbers.specs.law.Told.{gives, refuses}
 use Rattle.plan.specs.inside.Computed.{law}
-use Rattle.plan.specs.claims.TableT.{Row, judges, draws, judgesBytes, Holds, AllHold, caseC, planP}
+use Rattle.plan.specs.claims.TableT.{Row, judges, draws, judgesBytes, Holds, AllHold, minus, caseC, planP}
 
 -- ---- a compressor that runs backward
 
@@ -17,7 +17,7 @@ abbrev caseB : (p0 : ℤ) → List ℤ
 caseB p0 =
     (pos 1 ∷ pos 3 ∷ pos 2 ∷ pos 1 ∷ pos 2 ∷ pos 60 ∷ pos 1 ∷ [])
     ++ ((pos 60 ∷ pos 180 ∷ [])
-    ++ ((pos 2 ∷ pos 39997 ∷ pos 30000 ∷ pos 60000 ∷ pos 40000 ∷ pos 59990 ∷ negsuc 519 ∷ negsuc 1499 ∷ [])
+    ++ ((pos 2 ∷ pos 39997 ∷ pos 30000 ∷ pos 60000 ∷ pos 40000 ∷ pos 59990 ∷ minus 520 ∷ minus 1500 ∷ [])
     ++ ((pos 0 ∷ pos 40000 ∷ pos 30000 ∷ pos 60000 ∷ pos 30000 ∷ pos 60000 ∷ pos 0 ∷ pos 0 ∷ [])
     ++ ((pos 1 ∷ p0 ∷ pos 40000 ∷ pos 60000 ∷ pos 45300 ∷ pos 60000 ∷ pos 2510 ∷ pos 1500 ∷ [])
     ++ ((pos 2 ∷ pos 0 ∷ pos 1 ∷ pos 3000 ∷ pos 3 ∷ pos 1000 ∷ pos 1000 ∷ pos 0 ∷ pos 0 ∷ pos 0 ∷ pos 0 ∷ [])
@@ -33,16 +33,16 @@ caseB p0 =
 abbrev planB : List ℤ
 planB =
     (pos 1 ∷ pos 2 ∷ [])
-    ++ ((pos 59997 ∷ negsuc 499 ∷ pos 0 ∷ pos 20 ∷ pos 0 ∷ pos 7 ∷ [])
+    ++ ((pos 59997 ∷ minus 500 ∷ pos 0 ∷ pos 20 ∷ pos 0 ∷ pos 7 ∷ [])
     ++ ((pos 60000 ∷ pos 0 ∷ pos 0 ∷ pos 0 ∷ pos 0 ∷ pos 0 ∷ [])
     ++ ((pos 45000 ∷ pos 2500 ∷ pos 10 ∷ pos 0 ∷ pos 300 ∷ pos 0 ∷ [])
-    ++ ((negsuc 499 ∷ negsuc 2500 ∷ pos 0 ∷ pos 0 ∷ [])
+    ++ ((minus 500 ∷ minus 2501 ∷ pos 0 ∷ pos 0 ∷ [])
     ++ ((pos 0 ∷ pos 2500 ∷ pos 2 ∷ pos 1 ∷ [])
     ++ ((pos 1 ∷ pos 1 ∷ [])
-    ++ ((pos 59997 ∷ negsuc 1499 ∷ pos 0 ∷ pos 0 ∷ pos 0 ∷ pos 7 ∷ [])
+    ++ ((pos 59997 ∷ minus 1500 ∷ pos 0 ∷ pos 0 ∷ pos 0 ∷ pos 7 ∷ [])
     ++ ((pos 60000 ∷ pos 0 ∷ pos 0 ∷ pos 0 ∷ pos 0 ∷ pos 0 ∷ [])
     ++ ((pos 45000 ∷ pos 1500 ∷ pos 0 ∷ pos 0 ∷ pos 300 ∷ pos 0 ∷ [])
-    ++ ((negsuc 1499 ∷ negsuc 1499 ∷ pos 0 ∷ pos 0 ∷ [])
+    ++ ((minus 1500 ∷ minus 1500 ∷ pos 0 ∷ pos 0 ∷ [])
     ++ ((pos 0 ∷ pos 1500 ∷ pos 2 ∷ pos 1 ∷ [])
     ++ (pos 1 ∷ pos 1 ∷ []))))))))))))
 
@@ -72,14 +72,14 @@ furtherRows =
     ∷ judges (caseB (pos 49999)) planB (refuses 26 1 1)
     -- the pipe inside the set; the pipe at its edge, and gas that leaves it
     ∷ draws (caseB (pos 50000)) planB (pos 3) (pos 0) (pos 2) (gives (pos 2 ∷ pos 1 ∷ pos 239991 ∷ pos 359991 ∷ pos 120000 ∷ pos 120 ∷ []))
-    ∷ draws (caseB (pos 50000)) planB (pos 6) (pos 0) (pos 2) (gives (pos 2 ∷ pos 0 ∷ pos 0 ∷ pos 0 ∷ negsuc 59 ∷ pos 60 ∷ []))
+    ∷ draws (caseB (pos 50000)) planB (pos 6) (pos 0) (pos 2) (gives (pos 2 ∷ pos 0 ∷ pos 0 ∷ pos 0 ∷ minus 60 ∷ pos 60 ∷ []))
     -- as row 5, with both nodes
     ∷ draws (caseC (pos 60) (pos 1)) (planP (pos 901)) (pos 3) (pos 0) (pos 1) (gives (pos 2 ∷ pos 1 ∷ pos 599988 ∷ pos 611988 ∷ pos 12000 ∷ pos 120 ∷ []))
     -- 28 comes before 40, and 40 before 41
     ∷ draws (caseC (pos 59) (pos 1)) (planP (pos 901)) (pos 5) (pos 1) (pos 0) (refuses 28 1 0)
     ∷ draws (caseC (pos 60) (pos 1)) (planP (pos 901)) (pos 14) (pos 1) (pos 0) (refuses 40 0 2)
     -- no set, and a time past the last step
-    ∷ draws (caseC (pos 60) (pos 1)) (planP (pos 901)) (negsuc 0) (pos 0) (pos 1) (refuses 40 0 0)
+    ∷ draws (caseC (pos 60) (pos 1)) (planP (pos 901)) (minus 1) (pos 0) (pos 1) (refuses 40 0 0)
     ∷ draws (caseC (pos 60) (pos 1)) (planP (pos 901)) (pos 2) (pos 0) (pos 2) (refuses 41 0 0)
     -- row 1 from bytes, into lists that have just the room
     ∷ judgesBytes bytesC bytesP 33 18 (gives (pos 0 ∷ pos 0 ∷ pos 0 ∷ pos 0 ∷ pos 599988 ∷ pos 611988 ∷ []))

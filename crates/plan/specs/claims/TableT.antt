@@ -4,7 +4,7 @@
 use mathlib.Core.Path.{_≡_, refl}
 use mathlib.Core.List.{List, [], _∷_, _++_}
 use Prim.Native.Nat.{ℕ}
-use lib.IntN.{ℤ, pos, negsuc}
+use lib.IntN.{ℤ, pos, negℤ}
 use lib.ListN.{length}
 use Rattle.numbers.specs.law.Told.{Told, gives, refuses}
 use Rattle.numbers.specs.law.Groups.{encode}
@@ -41,13 +41,17 @@ AllHold (r ∷ rows) = Holds r × AllHold rows
 
 -- ---- the table's cases and plans
 
+-- -900 is written `minus 900`
+abbrev pub minus : ℕ → ℤ
+minus n = negℤ (pos n)
+
 -- "Case C", with the tolerances E and H, which are 0 in C itself
 abbrev pub caseC : (E H : ℤ) → List ℤ
 caseC E H =
     (pos 1 ∷ pos 2 ∷ pos 1 ∷ pos 0 ∷ pos 1 ∷ E ∷ H ∷ [])
     ++ ((pos 60 ∷ [])
     ++ ((pos 1 ∷ pos 50000 ∷ pos 40000 ∷ pos 60000 ∷ pos 45000 ∷ pos 55000 ∷ pos 1100 ∷ [])
-    ++ ((pos 2 ∷ pos 49998 ∷ pos 40000 ∷ pos 60000 ∷ pos 45000 ∷ pos 55000 ∷ negsuc 899 ∷ [])
+    ++ ((pos 2 ∷ pos 49998 ∷ pos 40000 ∷ pos 60000 ∷ pos 45000 ∷ pos 55000 ∷ minus 900 ∷ [])
     ++ (pos 2 ∷ pos 0 ∷ pos 1 ∷ pos 2000 ∷ pos 6 ∷ pos 1000 ∷ pos 1000 ∷ pos 0 ∷ pos 0 ∷ pos 0 ∷ pos 0 ∷ []))))
 
 -- "Plan P", with the pipe's b, which is 900 in P itself
@@ -55,7 +59,7 @@ abbrev pub planP : (b : ℤ) → List ℤ
 planP b =
     (pos 1 ∷ pos 1 ∷ [])
     ++ ((pos 51000 ∷ pos 1100 ∷ pos 0 ∷ pos 0 ∷ pos 0 ∷ pos 0 ∷ [])
-    ++ ((pos 50998 ∷ negsuc 899 ∷ pos 0 ∷ pos 0 ∷ pos 0 ∷ pos 0 ∷ [])
+    ++ ((pos 50998 ∷ minus 900 ∷ pos 0 ∷ pos 0 ∷ pos 0 ∷ pos 0 ∷ [])
     ++ (pos 1100 ∷ b ∷ pos 0 ∷ pos 0 ∷ [])))
 
 -- a compressor with two machines: "In end with p0 and p 40,000, out bound 200,000, machines 1,200 and 1,300"
@@ -95,7 +99,7 @@ rows =
     ∷ judges case6 (plan6 (pos 60000)) (gives (pos 0 ∷ pos 0 ∷ pos 7 ∷ pos 0 ∷ pos 0 ∷ pos 0 ∷ []))
     ∷ judges case6 (plan6 (pos 60001)) (refuses 26 1 0)
     -- "7. -900 is 87 0E; 64 is 80 01."
-    ∷ codes (negsuc 899 ∷ []) (0x87 ∷ 0x0E ∷ [])
+    ∷ codes (minus 900 ∷ []) (0x87 ∷ 0x0E ∷ [])
     ∷ codes (pos 64 ∷ []) (0x80 ∷ 0x01 ∷ [])
     -- "8. 80 is 1; 80 00 is 2; no bytes, no numbers."
     ∷ reads (0x80 ∷ []) (refuses 1 0 0)
