@@ -1,5 +1,5 @@
 pub mod Acceptance
 pub mod Facts
 pub mod Demand3
-pub mod FurtherRows
 pub mod TableT
+pub mod FurtherRows
