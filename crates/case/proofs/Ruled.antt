@@ -12,13 +12,14 @@ use Rattle.numbers.specs.law.Question.{firstNo, answer}
 use Rattle.numbers.specs.declared.answer.Answer.the-variants.{Yes, No}
 use Rattle.case.specs.declared.records.Layout.{Layout}
 use Rattle.case.specs.law.Layout.{stationsOf, stationAt, directionsAt}
+use Rattle.case.specs.law.Records.{stationOf, directionRow}
 use Rattle.case.specs.law.LayoutOf.{Laid}
-use Rattle.case.specs.inside.InSet.{inSet}
+use Rattle.case.specs.inside.InSet.{inSet, inBoth}
 use Rattle.case.specs.law.StationArcs.{stationArcs, every}
 use Rattle.case.specs.law.StationNodes.{stationNodes, plainNodes}
 use Rattle.case.specs.law.OneStation.{inStation, oneStation}
 use Rattle.case.specs.law.StationSize.{stationSize}
-use Rattle.case.specs.law.Directions.{directionKept, directionSets}
+use Rattle.case.specs.law.Directions.{setsKept, directionKept, directionSets}
 use Rattle.case.specs.law.States.{stationKept, stateSets}
 use Rattle.case.specs.inside.CountLaws.{count-same}
 
@@ -45,9 +46,11 @@ size-yes l s e h = rw (← e, le-leb _ _ h)
 
 -- 16: the answer by what was found of all directions
 pub directions-asked : (l : List ℤ) (s row : ℕ) (inside plain : ℤ) {b v : Bool} → row ≡ stationAt l s → inside ≡ stationNodes l s → plain ≡ plainNodes l
-    → b ≡ every (directionsAt l row) (directionKept l row inside plain) → b ≡ v → answer v 16 0 s ≡ firstNo (directionSets l s)
+    → b ≡ every (directionsAt l row) (λ f. setsKept (inBoth inside plain) (directionRow l row f)) → b ≡ v → answer v 16 0 s ≡ firstNo (directionSets l s)
 unfolding directionSets
-directions-asked l s row inside plain {v = v} r i p e w = rw (← r, ← i, ← p, sym e ∙ w) (single v)
+directions-asked l s row inside plain {b} {v} r i p e w =
+    let k : b ≡ every (stationOf l s .directions) (directionKept l s) = rw (r, i, p) at e in
+    rw (sym k ∙ w) (single v)
   where
     single : (v : Bool) → answer v 16 0 s ≡ firstNo (record { yes = v; number = 16; step = 0; place = s } ∷ [])
     single true = refl

@@ -1,6 +1,5 @@
 pub mod MachineOf
 pub mod FieldLaws
-pub mod FenceNode
 pub mod CountLaws
 pub mod SetLaws
 pub mod Counts

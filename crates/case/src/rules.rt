@@ -1,17 +1,19 @@
 // 13 to 17, of a case whose fields are all there and in range.
 ghost use mathlib.Core.Path.{_≡_};
-ghost use Prim.Native.Nat.{_≤_};
+ghost use Prim.Native.Nat.{_<_, _≤_, _^_};
 ghost use Rattle.numbers.specs.law.Question.{firstNo};
+ghost use Rattle.numbers.specs.law.Signed.{posPart};
 ghost use Rattle.numbers.specs.law.Sums.{count};
 ghost use Rattle.case.specs.law.Layout.{arcsOf, stationAt, directionsAt, statesAt};
+ghost use Rattle.case.specs.law.Records.{directionRow};
+ghost use Rattle.case.specs.inside.Ranges.{DirectionRanges};
 ghost use Rattle.case.specs.law.LayoutOf.{Laid};
-ghost use Rattle.case.specs.inside.InSet.{inSet};
-ghost use Rattle.case.specs.inside.Counts.{Counted, StationCounted, StationsCounted, Sized};
+ghost use Rattle.case.specs.inside.InSet.{inSet, inBoth};
+ghost use Rattle.case.specs.inside.Counts.{Counted, StationCounted, StationsCounted, DirectionsRanged, StationsRanged, Sized};
 ghost use Rattle.case.specs.law.ArcEnds.{allArcEnds};
 ghost use Rattle.case.specs.law.OneStation.{allOneStation};
 ghost use Rattle.case.specs.law.StationSize.{allStationSizes};
-ghost use Rattle.case.specs.law.Directions.{directionKept, allDirectionSets};
-ghost use Rattle.case.specs.law.StationNodes.{onlyFence};
+ghost use Rattle.case.specs.law.Directions.{onlyFence, setsKept, allDirectionSets};
 ghost use Rattle.case.specs.law.States.{stateKept, machinesKept, startKept, stationKept, allStateSets};
 ghost use Rattle.case.specs.law.StationArcs.{every, stationArcs};
 ghost use Rattle.case.specs.law.Judged.{ruleQuestions};
@@ -110,9 +112,10 @@ fn station_size(case: &[i64], layout: Layout) -> Answer
     Answer::Yes
 }
 
-// Does the set hold only nodes of both sets, those inside the station and those that end an arc of kind 0 to 2?
+// Does the set hold only nodes that are in both sets, those inside the station and those that end an arc of kind 0 to 2?
 fn only_fence(inside: i64, plain: i64, set: i64) -> bool
-    ensures { λ r. ⌜ r ≡ onlyFence inside plain set ⌝ }
+    requires { ⌜ posPart set < 2 ^ 60 ⌝ }
+    ensures { λ r. ⌜ r ≡ onlyFence (inBoth inside plain) set ⌝ }
 {
     if subset(set, inside) {
         subset(set, plain)
@@ -122,7 +125,8 @@ fn only_fence(inside: i64, plain: i64, set: i64) -> bool
 }
 
 fn direction_kept(case: &[i64], row: usize, inside: i64, plain: i64, f: usize) -> bool
-    ensures { λ r. ⌜ r ≡ directionKept (now (case .entry)) row inside plain f ⌝ }
+    requires { ⌜ DirectionRanges (directionRow (now case) row f) ⌝ }
+    ensures { λ r. ⌜ r ≡ setsKept (inBoth inside plain) (directionRow (now (case .entry)) row f) ⌝ }
 {
     let d = direction(case, row, f);
     let entry = d.entry;
@@ -136,7 +140,8 @@ fn direction_kept(case: &[i64], row: usize, inside: i64, plain: i64, f: usize) -
 }
 
 fn directions_kept(case: &[i64], row: usize, inside: i64, plain: i64) -> bool
-    ensures { λ r. ⌜ r ≡ every (directionsAt (now (case .entry)) row) (directionKept (now (case .entry)) row inside plain) ⌝ }
+    requires { ⌜ DirectionsRanged (now case) row ⌝ }
+    ensures { λ r. ⌜ r ≡ every (directionsAt (now (case .entry)) row) (λ f. setsKept (inBoth inside plain) (directionRow (now (case .entry)) row f)) ⌝ }
 {
     let directions = station(case, row).directions;
     let mut f: usize = 0;
@@ -151,7 +156,7 @@ fn directions_kept(case: &[i64], row: usize, inside: i64, plain: i64) -> bool
 
 // 16
 fn direction_sets(case: &[i64], layout: Layout) -> Answer
-    requires { ⌜ (Counted (now case)) × (Laid (now case) layout) ⌝ }
+    requires { ⌜ (Counted (now case)) × (Laid (now case) layout) × (StationsRanged (now case)) ⌝ }
     ensures { λ r. ⌜ r ≡ firstNo (allDirectionSets (now (case .entry))) ⌝ }
 {
     let plain = layout.plain;
@@ -271,7 +276,7 @@ fn state_sets(case: &[i64], layout: Layout) -> Answer
 
 // 13 to 16, and then 17, which leans on 15.
 pub(crate) fn rules(case: &[i64], layout: Layout) -> Answer
-    requires { ⌜ (Counted (now case)) × (Laid (now case) layout) × (StationsCounted (now case)) ⌝ }
+    requires { ⌜ (Counted (now case)) × (Laid (now case) layout) × (StationsCounted (now case)) × (StationsRanged (now case)) ⌝ }
     ensures { λ r. ⌜ r ≡ firstNo (ruleQuestions (now (case .entry))) ⌝ }
 {
     let arcs = layout.arcs;

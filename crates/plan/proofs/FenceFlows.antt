@@ -19,7 +19,7 @@ use Rattle.case.specs.law.OneStation.{inStation}
 use Rattle.case.specs.law.Records.{arcOf, artificialOf}
 use Rattle.case.specs.inside.SetLaws.{end-in-station}
 use Rattle.case.specs.law.StationArcs.{belongs}
-use Rattle.case.specs.law.StationNodes.{stationNodes}
+use Rattle.case.specs.law.StationNodes.{stationNodes, fenceNode}
 use Rattle.case.specs.declared.records.Direction.{Direction}
 use Rattle.plan.specs.inside.StationPass.{artificialPart, artificialFlow}
 use Rattle.plan.specs.law.StationRules.{stationPart, stationFlow, fenceNodeKept}
@@ -78,12 +78,12 @@ module _ {case : List ℤ} (a : AcceptedCase case) (v : ℕ) (p : v < nodesOf ca
     same-flow = sum-cong (arcsOf case) (artificialPart case row v) (stationPart case row s v) same-part
 
   -- 32 of the node by either flow: of a node that is not the station's it does not look at the flow
-  pub fence-passed : (row : List ℤ) (s : ℕ) → s < stationsOf case → (chosen : Direction) (plain : ℤ)
-      → fenceNodeKept chosen (stationNodes case s) plain v (artificialFlow case row v) ≡ fenceNodeKept chosen (stationNodes case s) plain v (stationFlow case row s v)
+  pub fence-passed : (row : List ℤ) (s : ℕ) → s < stationsOf case → (chosen : Direction)
+      → fenceNodeKept (fenceNode case s) chosen v (artificialFlow case row v) ≡ fenceNodeKept (fenceNode case s) chosen v (stationFlow case row s v)
   unfolding fenceNodeKept
-  fence-passed row s l chosen plain = go (memberOf (stationNodes case s) v) refl
+  fence-passed row s l chosen = go (memberOf (stationNodes case s) v) refl
     where
       go : (b : Bool) → memberOf (stationNodes case s) v ≡ b
-          → fenceNodeKept chosen (stationNodes case s) plain v (artificialFlow case row v) ≡ fenceNodeKept chosen (stationNodes case s) plain v (stationFlow case row s v)
-      go true h = ap (fenceNodeKept chosen (stationNodes case s) plain v) (same-flow row s l h)
+          → fenceNodeKept (fenceNode case s) chosen v (artificialFlow case row v) ≡ fenceNodeKept (fenceNode case s) chosen v (stationFlow case row s v)
+      go true h = ap (fenceNodeKept (fenceNode case s) chosen v) (same-flow row s l h)
       go false h = rw h

@@ -15,6 +15,7 @@ use Rattle.numbers.specs.law.Sums.{only}
 use Rattle.numbers.specs.inside.SumLaws.{abs-only-le}
 use Rattle.case.specs.law.Layout.{nodesOf, arcsOf, stationsOf}
 use Rattle.case.specs.law.Records.{arcOf, directionOf}
+use Rattle.case.specs.inside.InSet.{inBoth}
 use Rattle.case.specs.law.StationNodes.{stationNodes, plainNodes}
 use Rattle.case.specs.declared.records.Direction.{Direction}
 use Rattle.plan.specs.law.PlanRecords.{arcRow}
@@ -46,8 +47,8 @@ module _ (case row : List ℤ) (e i : ℕ) where
 
 pub fence-node : {case : List ℤ} → AcceptedCase case → (row : List ℤ) (s f v : ℕ) {chosen : Direction} {inside plain flow : ℤ} {r : Bool} → v < nodesOf case → s < stationsOf case
     → chosen ≡ directionOf case s f → inside ≡ stationNodes case s → plain ≡ plainNodes case → flow ≡ artificialFlow case row v
-    → r ≡ fenceNodeKept chosen inside plain v flow → r ≡ fenceKept case row s f v
-fence-node {case} a row s f v l m p q r t e = rw (p, q, r, t) at e ∙ fence-passed a v l row s m (directionOf case s f) (plainNodes case)
+    → r ≡ fenceNodeKept (inBoth inside plain) chosen v flow → r ≡ fenceKept case row s f v
+fence-node {case} a row s f v l m p q r t e = rw (p, q, r, t) at e ∙ fence-passed a v l row s m (directionOf case s f)
 
 -- ---- 30 to 32 of one station
 

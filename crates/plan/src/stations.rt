@@ -2,6 +2,7 @@
 ghost use mathlib.Core.Path.{_≡_};
 ghost use Rattle.numbers.specs.law.Question.{firstNo};
 ghost use Rattle.case.specs.law.Records.{stateRow};
+ghost use Rattle.case.specs.inside.InSet.{inBoth};
 ghost use Rattle.plan.specs.law.StationRules.{oneOf, obeyed, choiceKept, machinesOnce, fenceFlowKept, fenceNodeKept, fenceFlowsKept, stationQuestions, allStationQuestions};
 ghost use Rattle.plan.specs.inside.StationPass.{activeBits, FlowsPassed};
 ghost use Rattle.plan.specs.inside.Sizes.{FlowsSized};
@@ -82,7 +83,7 @@ fn fence_flow_kept(entry: bool, exit: bool, flow: i64) -> bool
 
 // 32 of one node: `inside` are the station's nodes, `plain` the nodes that end an arc of kind 0 to 2; a fence node is in both.
 fn fence_kept(chosen: Direction, inside: i64, plain: i64, v: usize, flow: i64) -> bool
-    ensures { λ r. ⌜ r ≡ fenceNodeKept chosen inside plain v flow ⌝ }
+    ensures { λ r. ⌜ r ≡ fenceNodeKept (inBoth inside plain) chosen v flow ⌝ }
 {
     if member(inside, v) {
         if member(plain, v) {

@@ -19,7 +19,7 @@ use Rattle.case.specs.law.StationNodes.{withNode, endsOf, stationNodes, 
 use Rattle.case.specs.law.Leftover.{leftover}
 use Rattle.case.specs.law.NodeFields.{boundFields, demandFields, nodeFields, allNodeFields}
 use Rattle.case.specs.law.Field.{field, fields}
-use Rattle.case.specs.law.Directions.{directionKept, directionSets, allDirectionSets}
+use Rattle.case.specs.law.Directions.{setsKept, directionSets, allDirectionSets}
 use Rattle.case.specs.law.ArcFields.{endFields, pipeFields, memberFields, compressorFields, kindFields, arcFields, allArcFields}
 use Rattle.case.specs.law.HeadFields.{countFields, toleranceFields, headFields}
 
@@ -59,13 +59,13 @@ startRefused : List ℤ
 startRefused = set stationCase 81 (pos 1)
 
 plain-accepted : judgedCase plainCase ≡ gives []
-unfolding rowQuestions listQuestions earlyRules ruleQuestions caseQuestions judgedCase oneStation allOneStation arcEnds allArcEnds stationSize allStationSizes stateKept machinesKept startKept stationKept stateSets allStateSets arcsBefore arcSet nodeAt arcAt directionAt stateAt machineAt stationAt timeField timeFields stationHead directionFields stateRowFields stateFields machineFields partFields rowFields stationFields allStationFields withNode endsOf stationNodes plainNodes leftover boundFields demandFields nodeFields allNodeFields field fields directionKept directionSets allDirectionSets endFields pipeFields memberFields compressorFields kindFields arcFields allArcFields countFields toleranceFields headFields sumN count plainCase stationCase startRefused
+unfolding rowQuestions listQuestions earlyRules ruleQuestions caseQuestions judgedCase oneStation allOneStation arcEnds allArcEnds stationSize allStationSizes stateKept machinesKept startKept stationKept stateSets allStateSets arcsBefore arcSet nodeAt arcAt directionAt stateAt machineAt stationAt timeField timeFields stationHead directionFields stateRowFields stateFields machineFields partFields rowFields stationFields allStationFields withNode endsOf stationNodes plainNodes leftover boundFields demandFields nodeFields allNodeFields field fields setsKept directionSets allDirectionSets endFields pipeFields memberFields compressorFields kindFields arcFields allArcFields countFields toleranceFields headFields sumN count plainCase stationCase startRefused
 plain-accepted = refl
 
 station-accepted : judgedCase stationCase ≡ gives []
-unfolding rowQuestions listQuestions earlyRules ruleQuestions caseQuestions judgedCase oneStation allOneStation arcEnds allArcEnds stationSize allStationSizes stateKept machinesKept startKept stationKept stateSets allStateSets arcsBefore arcSet nodeAt arcAt directionAt stateAt machineAt stationAt timeField timeFields stationHead directionFields stateRowFields stateFields machineFields partFields rowFields stationFields allStationFields withNode endsOf stationNodes plainNodes leftover boundFields demandFields nodeFields allNodeFields field fields directionKept directionSets allDirectionSets endFields pipeFields memberFields compressorFields kindFields arcFields allArcFields countFields toleranceFields headFields sumN count plainCase stationCase startRefused
+unfolding rowQuestions listQuestions earlyRules ruleQuestions caseQuestions judgedCase oneStation allOneStation arcEnds allArcEnds stationSize allStationSizes stateKept machinesKept startKept stationKept stateSets allStateSets arcsBefore arcSet nodeAt arcAt directionAt stateAt machineAt stationAt timeField timeFields stationHead directionFields stateRowFields stateFields machineFields partFields rowFields stationFields allStationFields withNode endsOf stationNodes plainNodes leftover boundFields demandFields nodeFields allNodeFields field fields setsKept directionSets allDirectionSets endFields pipeFields memberFields compressorFields kindFields arcFields allArcFields countFields toleranceFields headFields sumN count plainCase stationCase startRefused
 station-accepted = refl
 
 start-refused : judgedCase startRefused ≡ refuses 17 0 0
-unfolding rowQuestions listQuestions earlyRules ruleQuestions caseQuestions judgedCase oneStation allOneStation arcEnds allArcEnds stationSize allStationSizes stateKept machinesKept startKept stationKept stateSets allStateSets arcsBefore arcSet nodeAt arcAt directionAt stateAt machineAt stationAt timeField timeFields stationHead directionFields stateRowFields stateFields machineFields partFields rowFields stationFields allStationFields withNode endsOf stationNodes plainNodes leftover boundFields demandFields nodeFields allNodeFields field fields directionKept directionSets allDirectionSets endFields pipeFields memberFields compressorFields kindFields arcFields allArcFields countFields toleranceFields headFields sumN count plainCase stationCase startRefused
+unfolding rowQuestions listQuestions earlyRules ruleQuestions caseQuestions judgedCase oneStation allOneStation arcEnds allArcEnds stationSize allStationSizes stateKept machinesKept startKept stationKept stateSets allStateSets arcsBefore arcSet nodeAt arcAt directionAt stateAt machineAt stationAt timeField timeFields stationHead directionFields stateRowFields stateFields machineFields partFields rowFields stationFields allStationFields withNode endsOf stationNodes plainNodes leftover boundFields demandFields nodeFields allNodeFields field fields setsKept directionSets allDirectionSets endFields pipeFields memberFields compressorFields kindFields arcFields allArcFields countFields toleranceFields headFields sumN count plainCase stationCase startRefused
 start-refused = refl

@@ -13,7 +13,7 @@ use lib.ListN.{length}
 use Rattle.numbers.specs.law.Told.{gives}
 use Rattle.numbers.specs.inside.SignedParts.{ints, added, taken, size}
 use Rattle.numbers.specs.inside.SignedBounds.{Bounded}
-use Rattle.numbers.specs.law.Sets.{disjointOf, subsetOf}
+use Rattle.numbers.specs.law.Sets.{memberOf, disjointOf, subsetOf}
 use Rattle.numbers.specs.law.Sums.{count}
 use Rattle.numbers.specs.law.Question.{firstNo, told}
 use Rattle.numbers.specs.claims.AllYes.{AllYes}
@@ -32,16 +32,17 @@ use Rattle.case.specs.law.ArcFields.{endFields, pipeFields, leastBothWay
 use Rattle.case.specs.law.StationFields.{firstItems, stationHead, directionFields, stateRowFields, stateFields, machineFields, partFields, rowFields}
 use Rattle.case.specs.law.Leftover.{leftover}
 use Rattle.case.specs.law.StationArcs.{belongs, stationArcs, every}
-use Rattle.case.specs.law.StationNodes.{stationNodes, plainNodes, onlyFence}
+use Rattle.case.specs.law.StationNodes.{fenceNode}
 use Rattle.case.specs.law.ArcEnds.{arcEnds, allArcEnds}
 use Rattle.case.specs.law.OneStation.{inStation, oneStation, allOneStation}
-use Rattle.case.specs.law.Directions.{directionKept, directionSets, allDirectionSets}
+use Rattle.case.specs.law.Directions.{onlyFence, setsKept, directionKept, directionSets, allDirectionSets}
 use Rattle.case.specs.law.States.{stateKept, machinesKept, startSet, startKept, stationKept, stateSets, allStateSets}
 use Rattle.case.specs.law.Judged.{listQuestions, earlyRules, ruleQuestions, caseQuestions, judgedCase}
 use Rattle.case.specs.inside.FieldLaws.{InRange, and-first, and-second, first-yes, second-yes, item-yes, field-yes, fields-yes, field-then, fields-then, count-most, count-least}
 use Rattle.case.specs.inside.CountLaws.{every-at}
+use Rattle.case.specs.inside.SetLaws.{only-members}
 use Rattle.case.specs.inside.Counts.{Counted, StationsCounted, Sized}
-use Rattle.case.specs.inside.CountsInRange.{list-counted, list-stations, times-yes, nodes-yes, arcs-yes, leftover-yes, station-yes, ends-yes, one-yes, directions-yes, rules-sized}
+use Rattle.case.specs.inside.CountsInRange.{list-counted, list-stations, times-yes, nodes-yes, arcs-yes, leftover-yes, station-yes, parts-yes, list-ranged, ends-yes, one-yes, directions-yes, rules-sized, between, at}
 use Rattle.case.specs.inside.Ranges.{Between, NodeRanges, ArcRanges, PipeRanges, ArtificialRanges, StationRanges, DirectionRanges, StateRanges, MachineRanges}
 
 abbrev pub Accepted : List ℤ → Type 0
@@ -73,12 +74,6 @@ module _ (case : List ℤ) where
   judged-yes e y = sym (judged e) ∙ y
 
 -- ---- one field
-
-between : {case : List ℤ} {i : ℕ} {low high : ℤ} → InRange case i low high → Between low (numberAt case i) high
-between r = record { least = r .least; most = r .most }
-
-at : {case : List ℤ} {i : ℕ} (j : ℕ) {low high : ℤ} → InRange case i low high → i ≡ j → InRange case j low high
-at {case} j {low} {high} r e = subst (λ (n : ℕ). InRange case n low high) e r
 
 -- a number from 0 to m is at most m in size
 pub between-bounded : {z : ℤ} {m : ℕ} → Between (pos 0) z (pos m) → Bounded z m
@@ -346,29 +341,15 @@ module _ (case : List ℤ) (e : Accepted case) where
         state = below t;
       }
 
-  parts-yes : (s : ℕ) → s < stationsOf case → firstNo (partFields case (stationAt case s)) ≡ Yes
-  unfolding rowFields
-  parts-yes s p = second-yes (stationHead case (stationAt case s)) (partFields case (stationAt case s)) (station-yes case list-yes s p)
-
   pub direction-ranges : (s f : ℕ) → s < stationsOf case → f < stationOf case s .directions → DirectionRanges (directionOf case s f)
-  unfolding partFields directionFields
-  direction-ranges s f p q =
-      let row = stationAt case s in
-      let i = directionAt row f in
-      let y = item-yes (directionFields case row) (directionsAt case row) (first-yes (over (directionFields case row) 0 (directionsAt case row)) _ (parts-yes s p)) f q in
-      let t = fields-then case i 2 (pos 0) (firstItems 60) _ y in
-      record {
-        entry = between (at i (t .0 0 (omega arith)) (omega arith));
-        exit = between (at (i + 1) (t .0 1 (omega arith)) (omega arith));
-        weight = count-most (field-yes case (i + 2) (pos 0) mostWeight (t .1));
-      }
+  direction-ranges s f p q = list-ranged case list-yes .each s p .each f q
 
   pub state-ranges : (s z : ℕ) → s < stationsOf case → z < stationOf case s .states → StateRanges (stationOf case s .directions) (stateOf case s z)
   unfolding partFields stateFields stateRowFields
   state-ranges s z p q =
       let row = stationAt case s in
       let i = stateAt case row z in
-      let r = second-yes (over (directionFields case row) 0 (directionsAt case row)) _ (parts-yes s p) in
+      let r = second-yes (over (directionFields case row) 0 (directionsAt case row)) _ (parts-yes case list-yes s p) in
       let y = item-yes (stateFields case row) (statesAt case row) (first-yes (over (stateFields case row) 0 (statesAt case row)) _ r) z q in
       let d = field-then case i (pos 0) (firstItems (directionsAt case row)) _ y in
       let t = fields-then case (i + 1) 2 (pos 0) (firstItems 30) _ (d .1) in
@@ -384,7 +365,7 @@ module _ (case : List ℤ) (e : Accepted case) where
   machine-ranges s m p q =
       let row = stationAt case s in
       let i = machineAt case row m in
-      let r = second-yes (over (directionFields case row) 0 (directionsAt case row)) _ (parts-yes s p) in
+      let r = second-yes (over (directionFields case row) 0 (directionsAt case row)) _ (parts-yes case list-yes s p) in
       let y = item-yes (machineFields case row) (machinesAt case row) (second-yes (over (stateFields case row) 0 (statesAt case row)) _ r) m q in
       let f = field-then case i (pos 0) mostFlow _ y in
       record { flow = between (f .0); ratio = between (field-yes case (i + 1) (pos 1001) (pos 10000) (f .1)) }
@@ -399,25 +380,30 @@ module _ (case : List ℤ) (e : Accepted case) where
   sized = rules-sized case early-yes
 
   -- 16
-  direction-kept : (s f : ℕ) → s < stationsOf case → f < stationOf case s .directions → directionKept case (stationAt case s) (stationNodes case s) (plainNodes case) f ≡ true
+  direction-kept : (s f : ℕ) → s < stationsOf case → f < stationOf case s .directions → directionKept case s f ≡ true
   unfolding allDirectionSets directionSets
   direction-kept s f p q =
       let y = all-yes (directionSets case s) (item-yes (directionSets case) (stationsOf case) (directions-yes case early-yes) s p) .0 in
-      every-at (stationOf case s .directions) (directionKept case (stationAt case s) (stationNodes case s) (plainNodes case)) y f q
+      every-at (stationOf case s .directions) (directionKept case s) y f q
 
   pub direction-disjoint : (s f : ℕ) → s < stationsOf case → f < stationOf case s .directions → disjointOf (directionOf case s f .entry) (directionOf case s f .exit) ≡ true
-  unfolding directionKept
+  unfolding setsKept
   direction-disjoint s f p q = and-first _ _ (direction-kept s f p q)
 
-  pub entry-fence : (s f : ℕ) → s < stationsOf case → f < stationOf case s .directions → onlyFence (stationNodes case s) (plainNodes case) (directionOf case s f .entry) ≡ true
-  unfolding directionKept
-  entry-fence s f p q = and-first _ _ (and-second (disjointOf (directionOf case s f .entry) (directionOf case s f .exit)) _ (direction-kept s f p q))
+  -- "hold only its fence nodes"
+  module _ (s f : ℕ) (p : s < stationsOf case) (q : f < stationOf case s .directions) (v : ℕ) where
+    pub entry-fence : memberOf (directionOf case s f .entry) v ≡ true → fenceNode case s v ≡ true
+    unfolding setsKept
+    entry-fence =
+        only-members (fenceNode case s) (directionOf case s f .entry) (direction-ranges s f p q .entry)
+        (and-first _ _ (and-second (disjointOf (directionOf case s f .entry) (directionOf case s f .exit)) _ (direction-kept s f p q))) v
 
-  pub exit-fence : (s f : ℕ) → s < stationsOf case → f < stationOf case s .directions → onlyFence (stationNodes case s) (plainNodes case) (directionOf case s f .exit) ≡ true
-  unfolding directionKept
-  exit-fence s f p q =
-      and-second (onlyFence (stationNodes case s) (plainNodes case) (directionOf case s f .entry)) _
-      (and-second (disjointOf (directionOf case s f .entry) (directionOf case s f .exit)) _ (direction-kept s f p q))
+    pub exit-fence : memberOf (directionOf case s f .exit) v ≡ true → fenceNode case s v ≡ true
+    unfolding setsKept
+    exit-fence =
+        only-members (fenceNode case s) (directionOf case s f .exit) (direction-ranges s f p q .exit)
+        (and-second (onlyFence (fenceNode case s) (directionOf case s f .entry)) _
+        (and-second (disjointOf (directionOf case s f .entry) (directionOf case s f .exit)) _ (direction-kept s f p q))) v
 
   -- 17
   station-kept : (s : ℕ) → s < stationsOf case → stationKept case s ≡ true

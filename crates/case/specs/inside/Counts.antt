@@ -5,6 +5,8 @@ use mathlib.Core.List.{List}
 use Prim.Native.Nat.{ℕ, _<_, _≤_, _^_}
 use lib.IntN.{ℤ}
 use Rattle.case.specs.law.Layout.{countAt, nodesOf, arcsOf, stationsOf, stepsOf, directionsAt, statesAt, machinesAt, stationAt}
+use Rattle.case.specs.law.Records.{directionRow}
+use Rattle.case.specs.inside.Ranges.{DirectionRanges}
 use Rattle.case.specs.law.StationArcs.{stationArcs}
 
 -- a number that was read as a count
@@ -31,6 +33,13 @@ pub record StationCounted (case : List ℤ) (row : ℕ) : Type 0 where
 
 pub record StationsCounted (case : List ℤ) : Type 0 where
   pub each : (s : ℕ) → s < stationsOf case → StationCounted case (stationAt case s)
+
+-- the directions of the station whose rows begin at `row`, and of every station
+pub record DirectionsRanged (case : List ℤ) (row : ℕ) : Type 0 where
+  pub each : (f : ℕ) → f < directionsAt case row → DirectionRanges (directionRow case row f)
+
+pub record StationsRanged (case : List ℤ) : Type 0 where
+  pub each : (s : ℕ) → s < stationsOf case → DirectionsRanged case (stationAt case s)
 
 -- what 15 has let pass
 pub record Sized (case : List ℤ) : Type 0 where

@@ -1,6 +1,6 @@
--- What the counts are known to be once their questions have let them pass, and what that says of offsets.
+-- What the counts and the directions' sets are known to be once their questions have let them pass, and what that says of offsets.
 -- Assumes nothing.
-use mathlib.Core.Path.{_≡_, refl}
+use mathlib.Core.Path.{_≡_, refl, subst}
 use mathlib.Core.List.{List, _++_}
 use Prim.Native.Nat.{ℕ, _+_, _<_, _≤_}
 use native.Mathlib.Nat.{mul-le-mul}
@@ -10,21 +10,31 @@ use borrow.Author.Tests.{leb-true}
 use lib.IntN.{ℤ, pos}
 use Rattle.numbers.specs.law.Question.{firstNo}
 use Rattle.numbers.specs.inside.QuestionLaws.{all-yes}
+use Rattle.numbers.specs.law.Items.{over}
 use Rattle.numbers.specs.declared.answer.Answer.the-variants.{Yes}
-use Rattle.case.specs.law.Layout.{arcsOf, stationsOf, stepsOf, nodeAt, arcAt, directionAt, stateAt, machineAt, stationEnd, stationAt}
+use Rattle.case.specs.law.Layout.{numberAt, arcsOf, stationsOf, stepsOf, nodeAt, arcAt, directionsAt, directionAt, stateAt, machineAt, stationEnd, stationAt}
 use Rattle.case.specs.law.HeadFields.{countFields, toleranceFields, headFields}
 use Rattle.case.specs.law.TimeFields.{timeFields}
 use Rattle.case.specs.law.NodeFields.{allNodeFields}
 use Rattle.case.specs.law.ArcFields.{allArcFields}
-use Rattle.case.specs.law.StationFields.{stationHead, partFields, rowFields, stationFields, allStationFields}
+use Rattle.case.specs.law.StationFields.{firstItems, stationHead, directionFields, partFields, rowFields, stationFields, allStationFields}
 use Rattle.case.specs.law.Leftover.{leftover}
 use Rattle.case.specs.law.ArcEnds.{allArcEnds}
 use Rattle.case.specs.law.OneStation.{allOneStation}
 use Rattle.case.specs.law.StationSize.{stationSize, allStationSizes}
 use Rattle.case.specs.law.Directions.{allDirectionSets}
 use Rattle.case.specs.law.Judged.{rowQuestions, listQuestions, earlyRules}
-use Rattle.case.specs.inside.FieldLaws.{first-yes, second-yes, item-yes, field-yes, field-then, count-most, count-least}
-use Rattle.case.specs.inside.Counts.{Counted, StationCounted, StationsCounted, Sized}
+use Rattle.case.specs.law.Field.{mostWeight}
+use Rattle.case.specs.inside.FieldLaws.{InRange, first-yes, second-yes, item-yes, field-yes, field-then, fields-then, count-most, count-least}
+use Rattle.case.specs.inside.Ranges.{Between}
+use Rattle.case.specs.inside.Counts.{Counted, StationCounted, StationsCounted, DirectionsRanged, StationsRanged, Sized}
+
+-- one field's range, and the field by another name of its index
+pub between : {case : List ℤ} {i : ℕ} {low high : ℤ} → InRange case i low high → Between low (numberAt case i) high
+between r = record { least = r .least; most = r .most }
+
+pub at : {case : List ℤ} {i : ℕ} (j : ℕ) {low high : ℤ} → InRange case i low high → i ≡ j → InRange case j low high
+at {case} j {low} {high} r e = subst (λ (n : ℕ). InRange case n low high) e r
 
 module _ (case : List ℤ) where
   -- ---- the head
@@ -66,6 +76,22 @@ module _ (case : List ℤ) where
   unfolding rowFields
   row-counted row e = station-counted row (first-yes (stationHead case row) (partFields case row) e)
 
+  -- ---- a station's directions
+
+  pub directions-ranged : (row : ℕ) → firstNo (partFields case row) ≡ Yes → DirectionsRanged case row
+  unfolding partFields directionFields
+  directions-ranged row e = record {
+    each = λ f q.
+        let i = directionAt row f in
+        let y = item-yes (directionFields case row) (directionsAt case row) (first-yes (over (directionFields case row) 0 (directionsAt case row)) _ e) f q in
+        let t = fields-then case i 2 (pos 0) (firstItems 60) _ y in
+        record {
+          entry = between (at i (t .0 0 (omega arith)) (omega arith));
+          exit = between (at (i + 1) (t .0 1 (omega arith)) (omega arith));
+          weight = count-most (field-yes case (i + 2) (pos 0) mostWeight (t .1));
+        };
+  }
+
   -- ---- the list's groups
 
   module _ (e : firstNo (listQuestions case) ≡ Yes) where
@@ -106,6 +132,13 @@ module _ (case : List ℤ) where
 
     pub list-stations : StationsCounted case
     list-stations = record { each = λ s p. row-counted (stationAt case s) (station-yes s p) }
+
+    pub parts-yes : (s : ℕ) → s < stationsOf case → firstNo (partFields case (stationAt case s)) ≡ Yes
+    unfolding rowFields
+    parts-yes s p = second-yes (stationHead case (stationAt case s)) (partFields case (stationAt case s)) (station-yes s p)
+
+    pub list-ranged : StationsRanged case
+    list-ranged = record { each = λ s p. directions-ranged (stationAt case s) (parts-yes s p) }
 
   -- ---- the rules' groups
 

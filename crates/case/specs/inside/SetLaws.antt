@@ -1,24 +1,32 @@
 -- What the gathered sets have in them: a node set the ends of the arcs that it was gathered from and no other node, an arc set the arcs that were named.
+-- And 16's test of a node set, by its members and as the code makes it: the set is within both of two sets.
 -- Assumes nothing.
 use mathlib.Core.Path.{_≡_, refl, sym, ap, _∙_}
-use mathlib.Core.Bool.{Bool, true, false}
+use mathlib.Core.Bool.{Bool, true, false, not, _&&_, _||_}
 use mathlib.Core.List.{List}
 use mathlib.Core.Logic.{_⊎_, inl, inr, ⊎-elim}
 use Prim.Native.Nat.{ℕ, zero, suc, _+_, _*_, _/_, _^_, _<_, _≤_, max}
 use native.Mathlib.Nat.{pow-suc, one-mul, add-comm}
 use native.Mathlib.Omega.{arith}
-use borrow.Author.Tests.{ltb-true, ltb-false, lt-ltb, eqb-true, eq-eqb, ne-eqb}
+use borrow.Author.Tests.{ltb-true, ltb-false, lt-ltb, eqb-true, eqb-false, eq-eqb, ne-eqb}
 use lib.Bits.{bitOr, or-shr, or-step, or-shifted}
 use lib.Dec.{eqb, ltb, eqb·zero-suc, eqb·suc-zero, eqb·suc-suc}
 use lib.IntN.{ℤ, pos}
-use Rattle.numbers.specs.law.Sets.{bit, memberOf}
-use Rattle.numbers.specs.inside.SetLaws.{bit-suc, bit-zero, bit-high}
+use Rattle.numbers.specs.law.Signed.{posPart}
+use Rattle.numbers.specs.inside.SignedParts.{ints, size}
+use Rattle.numbers.specs.law.Sets.{bit, memberOf, subsetOf}
+use Rattle.numbers.specs.inside.SetLaws.{bit-suc, bit-zero, bit-high, subset-is, is-subset}
 use Rattle.numbers.specs.law.Sums.{sumN, onlyN}
 use Rattle.case.specs.law.Layout.{arcsOf}
 use Rattle.case.specs.law.Records.{arcOf}
 use Rattle.case.specs.law.StationArcs.{belongs, arcsBefore, arcBit, arcSet}
 use Rattle.case.specs.law.StationNodes.{withNode, endsOf, stationNodes, plain, plainNodes}
-use Rattle.case.specs.inside.CountLaws.{before-yes, before-mono, arcs-lt}
+use Rattle.case.specs.law.StationFields.{firstItems}
+use Rattle.case.specs.law.Directions.{onlyFence}
+use Rattle.case.specs.inside.FieldLaws.{and-first, and-second}
+use Rattle.case.specs.inside.Ranges.{Between}
+use Rattle.case.specs.inside.InSet.{inBoth}
+use Rattle.case.specs.inside.CountLaws.{before-yes, before-mono, arcs-lt, every-at, at-every}
 
 -- ---- items of a union, and of a set of one item
 
@@ -182,3 +190,60 @@ module _ (case : List ℤ) (s : ℕ) (w : ℕ → Bool) where
       flag : (b : Bool) → eqb (onlyN b 1) 1 ≡ b
       flag true = refl
       flag false = refl
+
+-- ---- a set that holds only fence nodes
+
+either : (a b : Bool) → (a ≡ true → b ≡ true) → (b ≡ true → a ≡ true) → a ≡ b
+either true b f g = sym (f refl)
+either false true f g = g refl
+either false false f g = refl
+
+bit-le : (n i : ℕ) → bit n i ≤ 1
+bit-le n i = omega arith
+
+-- a subset, by its members
+pub subset-members : (a b : ℤ) → subsetOf a b ≡ true → (i : ℕ) → memberOf a i ≡ true → memberOf b i ≡ true
+subset-members a b e i m =
+    let x = eqb-true (bit (posPart a) i) 1 m in
+    eq-eqb (bit (posPart b) i) 1 (omega (arith, x, subset-is (posPart a) (posPart b) (eqb-true _ _ e) i, bit-le (posPart b) i))
+
+pub members-subset : (k : ℕ) (a b : ℤ) → posPart a < 2 ^ k → ((i : ℕ) → memberOf a i ≡ true → memberOf b i ≡ true) → subsetOf a b ≡ true
+members-subset k a b h f = eq-eqb _ _ (is-subset k (posPart a) (posPart b) h (λ i. go i (memberOf a i) refl))
+  where
+    go : (i : ℕ) (t : Bool) → memberOf a i ≡ t → bit (posPart a) i ≤ bit (posPart b) i
+    go i true e = let y = eqb-true (bit (posPart b) i) 1 (f i e) in omega (arith, y, bit-le (posPart a) i)
+    go i false e = let n = eqb-false (bit (posPart a) i) 1 e in let l = bit-le (posPart a) i in omega (arith, n, l)
+
+pub node-set : {set : ℤ} → Between (pos 0) set (firstItems 60) → posPart set < 2 ^ 60
+node-set {set} r = omega (ints, r .most, size set)
+
+module _ (fence : ℕ → Bool) (set : ℤ) where
+  pub only-at : posPart set < 2 ^ 60 → onlyFence fence set ≡ true → (v : ℕ) → memberOf set v ≡ true → fence v ≡ true
+  only-at h e v m = go (ltb v 60) refl
+    where
+      go : (b : Bool) → ltb v 60 ≡ b → fence v ≡ true
+      go true l = rw m at (every-at 60 (λ i. not (memberOf set i) || fence i) e v (ltb-true v 60 l))
+      go false l = let f : ⊥ = omega (arith, bit-high 60 (posPart set) v h (ltb-false v 60 l), eqb-true (bit (posPart set) v) 1 m) in absurd f
+
+  pub at-only : ((v : ℕ) → memberOf set v ≡ true → fence v ≡ true) → onlyFence fence set ≡ true
+  at-only f = at-every 60 (λ i. not (memberOf set i) || fence i) (λ i p. go i (memberOf set i) refl)
+    where
+      go : (i : ℕ) (b : Bool) → memberOf set i ≡ b → (not (memberOf set i) || fence i) ≡ true
+      go i true e = rw (e, f i e)
+      go i false e = rw e
+
+  pub only-members : Between (pos 0) set (firstItems 60) → onlyFence fence set ≡ true → (v : ℕ) → memberOf set v ≡ true → fence v ≡ true
+  only-members r = only-at (node-set r)
+
+-- by its members, or within both of the sets of which a fence node is in both
+pub only-both : (inside plain set : ℤ) → posPart set < 2 ^ 60 → (subsetOf set inside && subsetOf set plain) ≡ onlyFence (inBoth inside plain) set
+only-both inside plain set h =
+    either (subsetOf set inside && subsetOf set plain) (onlyFence (inBoth inside plain) set)
+    (λ e. at-only (inBoth inside plain) set (λ v m. both _ _
+    (subset-members set inside (and-first _ _ e) v m)
+    (subset-members set plain (and-second (subsetOf set inside) _ e) v m)))
+    (λ e. both _ _ (members-subset 60 set inside h (λ v m. and-first _ _ (only-at (inBoth inside plain) set h e v m)))
+    (members-subset 60 set plain h (λ v m. and-second (memberOf inside v) _ (only-at (inBoth inside plain) set h e v m))))
+  where
+    both : (a b : Bool) → a ≡ true → b ≡ true → (a && b) ≡ true
+    both a b p q = rw (p, q)

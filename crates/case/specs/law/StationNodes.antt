@@ -6,7 +6,7 @@ use Prim.Native.Nat.{ℕ, zero, suc, _^_}
 use lib.Bits.{bitOr}
 use lib.Dec.{ltb, leb}
 use lib.IntN.{ℤ, pos}
-use Rattle.numbers.specs.law.Sets.{subsetOf}
+use Rattle.numbers.specs.law.Sets.{memberOf}
 use Rattle.case.specs.law.Layout.{arcsOf}
 use Rattle.case.specs.law.Records.{arcOf}
 use Rattle.case.specs.law.StationArcs.{belongs}
@@ -35,6 +35,6 @@ plain case e = leb (arcOf case e .kind) 2
 unfoldable pub plainNodes : List ℤ → ℤ
 plainNodes case = pos (endsOf case (plain case) (arcsOf case))
 
--- Does a node set hold only fence nodes? `inside` are the station's nodes, `plain` the nodes that end an arc of kind 0 to 2.
-abbrev pub onlyFence : ℤ → ℤ → ℤ → Bool
-onlyFence inside plain set = subsetOf set inside && subsetOf set plain
+-- is v a fence node of the station?
+abbrev pub fenceNode : List ℤ → ℕ → ℕ → Bool
+fenceNode case s v = memberOf (stationNodes case s) v && memberOf (plainNodes case) v

@@ -16,7 +16,7 @@ use Rattle.case.specs.declared.records.State.{State}
 use Rattle.case.specs.law.Layout.{nodesOf, arcsOf, stationsOf}
 use Rattle.case.specs.law.Records.{arcOf, stationOf, directionOf, stateOf}
 use Rattle.case.specs.law.StationArcs.{belongs, arcSet, every}
-use Rattle.case.specs.law.StationNodes.{stationNodes, plainNodes}
+use Rattle.case.specs.law.StationNodes.{fenceNode}
 use Rattle.plan.specs.law.Compared.{isZero, asked}
 use Rattle.plan.specs.law.PlanRecords.{arcRow, choiceOf, activeIn, directionIn, stateIn}
 
@@ -68,18 +68,16 @@ stationPart case row s v e =
 unfoldable pub stationFlow : List ℤ → List ℤ → ℕ → ℕ → ℤ
 stationFlow case row s v = sum (arcsOf case) (stationPart case row s v)
 
--- by whether the node is an entry and whether it is an exit
+-- at a fence node, by whether it is an entry and whether it is an exit
 abbrev pub fenceFlowKept : Bool → Bool → ℤ → Bool
 fenceFlowKept entry exit flow = cond entry (leZ (pos 0) flow) (cond exit (leZ flow (pos 0)) (isZero flow))
 
--- `inside` are the station's nodes, `plain` the nodes that end an arc of kind 0 to 2; a fence node is in both
-unfoldable pub fenceNodeKept : Direction → ℤ → ℤ → ℕ → ℤ → Bool
-fenceNodeKept chosen inside plain v flow =
-    not (memberOf inside v && memberOf plain v)
-    || fenceFlowKept (memberOf (chosen .entry) v) (memberOf (chosen .exit) v) flow
+-- at any node, where `fence` says which are fence nodes
+unfoldable pub fenceNodeKept : (ℕ → Bool) → Direction → ℕ → ℤ → Bool
+fenceNodeKept fence chosen v flow = not (fence v) || fenceFlowKept (memberOf (chosen .entry) v) (memberOf (chosen .exit) v) flow
 
 abbrev pub fenceKept : List ℤ → List ℤ → ℕ → ℕ → ℕ → Bool
-fenceKept case row s f v = fenceNodeKept (directionOf case s f) (stationNodes case s) (plainNodes case) v (stationFlow case row s v)
+fenceKept case row s f v = fenceNodeKept (fenceNode case s) (directionOf case s f) v (stationFlow case row s v)
 
 unfoldable pub fenceFlowsKept : List ℤ → List ℤ → ℕ → Bool
 fenceFlowsKept case row s = every (nodesOf case) (fenceKept case row s (directionIn case row s))

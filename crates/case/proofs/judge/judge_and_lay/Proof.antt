@@ -7,7 +7,7 @@ use Rattle.numbers.specs.law.Question.{firstNo, told}
 use Rattle.numbers.specs.declared.answer.Answer.{Answer}
 use Rattle.numbers.specs.declared.answer.Answer.the-variants.{Yes, No}
 use Rattle.case.specs.law.Judged.{listQuestions, ruleQuestions, caseQuestions, judgedCase}
-use Rattle.case.specs.inside.CountsInRange.{list-counted, list-stations}
+use Rattle.case.specs.inside.CountsInRange.{list-counted, list-stations, list-ranged}
 use Rattle.case.proofs.Asked.{stopped, went}
 use Rattle.case.proofs.judge.judge_and_lay.Statement.{statement}
 use Rattle.case.proofs.judge.judge_and_lay.Tie as tie
@@ -32,7 +32,7 @@ rules-requires : tie.Need-rules-requires
 rules-requires c κs =
     let e = c .before in
     let l = now (e .before .before .before .args .case) in
-    (list-counted l (passes e), c .lay .ensures, list-stations l (passes e))
+    (list-counted l (passes e), c .lay .ensures, list-stations l (passes e), list-ranged l (passes e))
 
 enum-told-2 : tie.Need-enum-told-2
 enum-told-2 c = search needs

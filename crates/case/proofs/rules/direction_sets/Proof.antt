@@ -40,7 +40,12 @@ element-copy-out-inside : tie.Need-element-copy-out-inside Inv-loop μ-loop
 element-copy-out-inside c = let s = c .before .before .before .before in omega (arith, s .pre .0 .stations, s .pre .1 .stations)
 
 directions-kept-requires : tie.Need-directions-kept-requires Inv-loop μ-loop
-directions-kept-requires c κs = search needs
+directions-kept-requires c κs = let t = c .before .before in
+    let h = t .before in
+    let s = h .before .before in
+    let y = s .pre .1 in
+    let p : h .loop .s < stationsOf (now (s .args .case)) = rw (← y .stations) (t .loop-test .taken) in
+    rw (y .rows .each (h .loop .s) p) (s .pre .2 .each (h .loop .s) p)
 
 returns : tie.Need-returns Inv-loop μ-loop
 returns c = let b = c .before in

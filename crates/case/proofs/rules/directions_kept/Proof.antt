@@ -1,22 +1,30 @@
-use mathlib.Core.Bool.{true}
+use mathlib.Core.Bool.{Bool, true, false}
+use mathlib.Core.List.{List}
 use mathlib.Core.Path.{_≡_, refl, sym, ap, _∙_}
-use Prim.Native.Nat.{_≤_, _-_}
+use Prim.Native.Nat.{ℕ, _≤_, _-_}
 use native.Mathlib.Omega.{arith}
 use borrow.Author.Needs.{needs}
 use borrow.Author.Tests.{not-true, not-false}
 use denote.Ref.{now}
+use lib.IntN.{ℤ}
 use mir.Facts.{toZ-ofZ}
 use mir.Syntax.{w64}
 use mir.Val.{toZ, ofZ}
 use Rattle.case.specs.inside.CountLaws.{every-more, every-not}
-use Rattle.case.specs.law.Directions.{directionKept}
+use Rattle.case.specs.law.Directions.{setsKept}
+use Rattle.case.specs.inside.InSet.{inBoth}
+use Rattle.case.specs.law.Records.{directionRow}
 use Rattle.case.specs.law.StationArcs.{every}
 use Rattle.case.specs.declared.records.Station.{Station}
 use Rattle.case.proofs.rules.directions_kept.Statement.{statement}
 use Rattle.case.proofs.rules.directions_kept.Tie as tie
 
+-- what the code finds of direction f
+abbrev found : List ℤ → ℕ → ℤ → ℤ → ℕ → Bool
+found l row inside plain f = setsKept (inBoth inside plain) (directionRow l row f)
+
 abbrev Inv-loop : tie.InvT-loop
-Inv-loop case row inside plain directions f₀ f = (f ≤ directions) × (every f (directionKept case row (toZ w64 inside) (toZ w64 plain)) ≡ true)
+Inv-loop case row inside plain directions f₀ f = (f ≤ directions) × (every f (found case row (toZ w64 inside) (toZ w64 plain)) ≡ true)
 
 abbrev μ-loop : tie.MeasureT-loop
 μ-loop case row inside plain directions f₀ f = directions - f
@@ -28,7 +36,9 @@ loop-holds : tie.Need-loop-holds Inv-loop μ-loop
 loop-holds c = (omega arith, refl)
 
 direction-kept-requires : tie.Need-direction-kept-requires Inv-loop μ-loop
-direction-kept-requires c κs = search needs
+direction-kept-requires c κs = let h = c .before in
+    let d = ap (λ (x : Station). x .directions) (h .before .station .ensures) in
+    h .before .before .pre .each (h .loop .f) (rw (← d) (c .loop-test .taken))
 
 returns : tie.Need-returns Inv-loop μ-loop
 returns c = let b = c .before in
@@ -38,7 +48,9 @@ returns c = let b = c .before in
     let f = h .before .before .fits in
     let l = now (a .case) in
     let d = ap (λ (x : Station). x .directions) (h .before .station .ensures) in
-    let r = every-not (h .before .station .result .directions) (directionKept l (a .row) (toZ w64 (ofZ w64 (a .inside))) (toZ w64 (ofZ w64 (a .plain)))) (h .loop .f) (t .loop-test .taken) (sym (b .direction-kept .ensures) ∙ not-true _ (c .if1 .taken)) in
+    let k = found l (a .row) (toZ w64 (ofZ w64 (a .inside))) (toZ w64 (ofZ w64 (a .plain))) in
+    let e : k (h .loop .f) ≡ false = sym (b .direction-kept .ensures) ∙ not-true _ (c .if1 .taken) in
+    let r = every-not (h .before .station .result .directions) k (h .loop .f) (t .loop-test .taken) e in
     rw (← d) (sym (simp (toZ-ofZ (f .inside), toZ-ofZ (f .plain)) at r))
 
 add-f : tie.Need-add-f Inv-loop μ-loop
@@ -53,7 +65,8 @@ loop-again c = let b = c .before in
     let h = t .before in
     let a = h .before .before .args in
     let l = now (a .case) in
-    (omega arith, every-more (h .loop .f) (directionKept l (a .row) (toZ w64 (ofZ w64 (a .inside))) (toZ w64 (ofZ w64 (a .plain)))) (h .loop .inv .1) (sym (b .direction-kept .ensures) ∙ not-false _ (c .if1 .left)))
+    let k = found l (a .row) (toZ w64 (ofZ w64 (a .inside))) (toZ w64 (ofZ w64 (a .plain))) in
+    (omega arith, every-more (h .loop .f) k (h .loop .inv .1) (sym (b .direction-kept .ensures) ∙ not-false _ (c .if1 .left)))
 
 returns-2 : tie.Need-returns-2 Inv-loop μ-loop
 returns-2 c = let h = c .before in
