@@ -48,7 +48,7 @@ fn flow_kept(kind: usize, d: i64) -> bool
     match kind {
         1 => within(0, d, 10000000),
         2 => within(-10000000, d, 0),
-        _ => within(0, d, 0),
+        _ => same(d, 0),
     }
 }
 

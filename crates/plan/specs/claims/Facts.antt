@@ -1,13 +1,13 @@
 -- What each rule from 21 to 33 says, as plain facts, of a plan that is accepted.
 -- Assumes nothing.
 use mathlib.Core.Path.{_≡_, refl, sym, subst}
-use mathlib.Core.Bool.{Bool, true, false, not, _&&_, _||_}
+use mathlib.Core.Bool.{Bool, true, false, cond, not, _&&_, _||_}
 use mathlib.Core.List.{List}
 use Prim.Native.Nat.{ℕ, _<_, _≤_}
 use native.Mathlib.Omega.{arith}
-use borrow.Author.Tests.{leb-true, ltb-true, eq-eqb, ne-eqb, le-leb, lt-leb}
+use borrow.Author.Tests.{leb-true, ltb-true, eqb-true, eq-eqb, ne-eqb, le-leb, lt-leb}
 use lib.Dec.{T, eqb, leb, ltb}
-use lib.IntN.{ℤ, pos, natAbs, _+ℤ_, _-ℤ_, _*ℤ_}
+use lib.IntN.{ℤ, pos, negsuc, natAbs, _+ℤ_, _-ℤ_, _*ℤ_}
 use lib.Signed.{leZ, _≤ℤ_}
 use Rattle.numbers.specs.law.Signed.{posPart}
 use Rattle.numbers.specs.inside.SignedParts.{ints}
@@ -78,11 +78,24 @@ pub record NodeFacts (n : Node) (r : NodeRow) : Type 0 where
   pub uplus : In (pos 0) (r .uplus) (slackLimit (n .kind) (n .actlow -ℤ n .low))
   pub uminus : In (pos 0) (r .uminus) (slackLimit (n .kind) (n .high -ℤ n .acthigh))
 
+boundary-in : (kind : ℕ) (d : ℤ) → boundaryFlowKept kind d ≡ true → In (leastDemand kind) d (mostDemand kind)
+unfolding boundaryFlowKept
+boundary-in kind d e = go (eqb kind 1) refl (eqb kind 2) refl e
+  where
+    go : (b : Bool) → eqb kind 1 ≡ b → (c : Bool) → eqb kind 2 ≡ c
+        → cond b (within (pos 0) d mostFlow) (cond c (within (negsuc 9999999) d (pos 0)) (isZero d)) ≡ true → In (leastDemand kind) d (mostDemand kind)
+    go true p c q e = let k = eqb-true kind 1 p in rw k (in-range (pos 0) d mostFlow e)
+    go false p true q e = rw (p, q) (in-range (negsuc 9999999) d (pos 0) e)
+    go false p false q e =
+        let least = and-second (leZ d (pos 0)) (leZ (pos 0) d) e in
+        let most = and-first (leZ d (pos 0)) (leZ (pos 0) d) e in
+        rw (p, q) (record { least = le (pos 0) d least; most = le d (pos 0) most })
+
 pub rule21-says : (n : Node) (r : NodeRow) → nodeNumbersKept n r ≡ true → NodeFacts n r
-unfolding nodeNumbersKept boundaryFlowKept slacksKept
+unfolding nodeNumbersKept slacksKept
 rule21-says n r e =
     let w1 = within (n .low) (r .p) (n .high) in
-    let w2 = within (leastDemand (n .kind)) (r .d) (mostDemand (n .kind)) in
+    let w2 = boundaryFlowKept (n .kind) (r .d) in
     let w3 = within (pos 0) (r .splus) (slackLimit (n .kind) mostFlow) in
     let w4 = within (pos 0) (r .sminus) (slackLimit (n .kind) mostFlow) in
     let w5 = within (pos 0) (r .uplus) (slackLimit (n .kind) (n .actlow -ℤ n .low)) in
@@ -93,7 +106,7 @@ rule21-says n r e =
     let e5 : (w5 && w6) ≡ true = and-second w4 (w5 && w6) e4 in
     record {
       p = in-range _ _ _ (and-first w1 (w2 && (w3 && (w4 && (w5 && w6)))) e);
-      d = in-range _ _ _ (and-first w2 (w3 && (w4 && (w5 && w6))) e2);
+      d = boundary-in (n .kind) (r .d) (and-first w2 (w3 && (w4 && (w5 && w6))) e2);
       splus = in-range _ _ _ (and-first w3 (w4 && (w5 && w6)) e3);
       sminus = in-range _ _ _ (and-first w4 (w5 && w6) e4);
       uplus = in-range _ _ _ (and-first w5 w6 e5);

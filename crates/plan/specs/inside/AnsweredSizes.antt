@@ -7,7 +7,7 @@ use Prim.Native.Nat.{ℕ, _+_, _-_, _<_, _≤_}
 use native.Mathlib.Omega.{arith}
 use borrow.Author.Tests.{ltb-true}
 use lib.Dec.{eqb, leb, ltb}
-use lib.IntN.{ℤ, pos, natAbs, _-ℤ_}
+use lib.IntN.{ℤ, pos, negsuc, natAbs, _-ℤ_}
 use lib.Signed.{leZ}
 use Rattle.numbers.specs.law.Signed.{posPart}
 use Rattle.numbers.specs.inside.SignedParts.{ints, size, taken}
@@ -22,11 +22,10 @@ use Rattle.case.specs.declared.records.Artificial.{Artificial}
 use Rattle.case.specs.law.Layout.{numberAt, nodesOf, arcsOf, stationsOf, stepsOf, massTolerance}
 use Rattle.case.specs.law.Records.{nodeOf, arcOf, artificialOf, stationOf}
 use Rattle.case.specs.law.Field.{mostFlow}
-use Rattle.case.specs.law.NodeFields.{leastDemand, mostDemand}
 use Rattle.case.specs.inside.FieldLaws.{first-yes, second-yes, item-yes, and-first, and-second}
 use Rattle.plan.specs.declared.rows.NodeRow.{NodeRow}
 use Rattle.plan.specs.declared.rows.ArcRow.{ArcRow}
-use Rattle.plan.specs.law.Compared.{within}
+use Rattle.plan.specs.law.Compared.{within, isZero}
 use Rattle.plan.specs.law.PlanRecords.{nodeRow, arcRow, choiceOf, pressureIn, directionIn, stateIn}
 use Rattle.plan.specs.law.Setting.{settingOf}
 use Rattle.plan.specs.law.NodeRules.{slackLimit, slacksKept, boundaryFlowKept, nodeNumbersKept, nodeQuestions, allNodeQuestions}
@@ -63,11 +62,23 @@ cond-sized false x y h k = k
 difference : {x y : ℤ} {m n : ℕ} → Bounded x m → Bounded y n → natAbs (x -ℤ y) ≤ m + n
 difference {x} {y} h k = omega (arith, taken x y, size x, size y, size (x -ℤ y), h .bound, k .bound)
 
+boundary-sized : (kind : ℕ) (d : ℤ) → boundaryFlowKept kind d ≡ true → Bounded d 10000000
+unfolding boundaryFlowKept
+boundary-sized kind d e = go (eqb kind 1) (eqb kind 2) e
+  where
+    go : (source sink : Bool) → cond source (within (pos 0) d mostFlow) (cond sink (within (negsuc 9999999) d (pos 0)) (isZero d)) ≡ true → Bounded d 10000000
+    go true sink e = within-sized (pos 0) d mostFlow 10000000 e (omega arith) (omega arith)
+    go false true e = within-sized (negsuc 9999999) d (pos 0) 10000000 e (omega arith) (omega arith)
+    go false false e =
+        let most = and-first (leZ d (pos 0)) (leZ (pos 0) d) e in
+        let least = and-second (leZ d (pos 0)) (leZ (pos 0) d) e in
+        record { bound = omega (ints, most, least, size d) }
+
 pub numbers-sized : (n : Node) (r : NodeRow) → NodeSized n → nodeNumbersKept n r ≡ true → NodeRowSized r
-unfolding nodeNumbersKept boundaryFlowKept slacksKept
+unfolding nodeNumbersKept slacksKept
 numbers-sized n r z e =
     let w1 = within (n .low) (r .p) (n .high) in
-    let w2 = within (leastDemand (n .kind)) (r .d) (mostDemand (n .kind)) in
+    let w2 = boundaryFlowKept (n .kind) (r .d) in
     let w3 = within (pos 0) (r .splus) (slackLimit (n .kind) mostFlow) in
     let w4 = within (pos 0) (r .sminus) (slackLimit (n .kind) mostFlow) in
     let w5 = within (pos 0) (r .uplus) (slackLimit (n .kind) (n .actlow -ℤ n .low)) in
@@ -78,7 +89,7 @@ numbers-sized n r z e =
     let e5 : (w5 && w6) ≡ true = and-second w4 (w5 && w6) e4 in
     record {
       p = within-sized (n .low) (r .p) (n .high) 200000 (and-first w1 (w2 && (w3 && (w4 && (w5 && w6)))) e) (z .low .bound) (z .high .bound);
-      d = within-sized (leastDemand (n .kind)) (r .d) (mostDemand (n .kind)) 10000000 (and-first w2 (w3 && (w4 && (w5 && w6))) e2) (cond-sized (eqb (n .kind) 2) _ _ (omega arith) (omega arith)) (cond-sized (eqb (n .kind) 1) _ _ (omega arith) (omega arith));
+      d = boundary-sized (n .kind) (r .d) (and-first w2 (w3 && (w4 && (w5 && w6))) e2);
       splus = within-sized (pos 0) (r .splus) (slackLimit (n .kind) mostFlow) 10000000 (and-first w3 (w4 && (w5 && w6)) e3) (omega arith) (slack-limit (n .kind) mostFlow (omega arith));
       sminus = within-sized (pos 0) (r .sminus) (slackLimit (n .kind) mostFlow) 10000000 (and-first w4 (w5 && w6) e4) (omega arith) (slack-limit (n .kind) mostFlow (omega arith));
       uplus = within-sized (pos 0) (r .uplus) (slackLimit (n .kind) (n .actlow -ℤ n .low)) 400000 (and-first w5 w6 e5) (omega arith) (slack-limit (n .kind) (n .actlow -ℤ n .low) (difference (z .actlow) (z .low)));

@@ -4,13 +4,12 @@ use mathlib.Core.Bool.{Bool, cond, _&&_, _||_}
 use mathlib.Core.List.{List, [], _∷_}
 use Prim.Native.Nat.{ℕ}
 use lib.Dec.{eqb}
-use lib.IntN.{ℤ, pos, _+ℤ_, _-ℤ_}
+use lib.IntN.{ℤ, pos, negsuc, _+ℤ_, _-ℤ_}
 use lib.Signed.{leZ}
 use Rattle.numbers.specs.law.Question.{Question}
 use Rattle.numbers.specs.law.Items.{over}
 use Rattle.case.specs.declared.records.Node.{Node}
 use Rattle.case.specs.law.Field.{mostFlow}
-use Rattle.case.specs.law.NodeFields.{leastDemand, mostDemand}
 use Rattle.case.specs.law.Layout.{nodesOf}
 use Rattle.case.specs.law.Records.{nodeOf}
 use Rattle.plan.specs.declared.rows.NodeRow.{NodeRow}
@@ -29,9 +28,12 @@ slacksKept n r =
     && (within (pos 0) (r .uplus) (slackLimit (n .kind) (n .actlow -ℤ n .low))
     && within (pos 0) (r .uminus) (slackLimit (n .kind) (n .high -ℤ n .acthigh))))
 
--- "d at or above 0 at a source, at or below 0 at a sink, size at most 10,000,000", and 0 at an inner node: the range of a demand D
+-- "d at or above 0 at a source, at or below 0 at a sink, size at most 10,000,000", and 0 at an inner node; -10,000,000 is `negsuc 9999999`
 unfoldable pub boundaryFlowKept : ℕ → ℤ → Bool
-boundaryFlowKept kind d = within (leastDemand kind) d (mostDemand kind)
+boundaryFlowKept kind d =
+    cond (eqb kind 1) (within (pos 0) d mostFlow)
+    (cond (eqb kind 2) (within (negsuc 9999999) d (pos 0))
+    (isZero d))
 
 -- 21: "Is p within low..high", d and the slacks in range?
 unfoldable pub nodeNumbersKept : Node → NodeRow → Bool

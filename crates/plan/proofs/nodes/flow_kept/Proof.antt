@@ -11,8 +11,8 @@ within-requires c κs = search needs
 within-requires-2 : tie.Need-within-requires-2
 within-requires-2 c κs = search needs
 
-within-requires-3 : tie.Need-within-requires-3
-within-requires-3 c κs = search needs
+same-requires : tie.Need-same-requires
+same-requires c κs = search needs
 
 returns : tie.Need-returns
 unfolding boundaryFlowKept
@@ -24,9 +24,11 @@ returns-2 c = rw (c .before .match .keys2) (simp (toZ-ofZ (c .before .before .fi
 
 returns-3 : tie.Need-returns-3
 unfolding boundaryFlowKept
-returns-3 c = rw (ne-eqb _ _ (c .before .match .rest .0 .1), ne-eqb _ _ (c .before .match .rest .1)) (simp (toZ-ofZ (c .before .before .fits .d)) at (c .within3 .ensures))
+returns-3 c =
+    rw (ne-eqb _ _ (c .before .match .rest .0 .1), ne-eqb _ _ (c .before .match .rest .1))
+    (simp (toZ-ofZ (c .before .before .fits .d)) at (c .same .ensures))
 
 pub flow-kept-spec : {M : Type 1} → statement M
 flow-kept-spec =
     tie.close
-    (tie.spec within-requires within-requires-2 within-requires-3 returns returns-2 returns-3)
+    (tie.spec within-requires within-requires-2 same-requires returns returns-2 returns-3)
