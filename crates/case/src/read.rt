@@ -1,7 +1,7 @@
 // Nodes, arcs and stations read off the list. Every function is total: a number past the end reads as 0.
 ghost use mathlib.Core.Path.{_≡_};
 ghost use Prim.Native.Nat.{_+_};
-ghost use Rattle.case.specs.law.Layout.{numberAt};
+ghost use Rattle.case.specs.law.Layout.{numberAt, demandsAt};
 ghost use Rattle.case.specs.law.Records.{timeOf, timeBefore, nodeOf, arcOf, artificialOf, stationRow, directionRow, stateRow, machineRow};
 use super::offsets::HEAD;
 use super::offsets::NODE;
@@ -51,7 +51,7 @@ pub fn node(case: &[i64], v: usize, i: usize) -> Node
 
 // The demand in the step with index `i` of the node whose row begins at `row`.
 fn demand(case: &[i64], row: usize, i: usize) -> i64
-    ensures { λ r. ⌜ r ≡ numberAt (now (case .entry)) (row + (6 + i)) ⌝ }
+    ensures { λ r. ⌜ r ≡ numberAt (now (case .entry)) (demandsAt row + i) ⌝ }
 {
     if i < case.len() {
         number(case, row, NODE + i)

@@ -21,7 +21,7 @@ use Rattle.numbers.specs.inside.QuestionLaws.{told-same, all-yes, none-no}
 use Rattle.numbers.specs.law.Items.{over}
 use Rattle.numbers.specs.declared.answer.Answer.{Answer}
 use Rattle.numbers.specs.declared.answer.Answer.the-variants.{Yes}
-use Rattle.case.specs.law.Layout.{numberAt, countAt, nodesOf, arcsOf, stationsOf, stepsOf, massTolerance, pressureTolerance, timeAt, nodeAt, arcAt, directionsAt, statesAt, machinesAt, directionAt, stateAt, machineAt, stationAt, caseEnd}
+use Rattle.case.specs.law.Layout.{numberAt, countAt, nodesOf, arcsOf, stationsOf, stepsOf, massTolerance, pressureTolerance, timeAt, nodeAt, demandsAt, arcAt, directionsAt, statesAt, machinesAt, directionAt, stateAt, machineAt, stationAt, caseEnd}
 use Rattle.case.specs.law.Records.{timeOf, timeBefore, nodeOf, arcOf, pipeOf, artificialOf, stationOf, directionOf, stateOf}
 use Rattle.case.specs.inside.MachineOf.{machineOf}
 use Rattle.case.specs.law.Field.{field, lastOf, mostPressure, mostFlow, mostWeight}
@@ -184,17 +184,17 @@ module _ (case : List ℤ) (e : Accepted case) where
         low-actlow = al .0 .least;
         actlow-acthigh = ah .least;
         acthigh-high = ah .most;
-        demand = between (at (row + (6 + i)) d (omega arith));
+        demand = between d;
       }
 
   -- the row is there, up to the demand of the step with index i
-  pub node-there : (v i : ℕ) → v < nodesOf case → i < stepsOf case → nodeAt case v + (6 + i) < length case
+  pub node-there : (v i : ℕ) → v < nodesOf case → i < stepsOf case → demandsAt (nodeAt case v) + i < length case
   unfolding allNodeFields nodeFields demandFields
   node-there v i p q =
       let row = nodeAt case v in
       let y = item-yes (nodeFields case) (nodesOf case) (nodes-yes case list-yes) v p in
-      let d = fields-yes case (row + 6) (stepsOf case) (leastDemand (countAt case row)) (mostDemand (countAt case row)) (second-yes (boundFields case row) (demandFields case row) y) i q in
-      at (row + (6 + i)) d (omega arith) .there
+      let z = second-yes (boundFields case row) (demandFields case row) y in
+      fields-yes case (demandsAt row) (stepsOf case) (leastDemand (countAt case row)) (mostDemand (countAt case row)) z i q .there
 
   -- ---- arcs
 

@@ -3,20 +3,21 @@
 use mathlib.Core.List.{List, _++_}
 use lib.IntN.{ℤ, pos}
 use Rattle.numbers.specs.law.Question.{Question}
+use Rattle.case.specs.law.Layout.{editionAt, nodeCountAt, arcCountAt, stationCountAt, stepCountAt, massToleranceAt, pressureToleranceAt}
 use Rattle.case.specs.law.Field.{field}
 
 -- edition, N, A, S, k
 unfoldable pub countFields : List ℤ → List Question
 countFields case =
-    field case 0 (pos 1) (pos 1)
-    ++ (field case 1 (pos 1) (pos 60)
-    ++ (field case 2 (pos 0) (pos 120)
-    ++ (field case 3 (pos 0) (pos 8)
-    ++ field case 4 (pos 1) (pos 48))))
+    field case editionAt (pos 1) (pos 1)
+    ++ (field case nodeCountAt (pos 1) (pos 60)
+    ++ (field case arcCountAt (pos 0) (pos 120)
+    ++ (field case stationCountAt (pos 0) (pos 8)
+    ++ field case stepCountAt (pos 1) (pos 48))))
 
 -- E and H
 unfoldable pub toleranceFields : List ℤ → List Question
-toleranceFields case = field case 5 (pos 0) (pos 1000000) ++ field case 6 (pos 0) (pos 1000)
+toleranceFields case = field case massToleranceAt (pos 0) (pos 1000000) ++ field case pressureToleranceAt (pos 0) (pos 1000)
 
 unfoldable pub headFields : List ℤ → List Question
 headFields case = countFields case ++ toleranceFields case

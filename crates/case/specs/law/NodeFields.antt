@@ -3,21 +3,22 @@
 -- Assumes nothing.
 use mathlib.Core.Bool.{cond}
 use mathlib.Core.List.{List, _++_}
-use Prim.Native.Nat.{ℕ, _+_}
+use Prim.Native.Nat.{ℕ}
 use lib.Dec.{eqb}
 use lib.IntN.{ℤ, pos, negsuc}
 use Rattle.numbers.specs.law.Question.{Question}
 use Rattle.numbers.specs.law.Items.{over}
-use Rattle.case.specs.law.Layout.{numberAt, countAt, nodesOf, stepsOf, nodeAt, nodeHeadWidth}
+use Rattle.case.specs.law.Layout.{numberAt, countAt, nodesOf, stepsOf, nodeAt, nodeKindAt, p0At, lowAt, highAt, actlowAt, acthighAt, demandsAt}
 use Rattle.case.specs.law.Field.{field, fields, mostPressure, mostFlow}
 
--- The six fields of the row that begins at index `row`. In list order low ≤ actlow counts for actlow, actlow ≤ acthigh and acthigh ≤ high for acthigh.
+-- The six fields of the row that begins at index `row`; p0, low and high share their range.
+-- In list order low ≤ actlow counts for actlow, actlow ≤ acthigh and acthigh ≤ high for acthigh.
 unfoldable pub boundFields : List ℤ → ℕ → List Question
 boundFields case row =
-    field case row (pos 0) (pos 2)
-    ++ (fields case (row + 1) 3 (pos 0) mostPressure
-    ++ (field case (row + 4) (numberAt case (row + 2)) mostPressure
-    ++ field case (row + 5) (numberAt case (row + 4)) (numberAt case (row + 3))))
+    field case (nodeKindAt row) (pos 0) (pos 2)
+    ++ (fields case (p0At row) 3 (pos 0) mostPressure
+    ++ (field case (actlowAt row) (numberAt case (lowAt row)) mostPressure
+    ++ field case (acthighAt row) (numberAt case (actlowAt row)) (numberAt case (highAt row))))
 
 -- the range of a demand, by the node's kind: -10,000,000 is `negsuc 9999999`
 abbrev pub leastDemand : ℕ → ℤ
@@ -28,7 +29,7 @@ mostDemand kind = cond (eqb kind 1) mostFlow (pos 0)
 
 unfoldable pub demandFields : List ℤ → ℕ → List Question
 demandFields case row =
-    fields case (row + nodeHeadWidth) (stepsOf case) (leastDemand (countAt case row)) (mostDemand (countAt case row))
+    fields case (demandsAt row) (stepsOf case) (leastDemand (countAt case (nodeKindAt row))) (mostDemand (countAt case (nodeKindAt row)))
 
 unfoldable pub nodeFields : List ℤ → ℕ → List Question
 nodeFields case v = boundFields case (nodeAt case v) ++ demandFields case (nodeAt case v)

@@ -11,7 +11,7 @@ use Rattle.case.specs.declared.records.Station.{Station}
 use Rattle.case.specs.declared.records.Direction.{Direction}
 use Rattle.case.specs.declared.records.State.{State}
 use Rattle.case.specs.declared.records.Machine.{Machine}
-use Rattle.case.specs.law.Layout.{numberAt, countAt, timeAt, nodeAt, nodeHeadWidth, arcAt, directionAt, stateAt, machineAt, stationAt}
+use Rattle.case.specs.law.Layout.{numberAt, countAt, timeAt, nodeAt, arcAt, directionAt, stateAt, machineAt, stationAt, nodeKindAt, p0At, lowAt, highAt, actlowAt, acthighAt, demandsAt, arcKindAt, fromAt, toAt, qmaxAt, cAt, fAt, gAt, hAt, arcStationAt, bothwaysAt, arcWeightAt, startActivityAt, machineSetAt, mostMachinesAt, outboundAt, directionCountAt, stateCountAt, machineCountAt, startDirectionAt, startStateAt, entryAt, exitAt, directionWeightAt, directionSetAt, onAt, offAt, stateWeightAt, machineFlowAt, ratioAt}
 
 -- the time at which the step with index i ends
 abbrev pub timeOf : List ℤ → ℕ → ℤ
@@ -25,75 +25,75 @@ timeBefore case (suc i) = timeOf case i
 -- a node, with its bounds and its demand in the step with index i
 abbrev pub nodeOf : List ℤ → ℕ → ℕ → Node
 nodeOf case v i = record {
-  kind = countAt case (nodeAt case v);
-  p0 = numberAt case (nodeAt case v + 1);
-  low = numberAt case (nodeAt case v + 2);
-  high = numberAt case (nodeAt case v + 3);
-  actlow = numberAt case (nodeAt case v + 4);
-  acthigh = numberAt case (nodeAt case v + 5);
-  demand = numberAt case (nodeAt case v + (nodeHeadWidth + i));
+  kind = countAt case (nodeKindAt (nodeAt case v));
+  p0 = numberAt case (p0At (nodeAt case v));
+  low = numberAt case (lowAt (nodeAt case v));
+  high = numberAt case (highAt (nodeAt case v));
+  actlow = numberAt case (actlowAt (nodeAt case v));
+  acthigh = numberAt case (acthighAt (nodeAt case v));
+  demand = numberAt case (demandsAt (nodeAt case v) + i);
 }
 
 -- an arc: the fields of every kind
 abbrev pub arcOf : List ℤ → ℕ → Arc
 arcOf case e = record {
-  kind = countAt case (arcAt case e);
-  from = countAt case (arcAt case e + 1);
-  to = countAt case (arcAt case e + 2);
-  qmax = numberAt case (arcAt case e + 3);
+  kind = countAt case (arcKindAt (arcAt case e));
+  from = countAt case (fromAt (arcAt case e));
+  to = countAt case (toAt (arcAt case e));
+  qmax = numberAt case (qmaxAt (arcAt case e));
 }
 
 -- the other seven of a pipe, of which three are zeros
 abbrev pub pipeOf : List ℤ → ℕ → Pipe
 pipeOf case e = record {
-  c = numberAt case (arcAt case e + 4);
-  f = numberAt case (arcAt case e + 5);
-  g = numberAt case (arcAt case e + 6);
-  h = numberAt case (arcAt case e + 7);
+  c = numberAt case (cAt (arcAt case e));
+  f = numberAt case (fAt (arcAt case e));
+  g = numberAt case (gAt (arcAt case e));
+  h = numberAt case (hAt (arcAt case e));
 }
 
 -- the other seven of an artificial arc; the last three are zeros for kinds 3 and 4
 abbrev pub artificialOf : List ℤ → ℕ → Artificial
 artificialOf case e = record {
-  station = countAt case (arcAt case e + 4);
-  bothways = countAt case (arcAt case e + 5);
-  weight = countAt case (arcAt case e + 6);
-  active = countAt case (arcAt case e + 7);
-  machines = numberAt case (arcAt case e + 8);
-  most = countAt case (arcAt case e + 9);
-  outbound = numberAt case (arcAt case e + 10);
+  station = countAt case (arcStationAt (arcAt case e));
+  bothways = countAt case (bothwaysAt (arcAt case e));
+  weight = countAt case (arcWeightAt (arcAt case e));
+  active = countAt case (startActivityAt (arcAt case e));
+  machines = numberAt case (machineSetAt (arcAt case e));
+  most = countAt case (mostMachinesAt (arcAt case e));
+  outbound = numberAt case (outboundAt (arcAt case e));
 }
 
 -- ---- a station's records, by the index `row` of its first number; the station s has `stationAt case s`
 
 abbrev pub stationRow : List ℤ → ℕ → Station
 stationRow case row = record {
-  directions = countAt case row;
-  states = countAt case (row + 1);
-  machines = countAt case (row + 2);
-  direction = countAt case (row + 3);
-  state = countAt case (row + 4);
+  directions = countAt case (directionCountAt row);
+  states = countAt case (stateCountAt row);
+  machines = countAt case (machineCountAt row);
+  direction = countAt case (startDirectionAt row);
+  state = countAt case (startStateAt row);
 }
 
 abbrev pub directionRow : List ℤ → ℕ → ℕ → Direction
 directionRow case row f = record {
-  entry = numberAt case (directionAt row f);
-  exit = numberAt case (directionAt row f + 1);
-  weight = countAt case (directionAt row f + 2);
+  entry = numberAt case (entryAt (directionAt row f));
+  exit = numberAt case (exitAt (directionAt row f));
+  weight = countAt case (directionWeightAt (directionAt row f));
 }
 
 abbrev pub stateRow : List ℤ → ℕ → ℕ → State
 stateRow case row z = record {
-  directions = numberAt case (stateAt case row z);
-  on = numberAt case (stateAt case row z + 1);
-  off = numberAt case (stateAt case row z + 2);
-  weight = countAt case (stateAt case row z + 3);
+  directions = numberAt case (directionSetAt (stateAt case row z));
+  on = numberAt case (onAt (stateAt case row z));
+  off = numberAt case (offAt (stateAt case row z));
+  weight = countAt case (stateWeightAt (stateAt case row z));
 }
 
 abbrev pub machineRow : List ℤ → ℕ → ℕ → Machine
 machineRow case row m = record {
-  flow = numberAt case (machineAt case row m);
-  ratio = numberAt case (machineAt case row m + 1);
+  flow = numberAt case (machineFlowAt (machineAt case row m));
+  ratio = numberAt case (ratioAt (machineAt case row m));
 }
 
 abbrev pub stationOf : List ℤ → ℕ → Station

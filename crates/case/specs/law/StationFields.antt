@@ -3,11 +3,11 @@
 -- M rows: flow Q 0..10,000,000, ratio R 1,001..10,000. Weights are 0..1,000,000."
 -- Assumes nothing.
 use mathlib.Core.List.{List, _++_}
-use Prim.Native.Nat.{ℕ, _+_, _-_, _^_}
+use Prim.Native.Nat.{ℕ, _-_, _^_}
 use lib.IntN.{ℤ, pos}
 use Rattle.numbers.specs.law.Question.{Question}
 use Rattle.numbers.specs.law.Items.{over}
-use Rattle.case.specs.law.Layout.{directionsAt, statesAt, machinesAt, directionAt, stateAt, machineAt, stationAt, stationsOf}
+use Rattle.case.specs.law.Layout.{directionsAt, statesAt, machinesAt, directionAt, stateAt, machineAt, stationAt, stationsOf, directionCountAt, stateCountAt, machineCountAt, startDirectionAt, startStateAt, entryAt, directionWeightAt, directionSetAt, onAt, stateWeightAt, machineFlowAt, ratioAt}
 use Rattle.case.specs.law.Field.{field, fields, lastOf, mostFlow, mostWeight}
 
 -- the set of the first n items
@@ -16,24 +16,24 @@ firstItems n = pos (2 ^ n - 1)
 
 unfoldable pub stationHead : List ℤ → ℕ → List Question
 stationHead case row =
-    field case row (pos 1) (pos 8)
-    ++ (field case (row + 1) (pos 1) (pos 16)
-    ++ (field case (row + 2) (pos 0) (pos 12)
-    ++ (field case (row + 3) (pos 0) (lastOf (directionsAt case row))
-    ++ field case (row + 4) (pos 0) (lastOf (statesAt case row)))))
+    field case (directionCountAt row) (pos 1) (pos 8)
+    ++ (field case (stateCountAt row) (pos 1) (pos 16)
+    ++ (field case (machineCountAt row) (pos 0) (pos 12)
+    ++ (field case (startDirectionAt row) (pos 0) (lastOf (directionsAt case row))
+    ++ field case (startStateAt row) (pos 0) (lastOf (statesAt case row)))))
 
 -- entry set, exit set, weight
 unfoldable pub directionFields : List ℤ → ℕ → ℕ → List Question
 directionFields case row f =
-    fields case (directionAt row f) 2 (pos 0) (firstItems 60)
-    ++ field case (directionAt row f + 2) (pos 0) mostWeight
+    fields case (entryAt (directionAt row f)) 2 (pos 0) (firstItems 60)
+    ++ field case (directionWeightAt (directionAt row f)) (pos 0) mostWeight
 
 -- direction set, on set, off set, weight, from index `at` on
 unfoldable pub stateRowFields : List ℤ → ℕ → ℤ → List Question
 stateRowFields case at sets =
-    field case at (pos 0) sets
-    ++ (fields case (at + 1) 2 (pos 0) (firstItems 30)
-    ++ field case (at + 3) (pos 0) mostWeight)
+    field case (directionSetAt at) (pos 0) sets
+    ++ (fields case (onAt at) 2 (pos 0) (firstItems 30)
+    ++ field case (stateWeightAt at) (pos 0) mostWeight)
 
 unfoldable pub stateFields : List ℤ → ℕ → ℕ → List Question
 stateFields case row z = stateRowFields case (stateAt case row z) (firstItems (directionsAt case row))
@@ -41,8 +41,8 @@ stateFields case row z = stateRowFields case (stateAt case row z) (firstItems (d
 -- Q and R
 unfoldable pub machineFields : List ℤ → ℕ → ℕ → List Question
 machineFields case row m =
-    field case (machineAt case row m) (pos 0) mostFlow
-    ++ field case (machineAt case row m + 1) (pos 1001) (pos 10000)
+    field case (machineFlowAt (machineAt case row m)) (pos 0) mostFlow
+    ++ field case (ratioAt (machineAt case row m)) (pos 1001) (pos 10000)
 
 -- the rows past the station's first
 unfoldable pub partFields : List ℤ → ℕ → List Question

@@ -13,7 +13,7 @@ use Rattle.numbers.specs.inside.SignedBounds.{Bounded}
 use Rattle.numbers.specs.law.Question.{firstNo}
 use Rattle.numbers.specs.law.Sets.{subsetOf}
 use Rattle.numbers.specs.declared.answer.Answer.the-variants.{Yes}
-use Rattle.case.specs.law.Layout.{nodesOf, arcsOf, stationsOf, stepsOf, massTolerance, pressureTolerance, nodeAt, nodeHeadWidth, arcAt, stationAt}
+use Rattle.case.specs.law.Layout.{nodesOf, arcsOf, stationsOf, stepsOf, massTolerance, pressureTolerance, nodeAt, demandsAt, arcAt, stationAt}
 use Rattle.case.specs.law.Records.{nodeOf, arcOf, pipeOf, artificialOf, stationOf, directionOf, stateOf}
 use Rattle.case.specs.law.Field.{mostFlow}
 use Rattle.case.specs.law.NodeFields.{leastDemand, mostDemand}
@@ -83,7 +83,7 @@ module _ {case : List ℤ} (c : AcceptedCase case) where
           demand = sized 10000000 (r .demand) (least-demand (nodeOf case v i .kind)) (most-demand (nodeOf case v i .kind));
         }
 
-    pub node-there : (i : ℕ) → i < stepsOf case → nodeAt case v + (nodeHeadWidth + i) < length case
+    pub node-there : (i : ℕ) → i < stepsOf case → demandsAt (nodeAt case v) + i < length case
     node-there i q = laws.node-there case (c .yes) v i p q
 
   -- ---- arcs

@@ -1,7 +1,10 @@
+use mathlib.Core.Path.{_≡_, ap, _∙_}
 use Prim.Native.Nat.{_+_}
 use native.Mathlib.Omega.{arith}
 use borrow.Author.Needs.{needs}
 use denote.Ref.{now}
+use Rattle.case.specs.law.Layout.{numberAt, demandsAt}
+use Rattle.numbers.specs.inside.SignedLocals.{kept}
 use Rattle.case.proofs.Reading.{past}
 use Rattle.case.proofs.read.demand.Statement.{statement}
 use Rattle.case.proofs.read.demand.Tie as tie
@@ -13,10 +16,12 @@ number-requires : tie.Need-number-requires
 number-requires c κs = search needs
 
 returns : tie.Need-returns
-returns c = search needs
+returns c = let a = c .before .before .args in
+    let e : a .row + (6 + a .i) ≡ demandsAt (a .row) + a .i = omega arith in
+    kept _ (c .number .ok) ∙ c .number .ensures ∙ ap (numberAt (now (a .case))) e
 
 returns-2 : tie.Need-returns-2
-returns-2 c = let a = c .before .args in past (now (a .case)) (a .row + (6 + a .i)) (omega arith)
+returns-2 c = let a = c .before .args in past (now (a .case)) (demandsAt (a .row) + a .i) (omega arith)
 
 pub demand-spec : {M : Type 1} → statement M
 demand-spec = tie.close (tie.spec add-number number-requires returns returns-2)

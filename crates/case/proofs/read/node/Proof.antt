@@ -1,8 +1,9 @@
-use mathlib.Core.Path.{_∙_}
+use mathlib.Core.Path.{_≡_, ap, _∙_}
 use Prim.Native.Nat.{_+_}
+use native.Mathlib.Omega.{arith}
 use borrow.Author.Needs.{needs}
 use denote.Ref.{now}
-use Rattle.case.specs.law.Layout.{nodeAt}
+use Rattle.case.specs.law.Layout.{numberAt, nodeAt, demandsAt}
 use Rattle.numbers.specs.inside.SignedLocals.{kept}
 use Rattle.case.proofs.Reading.{number-in, first-count}
 use Rattle.case.proofs.read.node.Statement.{statement}
@@ -43,7 +44,10 @@ returns c = let a = c .before .before .before .before .before .before .before .b
     let e3 = kept (c .before .before .before .number3 .result) (c .before .before .before .number3 .ok) ∙ number-in l row 3 r (c .before .before .before .number3 .ensures) in
     let e4 = kept (c .before .before .number4 .result) (c .before .before .number4 .ok) ∙ number-in l row 4 r (c .before .before .number4 .ensures) in
     let e5 = kept (c .before .number5 .result) (c .before .number5 .ok) ∙ number-in l row 5 r (c .before .number5 .ensures) in
-    let e6 = kept (c .demand .result) (c .demand .ok) ∙ number-in l row (6 + a .i) r (c .demand .ensures) in
+    let at = c .before .before .before .before .before .before .before .node-at .result in
+    let b : demandsAt at + a .i ≡ at + (6 + a .i) = omega arith in
+    let d : row + (6 + a .i) ≡ demandsAt row + a .i = omega arith in
+    let e6 = kept (c .demand .result) (c .demand .ok) ∙ number-in l row (6 + a .i) r (c .demand .ensures ∙ ap (numberAt l) b) ∙ ap (numberAt l) d in
     rw (e0, e1, e2, e3, e4, e5, e6)
 
 pub node-spec : {M : Type 1} → statement M

@@ -2,7 +2,7 @@ use mathlib.Core.Path.{_≡_, ap, _∙_}
 use Prim.Native.Nat.{_+_}
 use native.Mathlib.Omega.{arith}
 use denote.Ref.{now}
-use Rattle.case.specs.law.Layout.{countAt, nodeAt}
+use Rattle.case.specs.law.Layout.{numberAt, countAt, nodeAt, demandsAt}
 use Rattle.plan.specs.inside.CaseSizes.{counted, node-there}
 use Rattle.numbers.specs.inside.SignedLocals.{kept}
 use Rattle.plan.proofs.accepted.node.Statement.{statement}
@@ -47,7 +47,8 @@ returns c =
     let k3 = kept _ (c .before .before .before .number3 .ok) ∙ rw r at (c .before .before .before .number3 .ensures) in
     let k4 = kept _ (c .before .before .number4 .ok) ∙ rw r at (c .before .before .number4 .ensures) in
     let k5 = kept _ (c .before .number5 .ok) ∙ rw r at (c .before .number5 .ensures) in
-    let k6 = kept _ (c .number6 .ok) ∙ rw r at (c .number6 .ensures) in
+    let d : nodeAt l (s .args .v) + (6 + s .args .i) ≡ demandsAt (nodeAt l (s .args .v)) + s .args .i = omega arith in
+    let k6 = kept _ (c .number6 .ok) ∙ rw r at (c .number6 .ensures) ∙ ap (numberAt l) d in
     rw (k0, k1, k2, k3, k4, k5, k6)
 
 pub node-spec : {M : Type 1} → statement M
