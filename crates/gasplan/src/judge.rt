@@ -2,11 +2,9 @@
 ghost use mathlib.Core.Path.{_≡_};
 ghost use Prim.Native.Nat.{_≤_, _^_};
 ghost use lib.ListN.{length};
-ghost use Rattle.numbers.specs.law.Reading.{readOf};
-ghost use Rattle.numbers.specs.law.Told.{overlay};
 ghost use Rattle.case.specs.law.Judged.{judgedCase};
 ghost use Rattle.plan.specs.law.Judged.{judgeOf, verdictTold};
-ghost use Rattle.plan.specs.law.JudgedBytes.{bytesTold, planListOf};
+ghost use Rattle.plan.specs.law.JudgedBytes.{bytesJudged};
 ghost use Rattle.plan.specs.inside.VerdictSizes.{Fit};
 ghost use Rattle.gasplan.specs.law.Out.{codeOf, outOf, ifRoom};
 use numbers::answer::Answer;
@@ -53,10 +51,16 @@ pub extern "C" fn gasplan_judge_bytes(
     planlist: &mut [i64],
     out: &mut [i64],
 ) -> i64
-    ensures { λ r. ⌜ r ≡ codeOf (now (out .entry)) (bytesTold (now (casebytes .entry)) (now (planbytes .entry)) (length (now (caselist .entry))) (length (now (planlist .entry)))) ⌝ }
-    ensures { λ _. ⌜ now (out .exit) ≡ outOf (now (out .entry)) (bytesTold (now (casebytes .entry)) (now (planbytes .entry)) (length (now (caselist .entry))) (length (now (planlist .entry)))) ⌝ }
-    ensures { λ _. ⌜ now (caselist .exit) ≡ ifRoom (now (out .entry)) (overlay (readOf (now (casebytes .entry)) (length (now (caselist .entry))) .stored) (now (caselist .entry))) (now (caselist .entry)) ⌝ }
-    ensures { λ _. ⌜ now (planlist .exit) ≡ ifRoom (now (out .entry)) (planListOf (now (casebytes .entry)) (now (planbytes .entry)) (length (now (caselist .entry))) (now (planlist .entry))) (now (planlist .entry)) ⌝ }
+    ensures { λ r. ⌜ r ≡ codeOf (now (out .entry))
+        (bytesJudged (now (casebytes .entry)) (now (planbytes .entry)) (now (caselist .entry)) (now (planlist .entry)) .told) ⌝ }
+    ensures { λ _. ⌜ now (out .exit) ≡ outOf (now (out .entry))
+        (bytesJudged (now (casebytes .entry)) (now (planbytes .entry)) (now (caselist .entry)) (now (planlist .entry)) .told) ⌝ }
+    ensures { λ _. ⌜ now (caselist .exit) ≡ ifRoom (now (out .entry))
+        (bytesJudged (now (casebytes .entry)) (now (planbytes .entry)) (now (caselist .entry)) (now (planlist .entry)) .caseList)
+        (now (caselist .entry)) ⌝ }
+    ensures { λ _. ⌜ now (planlist .exit) ≡ ifRoom (now (out .entry))
+        (bytesJudged (now (casebytes .entry)) (now (planbytes .entry)) (now (caselist .entry)) (now (planlist .entry)) .planList)
+        (now (planlist .entry)) ⌝ }
 {
     if out.len() < 6 {
         return -1;

@@ -8,7 +8,8 @@ ghost use Rattle.case.specs.law.LayoutOf.{Laid};
 ghost use Rattle.plan.specs.law.PlanHead.{headKept};
 ghost use Rattle.plan.specs.law.Totals.{totalsOf};
 ghost use Rattle.plan.specs.law.Judged.{planQuestions, verdictOf, verdictTold, judgeOf};
-ghost use Rattle.plan.specs.law.JudgedBytes.{planNumber, planBytesTold, bytesTold, caseBytesTold, planListAfter, planListOf};
+ghost use Rattle.plan.specs.law.JudgedBytes.{planNumber, bytesJudged};
+ghost use Rattle.plan.specs.inside.VerdictLaws.{planBytesTold, caseListTold, planListAfter};
 ghost use Rattle.plan.specs.inside.Preconditions.{AcceptedCase};
 use super::steps::step_width;
 use super::steps::steps;
@@ -101,7 +102,7 @@ fn judge_plan_bytes(case: &[i64], layout: Layout, planbytes: &[u8], planlist: &m
 
 // The case, and then the plan bytes.
 fn judge_case_list(case: &[i64], planbytes: &[u8], planlist: &mut [i64]) -> Verdict
-    ensures { λ r. ⌜ verdictTold r ≡ caseBytesTold (now (case .entry)) (now (planbytes .entry)) (length (now (planlist .entry))) ⌝ }
+    ensures { λ r. ⌜ verdictTold r ≡ caseListTold (now (case .entry)) (now (planbytes .entry)) (length (now (planlist .entry))) ⌝ }
     ensures { λ _. ⌜ now (planlist .exit) ≡ planListAfter (now (case .entry)) (now (planbytes .entry)) (now (planlist .entry)) ⌝ }
 {
     let found = judge_and_lay(case);
@@ -127,9 +128,12 @@ pub fn judge_bytes(
     caselist: &mut [i64],
     planlist: &mut [i64],
 ) -> Verdict
-    ensures { λ r. ⌜ verdictTold r ≡ bytesTold (now (casebytes .entry)) (now (planbytes .entry)) (length (now (caselist .entry))) (length (now (planlist .entry))) ⌝ }
-    ensures { λ _. ⌜ now (caselist .exit) ≡ overlay (readOf (now (casebytes .entry)) (length (now (caselist .entry))) .stored) (now (caselist .entry)) ⌝ }
-    ensures { λ _. ⌜ now (planlist .exit) ≡ planListOf (now (casebytes .entry)) (now (planbytes .entry)) (length (now (caselist .entry))) (now (planlist .entry)) ⌝ }
+    ensures { λ r. ⌜ verdictTold r
+        ≡ bytesJudged (now (casebytes .entry)) (now (planbytes .entry)) (now (caselist .entry)) (now (planlist .entry)) .told ⌝ }
+    ensures { λ _. ⌜ now (caselist .exit)
+        ≡ bytesJudged (now (casebytes .entry)) (now (planbytes .entry)) (now (caselist .entry)) (now (planlist .entry)) .caseList ⌝ }
+    ensures { λ _. ⌜ now (planlist .exit)
+        ≡ bytesJudged (now (casebytes .entry)) (now (planbytes .entry)) (now (caselist .entry)) (now (planlist .entry)) .planList ⌝ }
 {
     let got = read(casebytes, caselist);
     match got {

@@ -27,7 +27,7 @@ use Rattle.plan.specs.law.PlanLayout.{stepAt, stepWidth}
 use Rattle.plan.specs.law.PlanHead.{headKept}
 use Rattle.plan.specs.law.Totals.{totalsOf}
 use Rattle.plan.specs.law.Judged.{planStep, planQuestions, questions, verdictOf, verdictTold, judgeOf}
-use Rattle.plan.specs.law.JudgedBytes.{planBytesTold, planNumber, caseBytesTold, bytesTold, planListAfter, planListOf}
+use Rattle.plan.specs.law.JudgedBytes.{readAnswer, planNumber, onPlanBytes, refusedOr, reachedIf, bytesJudged}
 use Rattle.plan.specs.declared.verdict.Verdict.{Verdict}
 use Rattle.plan.specs.declared.verdict.Verdict.the-variants.{Refused}
 use Rattle.numbers.specs.law.Items.{over}
@@ -110,7 +110,16 @@ module _ (bytes : List ℕ) (room : ℕ) where
   pub read-front : {count : ℕ} (old list : List ℤ) → ReadAll count → list ≡ overlay (readOf bytes room .stored) old → take count list ≡ readOf bytes room .stored
   read-front {count} old list r e = rw e (take-at (readOf bytes room .stored) (drop (length (readOf bytes room .stored)) old) count (sym (r .counted)))
 
--- ---- the verdict on two byte strings
+-- ---- the verdict on two byte strings: what is told, and the plan's list, from where the case list is known, and from where the case is accepted
+
+unfoldable pub planBytesTold : List ℤ → List ℕ → ℕ → Told
+planBytesTold case planBytes room = refusedOr (onPlanBytes (readAnswer (readOf planBytes room .ended))) (judgeOf case (readOf planBytes room .stored))
+
+unfoldable pub caseListTold : List ℤ → List ℕ → ℕ → Told
+caseListTold case planBytes room = refusedOr (firstNo (caseQuestions case)) (planBytesTold case planBytes room)
+
+unfoldable pub planListAfter : List ℤ → List ℕ → List ℤ → List ℤ
+planListAfter case planBytes list = reachedIf (firstNo (caseQuestions case)) (overlay (readOf planBytes (length list) .stored) list) list
 
 module _ (case : List ℤ) (planBytes : List ℕ) (room : ℕ) where
   pub plan-read : {count : ℕ} (list : List ℤ) {r : Verdict} → firstNo (caseQuestions case) ≡ Yes → ReadAll planBytes room count → take count list ≡ readOf planBytes room .stored
@@ -123,27 +132,39 @@ module _ (case : List ℤ) (planBytes : List ℕ) (room : ℕ) where
   plan-unread e d = rw (d, e)
 
 module _ (case : List ℤ) (planBytes : List ℕ) (list : List ℤ) where
-  pub case-passed : {t : Told} → firstNo (caseQuestions case) ≡ Yes → t ≡ planBytesTold case planBytes (length list) → t ≡ caseBytesTold case planBytes (length list)
-  unfolding caseBytesTold
+  pub case-passed : {t : Told} → firstNo (caseQuestions case) ≡ Yes → t ≡ planBytesTold case planBytes (length list)
+      → t ≡ caseListTold case planBytes (length list)
+  unfolding caseListTold
   case-passed y e = rw y e
 
   pub list-reached : {new : List ℤ} → firstNo (caseQuestions case) ≡ Yes → new ≡ overlay (readOf planBytes (length list) .stored) list → new ≡ planListAfter case planBytes list
   unfolding planListAfter
   list-reached y e = rw y e
 
-  pub case-stopped : {n s p : ℕ} → firstNo (caseQuestions case) ≡ No n s p → (refuses n s p ≡ caseBytesTold case planBytes (length list)) × (list ≡ planListAfter case planBytes list)
-  unfolding caseBytesTold planListAfter
+  pub case-stopped : {n s p : ℕ} → firstNo (caseQuestions case) ≡ No n s p
+      → (refuses n s p ≡ caseListTold case planBytes (length list)) × (list ≡ planListAfter case planBytes list)
+  unfolding caseListTold planListAfter
   case-stopped e = (rw e, rw e)
 
-module _ (caseBytes planBytes : List ℕ) (room : ℕ) (list : List ℤ) where
-  pub case-read : {front : List ℤ} {t : Told} → readOf caseBytes room .ended ≡ all → front ≡ readOf caseBytes room .stored → t ≡ caseBytesTold front planBytes (length list) → t ≡ bytesTold caseBytes planBytes room (length list)
-  unfolding bytesTold
+module _ (caseBytes planBytes : List ℕ) (caseList planList : List ℤ) where
+  -- the case bytes were read to the end, and `front` is what they hold
+  pub case-read : {front : List ℤ} {t : Told} → readOf caseBytes (length caseList) .ended ≡ all → front ≡ readOf caseBytes (length caseList) .stored
+      → t ≡ caseListTold front planBytes (length planList) → t ≡ bytesJudged caseBytes planBytes caseList planList .told
+  unfolding bytesJudged caseListTold planBytesTold
   case-read a e h = h ∙ rw (e, a)
 
-  pub list-of : {front new : List ℤ} → readOf caseBytes room .ended ≡ all → front ≡ readOf caseBytes room .stored → new ≡ planListAfter front planBytes list → new ≡ planListOf caseBytes planBytes room list
-  unfolding planListOf
+  pub list-of : {front new : List ℤ} → readOf caseBytes (length caseList) .ended ≡ all → front ≡ readOf caseBytes (length caseList) .stored
+      → new ≡ planListAfter front planBytes planList → new ≡ bytesJudged caseBytes planBytes caseList planList .planList
+  unfolding bytesJudged planListAfter
   list-of a e h = h ∙ rw (e, a)
 
-  pub case-unread : {n p : ℕ} → readOf caseBytes room .ended ≡ no n p → (refuses n 0 p ≡ bytesTold caseBytes planBytes room (length list)) × (list ≡ planListOf caseBytes planBytes room list)
-  unfolding bytesTold planListOf
+  -- they were not, and the plan's list is not reached
+  pub case-unread : {n p : ℕ} → readOf caseBytes (length caseList) .ended ≡ no n p
+      → (refuses n 0 p ≡ bytesJudged caseBytes planBytes caseList planList .told) × (planList ≡ bytesJudged caseBytes planBytes caseList planList .planList)
+  unfolding bytesJudged
   case-unread e = (rw e, rw e)
+
+  pub case-list : {new : List ℤ} → new ≡ overlay (readOf caseBytes (length caseList) .stored) caseList
+      → new ≡ bytesJudged caseBytes planBytes caseList planList .caseList
+  unfolding bytesJudged
+  case-list e = e

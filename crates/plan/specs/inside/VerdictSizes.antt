@@ -39,7 +39,7 @@ use Rattle.plan.specs.law.Step.{stepQuestions}
 use Rattle.plan.specs.law.Balance.{nodeResidual}
 use Rattle.plan.specs.law.Totals.{stepSwitching, stepResidual, pipePart, pipeResiduals, nodeResiduals, totalsTo, totalsOf}
 use Rattle.plan.specs.law.Judged.{planStep, planQuestions, questions, verdictOf, verdictTold, judgeOf}
-use Rattle.plan.specs.law.JudgedBytes.{planNumber, planEnding, planBytesTold, caseAnswer, caseBytesTold, caseEnding, bytesTold}
+use Rattle.plan.specs.law.JudgedBytes.{readAnswer, planNumber, onPlanBytes, refusedOr, bytesJudged}
 use Rattle.plan.specs.law.Region.{innerPipe, innerPipes}
 use Rattle.plan.specs.law.RegionFigures.{figuresOf}
 use Rattle.plan.specs.inside.RegionSet.{nodes-counted}
@@ -129,30 +129,45 @@ plan-number-small n = go (eqb n 1) (eqb n 2)
     go false true = omega arith
     go false false = omega arith
 
-module _ (planBytes : List ℕ) (room : ℕ) (short : length planBytes < 2 ^ 63) where
-  plan-bytes-fit : (case : List ℤ) (v : Verdict) → verdictTold v ≡ planBytesTold case planBytes room → Fit (2 ^ 63) v
-  unfolding planBytesTold
-  plan-bytes-fit case v e = go (readOf planBytes room .ended) refl e
-    where
-      go : (d : Ending) → readOf planBytes room .ended ≡ d → verdictTold v ≡ planEnding d (judgeOf case (readOf planBytes room .stored)) → Fit (2 ^ 63) v
-      go all h e = judge-fits case (readOf planBytes room .stored) v e
-      go (no n p) h e = let w = unread-small planBytes room h in fit-refused v e (omega (arith, plan-number-small n)) (omega arith) (omega (arith, w .1))
+-- a refusal that is small, or what is told next
+refused-or-fit : (v : Verdict) (a : Answer) {next : Told} → Small (2 ^ 63) a → (verdictTold v ≡ next → Fit (2 ^ 63) v)
+    → verdictTold v ≡ refusedOr a next → Fit (2 ^ 63) v
+refused-or-fit v Yes s h e = h e
+refused-or-fit v (No n t p) s h e = fit-refused v e (s .0) (s .1) (s .2)
 
-  case-list-fit : (case : List ℤ) (v : Verdict) → verdictTold v ≡ caseBytesTold case planBytes room → Fit (2 ^ 63) v
-  unfolding caseBytesTold
-  case-list-fit case v e = go (firstNo (caseQuestions case)) (case-small case) e
-    where
-      go : (a : Answer) → Small limit a → verdictTold v ≡ caseAnswer a (planBytesTold case planBytes room) → Fit (2 ^ 63) v
-      go Yes s e = plan-bytes-fit case v e
-      go (No n t p) s e = fit-refused v e (omega (arith, s .0)) (omega (arith, s .1)) (omega (arith, s .2))
+case-fit : (case : List ℤ) → Small (2 ^ 63) (firstNo (caseQuestions case))
+case-fit case = go (firstNo (caseQuestions case)) (case-small case)
+  where
+    go : (a : Answer) → Small limit a → Small (2 ^ 63) a
+    go Yes s = s
+    go (No n t p) s = (omega (arith, s .0), omega (arith, s .1), omega (arith, s .2))
 
-  pub bytes-fit : (caseBytes : List ℕ) (caseRoom : ℕ) → length caseBytes < 2 ^ 63 → (v : Verdict) → verdictTold v ≡ bytesTold caseBytes planBytes caseRoom room → Fit (2 ^ 63) v
-  unfolding bytesTold
-  bytes-fit caseBytes caseRoom small v e = go (readOf caseBytes caseRoom .ended) refl e
+module _ (bytes : List ℕ) (room : ℕ) (short : length bytes < 2 ^ 63) where
+  read-fit : Small (2 ^ 63) (readAnswer (readOf bytes room .ended))
+  read-fit = go (readOf bytes room .ended) refl
     where
-      go : (d : Ending) → readOf caseBytes caseRoom .ended ≡ d → verdictTold v ≡ caseEnding d (caseBytesTold (readOf caseBytes caseRoom .stored) planBytes room) → Fit (2 ^ 63) v
-      go all h e = case-list-fit (readOf caseBytes caseRoom .stored) v e
-      go (no n p) h e = let w = unread-small caseBytes caseRoom h in fit-refused v e (omega (arith, w .0)) (omega arith) (omega (arith, w .1))
+      go : (d : Ending) → readOf bytes room .ended ≡ d → Small (2 ^ 63) (readAnswer d)
+      go all h = tt
+      go (no n p) h = let w = unread-small bytes room h in (omega (arith, w .0), omega arith, omega (arith, w .1))
+
+  plan-read-fit : Small (2 ^ 63) (onPlanBytes (readAnswer (readOf bytes room .ended)))
+  plan-read-fit = go (readAnswer (readOf bytes room .ended)) read-fit
+    where
+      go : (a : Answer) → Small (2 ^ 63) a → Small (2 ^ 63) (onPlanBytes a)
+      go Yes s = s
+      go (No n t p) s = (omega (arith, plan-number-small n), s .1, s .2)
+
+pub bytes-fit : (caseBytes planBytes : List ℕ) (caseList planList : List ℤ) → length caseBytes < 2 ^ 63 → length planBytes < 2 ^ 63 → (v : Verdict)
+    → verdictTold v ≡ bytesJudged caseBytes planBytes caseList planList .told → Fit (2 ^ 63) v
+unfolding bytesJudged
+bytes-fit caseBytes planBytes caseList planList small short v e =
+    let case = readOf caseBytes (length caseList) .stored in
+    let plan = readOf planBytes (length planList) .stored in
+    refused-or-fit v (readAnswer (readOf caseBytes (length caseList) .ended)) (read-fit caseBytes (length caseList) small)
+    (refused-or-fit v (firstNo (caseQuestions case)) (case-fit case)
+    (refused-or-fit v (onPlanBytes (readAnswer (readOf planBytes (length planList) .ended))) (plan-read-fit planBytes (length planList) short)
+    (judge-fits case plan v)))
+    e
 
 -- ---- the ledger
 

@@ -3,7 +3,6 @@ use mathlib.Core.Path.{refl, ap, _∙_}
 use borrow.Author.Tests.{le-leb, lt-leb}
 use native.Mathlib.Omega.{arith}
 use denote.Ref.{now}
-use lib.ListN.{length}
 use Rattle.plan.specs.inside.VerdictSizes.{bytes-fit}
 use Rattle.gasplan.specs.law.Out.{codeOf, outOf}
 use borrow.Author.Needs.{needs}
@@ -21,7 +20,8 @@ tell-verdict-requires c κs =
     let j = c .before .before in
     let d = j .before .before .before .before in
     let a = d .before .before .before .args in
-    (d .if1 .left, bytes-fit (now (a .planbytes)) (length (now (a .planlist))) (omega arith) (now (a .casebytes)) (length (now (a .caselist))) (omega arith) (j .judge-bytes .result) (j .judge-bytes .ensures .0))
+    let f = bytes-fit (now (a .casebytes)) (now (a .planbytes)) (now (a .caselist)) (now (a .planlist)) (omega arith) (omega arith) in
+    (d .if1 .left, f (j .judge-bytes .result) (j .judge-bytes .ensures .0))
 
 same-length : tie.Need-same-length
 same-length c = search needs

@@ -7,7 +7,7 @@ use lib.ListN.{length}
 use lib.Seq.{length-take-le}
 use Rattle.numbers.specs.law.CodecTold.{readingTold}
 use Rattle.numbers.specs.inside.ReadingBounds.{count-within}
-use Rattle.plan.specs.inside.VerdictLaws.{ReadAll, read-all, read-no, read-front, case-read, list-of, case-unread}
+use Rattle.plan.specs.inside.VerdictLaws.{ReadAll, read-all, read-no, read-front, case-read, list-of, case-unread, case-list}
 use Rattle.plan.proofs.judge.judge_bytes.Statement.{statement}
 use Rattle.plan.proofs.judge.judge_bytes.Tie as tie
 
@@ -59,8 +59,11 @@ returns c =
     let bytes = now (a .casebytes) in
     let room = length (now (a .caselist)) in
     let f = read-front bytes room (now (a .caselist)) (d .read .last .1 .0) (front g) (d .read .ensures .1) in (
-      case-read bytes (now (a .planbytes)) room (now (a .planlist)) (front g .ended) f (b .judge-case-list .ensures .0),
-      (d .read .ensures .1, list-of bytes (now (a .planbytes)) room (now (a .planlist)) (front g .ended) f (b .judge-case-list .ensures .1)),
+      case-read bytes (now (a .planbytes)) (now (a .caselist)) (now (a .planlist)) (front g .ended) f (b .judge-case-list .ensures .0),
+      (
+        case-list bytes (now (a .planbytes)) (now (a .caselist)) (now (a .planlist)) (d .read .ensures .1),
+        list-of bytes (now (a .planbytes)) (now (a .caselist)) (now (a .planlist)) (front g .ended) f (b .judge-case-list .ensures .1),
+      ),
     )
 
 same-length-3 : tie.Need-same-length-3
@@ -73,8 +76,9 @@ returns-2 c =
     let a = d .before .before .before .before .args in
     let bytes = now (a .casebytes) in
     let room = length (now (a .caselist)) in
-    let u = case-unread bytes (now (a .planbytes)) room (now (a .planlist)) (read-no bytes room (ap readingTold (sym (g .got2 .given .1)) ∙ d .read .ensures .0)) in
-    (u .0, (d .read .ensures .1, u .1))
+    let w = read-no bytes room (ap readingTold (sym (g .got2 .given .1)) ∙ d .read .ensures .0) in
+    let u = case-unread bytes (now (a .planbytes)) (now (a .caselist)) (now (a .planlist)) w in
+    (u .0, (case-list bytes (now (a .planbytes)) (now (a .caselist)) (now (a .planlist)) (d .read .ensures .1), u .1))
 
 pub judge-bytes-spec : {M : Type 1} → statement M
 judge-bytes-spec =
