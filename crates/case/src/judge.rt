@@ -6,7 +6,7 @@ ghost use Rattle.numbers.specs.law.Question.{firstNo, told};
 ghost use Rattle.case.specs.law.Layout.{arcsOf, stationsOf, stationAt};
 ghost use Rattle.case.specs.law.StationNodes.{stationNodes};
 ghost use Rattle.case.specs.inside.Counts.{Counted, StationsCounted};
-ghost use Rattle.case.specs.law.LayoutOf.{Holds, Laid};
+ghost use Rattle.case.specs.law.LayoutOf.{Holds, Clear, Laid};
 ghost use Rattle.case.specs.law.Judged.{rowQuestions, listQuestions, judgedCase};
 ghost use Rattle.case.specs.law.LayoutOf.{LaidOut};
 use super::arcs::arc_rows;
@@ -67,7 +67,7 @@ fn list_answer(case: &[i64]) -> Answer
 // Where each station's rows begin.
 fn station_firsts(case: &[i64], first: usize, stations: usize) -> [usize; 8]
     requires { ⌜ (first ≤ 5000) × (first ≡ stationAt (now case) 0) × (stations ≤ 8) × (stations ≡ stationsOf (now case)) × (StationsCounted (now case)) ⌝ }
-    ensures { λ r. ⌜ Holds 0 r (stationAt (now (case .entry))) stations ⌝ }
+    ensures { λ r. ⌜ (Holds 0 r (stationAt (now (case .entry))) stations) × (Clear 0 r stations) ⌝ }
 {
     let mut rows = [0usize; 8];
     let mut row = first;
@@ -83,7 +83,7 @@ fn station_firsts(case: &[i64], first: usize, stations: usize) -> [usize; 8]
 // Each station's nodes.
 fn insides(case: &[i64], arcs: usize, stations: usize) -> [i64; 8]
     requires { ⌜ (stations ≤ 8) × (arcs ≡ arcsOf (now case)) ⌝ }
-    ensures { λ r. ⌜ Holds (pos 0) r (stationNodes (now (case .entry))) stations ⌝ }
+    ensures { λ r. ⌜ (Holds (pos 0) r (stationNodes (now (case .entry))) stations) × (Clear (pos 0) r stations) ⌝ }
 {
     let mut inside = [0i64; 8];
     let mut s: usize = 0;

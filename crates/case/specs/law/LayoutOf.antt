@@ -3,7 +3,7 @@
 -- Assumes nothing.
 use mathlib.Core.Path.{_≡_}
 use mathlib.Core.List.{List}
-use Prim.Native.Nat.{ℕ, _<_}
+use Prim.Native.Nat.{ℕ, _<_, _≤_}
 use lib.IntN.{ℤ, pos}
 use lib.ListN.{getD, replicate}
 use Rattle.case.specs.declared.records.Layout.{Layout}
@@ -18,7 +18,11 @@ use Rattle.case.specs.law.Judged.{listQuestions, judgedCase}
 pub record Holds {A : Type 0} (none : A) (xs : List A) (f : ℕ → A) (n : ℕ) : Type 0 where
   pub each : (i : ℕ) → i < n → getD xs i none ≡ f i
 
--- the layout's arrays have a place for each of 8 stations; of the places past the case's own stations nothing is said
+-- and `none` from its place n on
+pub record Clear {A : Type 0} (none : A) (xs : List A) (n : ℕ) : Type 0 where
+  pub each : (i : ℕ) → n ≤ i → getD xs i none ≡ none
+
+-- the layout's arrays have a place for each of 8 stations, with 0 past the case's own
 pub record Laid (case : List ℤ) (l : Layout) : Type 0 where
   pub steps : l .steps ≡ stepsOf case
   pub nodes : l .nodes ≡ nodesOf case
@@ -26,8 +30,10 @@ pub record Laid (case : List ℤ) (l : Layout) : Type 0 where
   pub stations : l .stations ≡ stationsOf case
   -- where each station's rows begin
   pub rows : Holds 0 (l .rows) (stationAt case) (stationsOf case)
+  pub rows-past : Clear 0 (l .rows) (stationsOf case)
   -- each station's nodes
   pub inside : Holds (pos 0) (l .inside) (stationNodes case) (stationsOf case)
+  pub inside-past : Clear (pos 0) (l .inside) (stationsOf case)
   -- the nodes that end an arc of kind 0 to 2
   pub plain : l .plain ≡ plainNodes case
 

@@ -7,8 +7,8 @@ use lib.IntN.{pos}
 use lib.ListN.{length, length-set}
 use mir.Syntax.{w64}
 use mir.Val.{toZ, ofZ}
-use Rattle.case.specs.law.LayoutOf.{Holds}
-use Rattle.case.specs.inside.HoldsLaws.{holds-none, holds-more, holds-to}
+use Rattle.case.specs.law.LayoutOf.{Holds, Clear}
+use Rattle.case.specs.inside.HoldsLaws.{holds-none, holds-more, holds-to, clear-new, clear-more}
 use Rattle.case.specs.law.StationArcs.{belongs}
 use Rattle.case.specs.law.StationNodes.{endsOf, stationNodes}
 use Rattle.numbers.specs.inside.SignedLocals.{kept}
@@ -16,13 +16,13 @@ use Rattle.case.proofs.judge.insides.Statement.{statement}
 use Rattle.case.proofs.judge.insides.Tie as tie
 
 abbrev Inv-loop : tie.InvT-loop
-Inv-loop case arcs stations inside₀ s₀ inside s = (s ≤ stations) × (length inside ≡ 8) × Holds (pos 0) inside (stationNodes case) s
+Inv-loop case arcs stations inside₀ s₀ inside s = (s ≤ stations) × (length inside ≡ 8) × Holds (pos 0) inside (stationNodes case) s × Clear (pos 0) inside s
 
 abbrev μ-loop : tie.MeasureT-loop
 μ-loop case arcs stations inside₀ s₀ inside s = stations - s
 
 loop-holds : tie.Need-loop-holds Inv-loop μ-loop
-loop-holds c = (omega arith, refl, holds-none)
+loop-holds c = (omega arith, refl, holds-none, clear-new 8 0)
 
 station-nodes-requires : tie.Need-station-nodes-requires Inv-loop μ-loop
 station-nodes-requires c κs = search needs
@@ -46,10 +46,14 @@ loop-again c = let h = c .before .before in
     let l = now (s .args .case) in
     let i = h .loop .s in
     let e : toZ w64 (ofZ w64 (c .station-nodes .result)) ≡ stationNodes l i = kept _ (c .station-nodes .ok) ∙ c .station-nodes .ensures ∙ ap (λ (a : ℕ). pos (endsOf l (belongs l i) a)) (s .pre .1) in
-    (omega arith, simp length-set (h .loop .inv .1), holds-more (h .loop .inv .2) (omega arith) e)
+    let n = clear-more (h .loop .inv .3) (toZ w64 (ofZ w64 (c .station-nodes .result))) in
+    (omega arith, simp length-set (h .loop .inv .1), holds-more (h .loop .inv .2) (omega arith) e, n)
 
 returns : tie.Need-returns Inv-loop μ-loop
-returns c = holds-to (c .before .loop .inv .2) (c .loop-test .left)
+returns c =
+    let h = c .before in
+    let e : h .loop .s ≡ h .before .args .stations = omega (arith, h .loop .inv .0, c .loop-test .left) in
+    (holds-to (h .loop .inv .2) (c .loop-test .left), rw e at (h .loop .inv .3))
 
 pub insides-spec : {M : Type 1} → statement M
 insides-spec =

@@ -3,21 +3,23 @@ use Prim.Native.Nat.{_≤_, _<_, _-_, _+_, _*_}
 use native.Mathlib.Omega.{arith}
 use denote.Ref.{now}
 use lib.ListN.{length, length-set}
-use Rattle.case.specs.law.LayoutOf.{Holds}
-use Rattle.case.specs.inside.HoldsLaws.{holds-none, holds-more, holds-to}
+use Rattle.case.specs.law.LayoutOf.{Holds, Clear}
+use Rattle.case.specs.inside.HoldsLaws.{holds-none, holds-more, holds-to, clear-new, clear-more}
 use Rattle.case.specs.law.Layout.{stationsOf, stationAt, stationEnd}
 use Rattle.case.specs.inside.CountsInRange.{station-next, end-most}
 use Rattle.case.proofs.judge.station_firsts.Statement.{statement}
 use Rattle.case.proofs.judge.station_firsts.Tie as tie
 
 abbrev Inv-loop : tie.InvT-loop
-Inv-loop case first stations rows₀ row₀ s₀ rows row s = (s ≤ stations) × (row ≡ stationAt case s) × (row ≤ 5000 + 117 * s) × (length rows ≡ 8) × Holds 0 rows (stationAt case) s
+Inv-loop case first stations rows₀ row₀ s₀ rows row s =
+    (s ≤ stations) × (row ≡ stationAt case s) × (row ≤ 5000 + 117 * s) × (length rows ≡ 8)
+    × Holds 0 rows (stationAt case) s × Clear 0 rows s
 
 abbrev μ-loop : tie.MeasureT-loop
 μ-loop case first stations rows₀ row₀ s₀ rows row s = stations - s
 
 loop-holds : tie.Need-loop-holds Inv-loop μ-loop
-loop-holds c = (omega arith, c .pre .1, omega (arith, c .pre .0), refl, holds-none)
+loop-holds c = (omega arith, c .pre .1, omega (arith, c .pre .0), refl, holds-none, clear-new 8 0)
 
 mul-rows : tie.Need-mul-rows Inv-loop μ-loop
 mul-rows c = omega arith
@@ -51,10 +53,14 @@ loop-again c = let h = c .before .before in
       omega (arith, e, end-most l (stationAt l i) k, h .loop .inv .1, h .loop .inv .2),
       simp length-set (h .loop .inv .3),
       holds-more (h .loop .inv .4) (omega arith) (h .loop .inv .1),
+      clear-more (h .loop .inv .5) (h .loop .row),
     )
 
 returns : tie.Need-returns Inv-loop μ-loop
-returns c = holds-to (c .before .loop .inv .4) (c .loop-test .left)
+returns c =
+    let h = c .before in
+    let e : h .loop .s ≡ h .before .args .stations = omega (arith, h .loop .inv .0, c .loop-test .left) in
+    (holds-to (h .loop .inv .4) (c .loop-test .left), rw e at (h .loop .inv .5))
 
 pub station-firsts-spec : {M : Type 1} → statement M
 station-firsts-spec =
