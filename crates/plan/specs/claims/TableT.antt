@@ -5,12 +5,12 @@ use mathlib.Core.Path.{_≡_, refl}
 use mathlib.Core.List.{List, [], _∷_, _++_}
 use Prim.Native.Nat.{ℕ}
 use lib.IntN.{ℤ, pos, negℤ}
-use lib.ListN.{length}
+use lib.ListN.{length, replicate}
 use Rattle.numbers.specs.law.Told.{Told, gives, refuses}
 use Rattle.numbers.specs.law.Groups.{encode}
 use Rattle.numbers.specs.law.Reading.{all, readOf, readTold}
 use Rattle.plan.specs.law.Judged.{judgeOf}
-use Rattle.plan.specs.law.JudgedBytes.{bytesTold}
+use Rattle.plan.specs.law.JudgedBytes.{bytesJudged}
 use Rattle.plan.specs.law.Ledger.{ledgerOf}
 use Rattle.plan.specs.inside.Computed.{law}
 
@@ -31,7 +31,8 @@ pub data Row : Type 0 where
 unfoldable pub Holds : Row → Type 0
 Holds (judges case plan told) = judgeOf case plan ≡ told
 Holds (draws case plan set s t told) = ledgerOf case plan set s t ≡ told
-Holds (judgesBytes caseBytes planBytes caseRoom planRoom told) = bytesTold caseBytes planBytes caseRoom planRoom ≡ told
+Holds (judgesBytes caseBytes planBytes caseRoom planRoom told) =
+    bytesJudged caseBytes planBytes (replicate caseRoom (pos 0)) (replicate planRoom (pos 0)) .told ≡ told
 Holds (codes list bytes) = (encode list ≡ bytes) × (readOf bytes (length list) ≡ record { stored = list; ended = all })
 Holds (reads bytes told) = readTold (readOf bytes 1) ≡ told
 

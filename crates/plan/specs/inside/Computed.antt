@@ -17,7 +17,7 @@ use Rattle.case.specs.law.StationNodes.{withNode, endsOf, stationNodes, plainNo
 use Rattle.case.specs.law.ArcEnds.{arcEnds, allArcEnds}
 use Rattle.case.specs.law.OneStation.{oneStation, allOneStation}
 use Rattle.case.specs.law.StationSize.{stationSize, allStationSizes}
-use Rattle.case.specs.law.Directions.{directionKept, directionSets, allDirectionSets}
+use Rattle.case.specs.law.Directions.{setsKept, directionSets, allDirectionSets}
 use Rattle.case.specs.law.States.{stateKept, machinesKept, startKept, stationKept, stateSets, allStateSets}
 use Rattle.case.specs.law.Judged.{rowQuestions, listQuestions, earlyRules, ruleQuestions, caseQuestions}
 use Rattle.plan.specs.law.PlanLayout.{stepWidth, stepAt, stepRow}
@@ -40,7 +40,7 @@ use Rattle.plan.specs.law.Region.{innerPipes, innerGas, regionGas, regio
 use Rattle.plan.specs.law.RegionResidual.{ownNode, ownPipe, ownNodes, ownPipes, regionResidual}
 use Rattle.plan.specs.law.RegionFigures.{gasInside, broughtAt, residualAt, broughtOver, residualOver, figuresOf}
 use Rattle.plan.specs.law.Ledger.{namesNodes, foreignNode, timesOrdered, regionQuestions, ledgerQuestions, ledgerOf}
-use Rattle.plan.specs.law.JudgedBytes.{planBytesTold, caseBytesTold, bytesTold}
+use Rattle.plan.specs.law.JudgedBytes.{bytesJudged}
 
 -- groups of seven: 1 to 4
 unfoldable pub codec : Unit {0}
@@ -62,7 +62,7 @@ caseFields = tt
 -- 13 to 17
 unfoldable pub caseRules : Unit {0}
 unfolding arcsBefore arcSet withNode endsOf stationNodes plainNodes arcEnds allArcEnds oneStation allOneStation stationSize allStationSizes
-    directionKept directionSets allDirectionSets stateKept machinesKept startKept stationKept stateSets allStateSets
+    setsKept directionSets allDirectionSets stateKept machinesKept startKept stationKept stateSets allStateSets
     rowQuestions listQuestions earlyRules ruleQuestions caseQuestions
 caseRules = tt
 
@@ -96,5 +96,5 @@ ledger = tt
 
 -- all of it, with the call on two byte strings
 unfoldable pub law : Unit {0}
-unfolding codec layout caseFields caseRules nodesAndArcs stationsAndBalance verdict ledger planBytesTold caseBytesTold bytesTold
+unfolding codec layout caseFields caseRules nodesAndArcs stationsAndBalance verdict ledger bytesJudged
 law = tt
