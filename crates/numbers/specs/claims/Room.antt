@@ -94,7 +94,7 @@ ends-not-full (suc room) place (b ∷ bytes) h = go (λ p l. ends-not-full room 
     go : ((p : ℕ) (l : List ℕ) → length l ≤ room → NotFull (readFrom room p l .ended)) → (r : Number) → Within (suc (length bytes)) r
         → NotFull (afterNumber place r (λ used. readFrom room (place + used) (drop used (b ∷ bytes))) .ended)
     go again (Whole v u) w = again (place + u) (drop u (b ∷ bytes)) (omega (arith, length-drop u (b ∷ bytes), w .0, w .1))
-    go again (Refused n) w = w
+    go again (Refused n) w = w .0
 
 -- of the call: a list with a place for each byte is never full: it does not refuse by 3
 pub never-full : {bytes : List ℕ} {list left : List ℤ} {number place : ℕ} → length bytes ≤ length list

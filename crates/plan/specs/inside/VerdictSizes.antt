@@ -117,17 +117,17 @@ unfolding values
 fit-refused (Accepted t) e h k l = let f : ⊥ = omega (arith, ap values e) in absurd f
 fit-refused (Refused m t q) e h k l = let r = refused-same e in (omega (arith, r .0), omega (arith, r .1), omega (arith, r .2))
 
-unread-small : (bytes : List ℕ) (room : ℕ) {n p : ℕ} → readOf bytes room .ended ≡ no n p → (n ≤ 3) × (p < length bytes)
+unread-small : (bytes : List ℕ) (room : ℕ) {n p : ℕ} → readOf bytes room .ended ≡ no n p → (n ≤ 3) × (p < length bytes) × (1 ≤ n)
 unfolding readTold
 unread-small bytes room {n} {p} e = refusal-within bytes room n p (rw e)
 
-plan-number-small : (n : ℕ) → planNumber n ≤ 7
+plan-number-small : (n : ℕ) → (planNumber n ≤ 7) × (1 ≤ planNumber n)
 plan-number-small n = go (eqb n 1) (eqb n 2)
   where
-    go : (a b : Bool) → cond a 5 (cond b 6 7) ≤ 7
-    go true b = omega arith
-    go false true = omega arith
-    go false false = omega arith
+    go : (a b : Bool) → (cond a 5 (cond b 6 7) ≤ 7) × (1 ≤ cond a 5 (cond b 6 7))
+    go true b = (omega arith, omega arith)
+    go false true = (omega arith, omega arith)
+    go false false = (omega arith, omega arith)
 
 -- a refusal that is small, or what is told next
 refused-or-fit : (v : Verdict) (a : Answer) {next : Told} → Small (2 ^ 63) a → (verdictTold v ≡ next → Fit (2 ^ 63) v)
@@ -140,7 +140,7 @@ case-fit case = go (firstNo (caseQuestions case)) (case-small case)
   where
     go : (a : Answer) → Small limit a → Small (2 ^ 63) a
     go Yes s = s
-    go (No n t p) s = (omega (arith, s .0), omega (arith, s .1), omega (arith, s .2))
+    go (No n t p) s = (omega (arith, s .0), omega (arith, s .1), omega (arith, s .2), s .3)
 
 module _ (bytes : List ℕ) (room : ℕ) (short : length bytes < 2 ^ 63) where
   read-fit : Small (2 ^ 63) (readAnswer (readOf bytes room .ended))
@@ -148,14 +148,14 @@ module _ (bytes : List ℕ) (room : ℕ) (short : length bytes < 2 ^ 63) where
     where
       go : (d : Ending) → readOf bytes room .ended ≡ d → Small (2 ^ 63) (readAnswer d)
       go all h = tt
-      go (no n p) h = let w = unread-small bytes room h in (omega (arith, w .0), omega arith, omega (arith, w .1))
+      go (no n p) h = let w = unread-small bytes room h in (omega (arith, w .0), omega arith, omega (arith, w .1), w .2)
 
   plan-read-fit : Small (2 ^ 63) (onPlanBytes (readAnswer (readOf bytes room .ended)))
   plan-read-fit = go (readAnswer (readOf bytes room .ended)) read-fit
     where
       go : (a : Answer) → Small (2 ^ 63) a → Small (2 ^ 63) (onPlanBytes a)
       go Yes s = s
-      go (No n t p) s = (omega (arith, plan-number-small n), s .1, s .2)
+      go (No n t p) s = let w = plan-number-small n in (omega (arith, w .0), s .1, s .2, w .1)
 
 pub bytes-fit : (caseBytes planBytes : List ℕ) (caseList planList : List ℤ) → length caseBytes < 2 ^ 63 → length planBytes < 2 ^ 63 → (v : Verdict)
     → verdictTold v ≡ bytesJudged caseBytes planBytes caseList planList .told → Fit (2 ^ 63) v
