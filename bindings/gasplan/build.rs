@@ -17,7 +17,9 @@ fn main() {
         eprintln!("{why}");
         exit(1);
     });
-    println!("cargo:rerun-if-changed={}", folder.join(ARCHIVE).display());
+    let archive = folder.join(ARCHIVE);
+    println!("cargo:rerun-if-changed={}", archive.display());
+    println!("cargo:archive={}", archive.display());
     println!("cargo:rustc-link-search=native={}", folder.display());
     println!("cargo:rustc-link-lib=static=gasplan");
 }
@@ -35,8 +37,11 @@ fn known_target() -> Result<(), String> {
 }
 
 fn folder() -> Result<PathBuf, String> {
-    if let Some(named) = env::var_os(FOLDER) {
-        return with_archive(PathBuf::from(named), &format!("{FOLDER} names this folder"));
+    if let Some(named) = env::var_os(FOLDER).map(PathBuf::from) {
+        return match named.is_absolute() {
+            true => with_archive(named, &format!("{FOLDER} names this folder")),
+            false => Err(format!("{FOLDER} is no absolute path: {}", named.display())),
+        };
     }
     let here = PathBuf::from(env::var_os("CARGO_MANIFEST_DIR").unwrap_or_default());
     match here.ancestors().nth(2) {

@@ -37,6 +37,9 @@ pub const VERSION: &str = env!("CARGO_PKG_VERSION");
 /// The least length of `out` that the library takes.
 pub const OUT_PLACES: usize = 6;
 
+/// The answer of a function of [`calls`] whose `out` is shorter.
+pub const NO_ROOM: i64 = -1;
+
 /// The longest that one number can be in bytes.
 pub const NUMBER_BYTES: usize = 10;
 
