@@ -1,6 +1,8 @@
 //! Numbers to bytes and back, by the archive and nothing else.
 //!
-//!     rustc --edition 2024 examples/rust/codec.rs -L target/staticlib -l static=gasplan && ./codec
+//!     mkdir -p target/examples
+//!     rustc --edition 2024 examples/rust/codec.rs -L target/staticlib -l static=gasplan -o target/examples/codec-rust
+//!     target/examples/codec-rust
 
 use std::process::ExitCode;
 

@@ -1,6 +1,8 @@
 //! Judges case.bin and plan.bin of a folder and, if they are accepted, prints the ledger of the whole network.
 //!
-//!     rustc --edition 2024 examples/rust/judge.rs -L target/staticlib -l static=gasplan && ./judge examples/line
+//!     mkdir -p target/examples
+//!     rustc --edition 2024 examples/rust/judge.rs -L target/staticlib -l static=gasplan -o target/examples/judge-rust
+//!     target/examples/judge-rust examples/line
 
 use std::path::PathBuf;
 use std::process::ExitCode;
