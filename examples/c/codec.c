@@ -1,6 +1,8 @@
 /* Numbers to bytes and back, and each answer that can come.
  *
- *     cc -std=c11 -I include examples/c/codec.c target/staticlib/libgasplan.a -o codec && ./codec */
+ *     mkdir -p target/examples
+ *     cc -std=c11 -I include examples/c/codec.c target/staticlib/libgasplan.a -o target/examples/codec-c
+ *     target/examples/codec-c */
 #include <inttypes.h>
 #include <stdio.h>
 #include <string.h>

@@ -1,6 +1,8 @@
 /* Judges case.bin and plan.bin of a folder and, if they are accepted, prints the ledger of the whole network.
  *
- *     cc -std=c11 -I include examples/c/judge.c target/staticlib/libgasplan.a -o judge && ./judge examples/line */
+ *     mkdir -p target/examples
+ *     cc -std=c11 -I include examples/c/judge.c target/staticlib/libgasplan.a -o target/examples/judge-c
+ *     target/examples/judge-c examples/line */
 #include <inttypes.h>
 #include <stdio.h>
 

@@ -1,6 +1,7 @@
 //! Numbers to bytes and back, and each refusal that can come.
 //!
-//!     cargo run --offline --release --quiet --manifest-path examples/rust/Cargo.toml --target-dir target/examples/rust --bin codec
+//!     cargo build --offline --release --quiet --manifest-path examples/rust/Cargo.toml --target-dir target/examples/rust --bin codec
+//!     target/examples/rust/release/codec
 
 use std::process::ExitCode;
 

@@ -1,6 +1,7 @@
 //! Judges case.bin and plan.bin of a folder and, if they are accepted, prints the ledger of the whole network.
 //!
-//!     cargo run --offline --release --quiet --manifest-path examples/rust/Cargo.toml --target-dir target/examples/rust --bin judge -- examples/line
+//!     cargo build --offline --release --quiet --manifest-path examples/rust/Cargo.toml --target-dir target/examples/rust --bin judge
+//!     target/examples/rust/release/judge examples/line
 //!
 //! The status is 0 for accepted, 1 for refused and 2 where there is no verdict.
 
