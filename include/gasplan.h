@@ -28,7 +28,7 @@
  *
  * Returning. It is proved that each call ends, on the machine that defines the language. That machine has no clock and no
  * stack, and the step from it to machine code is the compiler's, which is not proved. What the compiled code takes is
- * measured: stack below, time in docs/DESIGN.md ("Cost of running"; it grows in proportion to the numbers lent).
+ * measured: stack below, time in docs/DESIGN.md ("Cost of running").
  *
  * The machine. The archive is for x86-64 Linux: ELF, the System V calling convention with its red zone of 128 bytes below
  * the stack pointer, SSE2 and nothing later. It can stand in position-independent programs. From the C library it needs
