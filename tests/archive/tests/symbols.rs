@@ -40,20 +40,34 @@ fn it_has_no_variables() {
     }
 }
 
-/// x86-64 with SSE2, which every such machine has, and no wider registers; no absolute address, so it can be placed anywhere.
+/// What compilers take where they may go beyond SSE2.
+const LATER: [&str; 24] = [
+    "popcnt", "lzcnt", "tzcnt", "andn", "bextr", "blsi", "blsmsk", "blsr", "mulx", "rorx", "sarx",
+    "shlx", "shrx", "movbe", "pshufb", "pinsrd", "pinsrq", "pextrd", "pextrq", "pcmpeqq",
+    "pcmpgtq", "pmulld", "ptest", "pblendw",
+];
+
+/// Every x86-64 machine has SSE2.
 #[test]
 fn it_runs_on_every_machine_of_its_kind() {
-    let text = listing("objdump", &["-dr", "--no-show-raw-insn"]);
+    let text = listing("objdump", &["-d", "--no-show-raw-insn"]);
     assert!(text.contains("file format elf64-x86-64"));
-    for wider in ["%ymm", "%zmm", "%k1"] {
+    assert!(text.contains("%xmm0"), "registers are named so");
+    for wider in ["%ymm", "%zmm"] {
         assert!(!text.contains(wider), "{wider}");
     }
-    let relocations = listing("objdump", &["-r"]);
-    let kinds: BTreeSet<&str> = relocations
-        .lines()
-        .filter_map(|line| line.split_whitespace().nth(1))
-        .filter(|word| word.starts_with("R_X86_64_"))
-        .collect();
-    let relative = ["R_X86_64_PC32", "R_X86_64_PLT32"].into();
-    assert!(!kinds.is_empty() && kinds.is_subset(&relative), "{kinds:?}");
+    let used: BTreeSet<&str> = text.split_whitespace().collect();
+    assert!(used.contains("cmp"), "instructions are listed so");
+    for later in LATER {
+        assert!(!used.contains(later), "{later}");
+    }
+}
+
+/// Only distances stand in it, so it can be placed anywhere.
+#[test]
+fn it_has_no_absolute_address() {
+    let text = listing("objdump", &["-r"]);
+    let words = text.split_whitespace();
+    let kinds: BTreeSet<&str> = words.filter(|word| word.starts_with("R_X86_64_")).collect();
+    assert_eq!(kinds, ["R_X86_64_PC32", "R_X86_64_PLT32"].into());
 }
