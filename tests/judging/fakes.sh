@@ -18,7 +18,11 @@ programs() {
         script "$tree/target/bin/checker" <<<"$body"
         run "a program with '$body'" env PATH="$room/path" "$tree/judge" "$tree/examples/line"
         ends 2
-        says 'no verdict: the program (ended with status|printed)'
+        case $body in
+        'exit 0' | printf*) says 'no verdict: the program printed no whole line' ;;
+        kill* | *'exit 3') says 'no verdict: the program ended with status (139|3)$' ;;
+        *) says 'no verdict: the program printed something else' ;;
+        esac
     done
     script "$tree/target/bin/checker" <<<'echo "accepted -1 0 0 0 599988 -611988"'
     run "a program that accepts" env PATH="$room/path" "$tree/judge" "$tree/examples/line"
@@ -119,4 +123,11 @@ needs() {
     ends 0
     says 'missing here: cc; installing gcc'
     [[ $(cat "$room/asked") == $'update -q\ninstall -q -y gcc libc6-dev' ]] || fail "apt-get was asked for something else"
+
+    tree "$room/poor"
+    mkdir "$room/poor/target/staticlib" && touch "$room/poor/target/staticlib/libgasplan.a"
+    run "--text without cargo" env PATH="$bare" "$room/poor/judge" --text "$room/poor/examples/line"
+    ends 2
+    says 'missing here: cargo; installing cargo'
+    says 'no verdict: the tool for texts cannot be built'
 }

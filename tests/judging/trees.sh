@@ -31,6 +31,9 @@ without_kit() {
     ends 1 "$incident"
     says 'kit is missing .* judging with the program that was proved here before'
     says 'not compared with the bytes: there is no tool for texts yet'
+    run "no kit, and texts to judge" env PATH="$room/path" "$tree/judge" --text "$tree/examples/incident"
+    ends 2
+    says 'no verdict: the tool for texts cannot be built: .*libgasplan.a is missing'
     touch -d '+1 minute' "$tree/crates/numbers/src/lib.rt"
     run "no kit, and newer sources" env PATH="$room/path" "$tree/judge" "$tree/examples/line"
     ends 2
