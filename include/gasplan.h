@@ -1,13 +1,19 @@
-/* The gas plan checker, for programs in C.
+/* The gas plan checker, for programs in C and C++.
  *
- * Link target/staticlib/libgasplan.a, which `rt staticlib gasplan` proves and writes. What a case and a plan are, and what each
- * refusal number means, is in docs/RULES.md.
+ * Link libgasplan.a: `rt staticlib gasplan` proves it and writes it to target/staticlib, `./install PREFIX` puts it where
+ * `pkg-config --cflags --libs gasplan` finds it. What a case and a plan are, and each refusal at length, is in RULES.md
+ * (docs, or PREFIX/share/doc/gasplan).
  *
- * All functions have this in common.
+ * All functions have the following in common.
  *
- * Lending. Each pointer is lent together with a count of places, for the time of the call. It is not null, also where the
- * count is 0, and no two lent regions overlap. A const region is only read. Nothing is kept, nothing is allocated, and every
- * call returns.
+ * Lending. Each pointer is lent together with a count of places, for the time of the call. What the caller owes:
+ *   - It is not null, also where the count is 0.
+ *   - It is aligned as its type is: int64_t at 8 bytes.
+ *   - Its places hold values, also those that the call writes: initialise them.
+ *   - A region has at most 2^63 - 1 bytes, so a list at most 2^60 - 1 numbers. The proofs have no other bound on a length.
+ *   - A region that is not const overlaps no other region of the call. Const regions may overlap, or be the same.
+ *   - During the call nobody else writes a region, and nobody else reads one that is not const.
+ * A const region is only read. Nothing is kept and nothing is allocated.
  *
  * Answers.
  *   -1        `out` has fewer than 6 places. Nothing that was lent is changed.
@@ -15,17 +21,42 @@
  *   1 to 41   The number of the first question whose answer is "no". out[0] is its step and out[1] its place; the other
  *             places are unchanged.
  * Steps and places are 0 or more. Where a rule names no step or place, it is 0.
+ * In what follows, "unchanged" means: holds what it held before the call.
  *
- * In what follows, "unchanged" means: holds what it held before the call. */
+ * Threads. The library has no variables, so calls can run at once, in threads or in an interrupt within another call, if
+ * their regions keep to the rules above.
+ *
+ * Returning. It is proved that each call ends, on the machine that defines the language. That machine has no clock and no
+ * stack, and the step from it to machine code is the compiler's, which is not proved. What the compiled code takes is
+ * measured: stack below, time in docs/DESIGN.md ("Cost of running").
+ *
+ * The machine. The archive is for x86-64 Linux: ELF, the System V calling convention with its red zone of 128 bytes below
+ * the stack pointer, SSE2 and nothing later. It can stand in position-independent programs. From the C library it needs
+ * memcpy and memset and nothing else. Elsewhere: the Rattle kit compiles for x86-64 Linux alone, so another target needs a
+ * kit that compiles for it, and the gate run with that kit. In the proofs size_t has 64 bits. */
 #ifndef GASPLAN_H
 #define GASPLAN_H
 
 #include <stddef.h>
 #include <stdint.h>
 
+#if SIZE_MAX != UINT64_MAX
+#error "gasplan.h: the library's counts have 64 bits, and size_t here has not"
+#endif
+
 #ifdef __cplusplus
 extern "C" {
 #endif
+
+/* The version of the library: the first number changes when programs over it may have to, the second when something is
+ * added. */
+#define GASPLAN_VERSION "1.0.0"
+#define GASPLAN_VERSION_MAJOR 1
+#define GASPLAN_VERSION_MINOR 0
+#define GASPLAN_VERSION_PATCH 0
+
+/* The edition of the rules, which is the first number of a case and of a plan. */
+#define GASPLAN_EDITION 1
 
 /* The least count of places in `out`. */
 #define GASPLAN_OUT 6
@@ -36,6 +67,69 @@ extern "C" {
 /* The longest that one number can be, in bytes. A list of n numbers always fits into n * GASPLAN_NUMBER_BYTES bytes, and n
  * bytes never hold more than n numbers. */
 #define GASPLAN_NUMBER_BYTES 10
+
+/* An accepted case has at most so many numbers, and an accepted plan. Lists of these lengths are long enough for
+ * gasplan_judge_bytes: what does not fit would be refused in any case. */
+#define GASPLAN_CASE_MOST 5551
+#define GASPLAN_PLAN_MOST 41090
+
+/* The bytes of stack that a call takes at most, its arguments and return address included; what memcpy and memset take is
+ * left out. No call is recursive and each frame has one size, so this holds for every input: the gate adds the frames up in
+ * the machine code, measures each call on a case and a plan of the largest size, and holds these figures, which have some
+ * room, to both. */
+#define GASPLAN_STACK_READ 256
+#define GASPLAN_STACK_WRITE 64
+#define GASPLAN_STACK_CASE 3072
+#define GASPLAN_STACK_JUDGE 6144
+#define GASPLAN_STACK_JUDGE_BYTES 6144
+#define GASPLAN_STACK_LEDGER 8192
+
+/* The refusals, each with the question that has a "no". k, N, A and S are the case's steps, nodes, arcs and stations. */
+enum gasplan_refusal {
+    /* The bytes of a case, or of any list: place is the first byte of the number. */
+    GASPLAN_BYTES_END = 1,           /* Is there a byte for the rest of the number? */
+    GASPLAN_BYTE_OUT_OF_PLACE = 2,   /* Is a tenth byte 0 or 1, and a last byte after the first not 0? */
+    GASPLAN_LIST_FULL = 3,           /* Is a place free for the number? */
+    GASPLAN_BYTES_FULL = 4,          /* Do all bytes fit? */
+    /* The bytes of a plan, as 1, 2 and 3. */
+    GASPLAN_PLAN_BYTES_END = 5,      /* Is there a byte for the rest of the number? */
+    GASPLAN_PLAN_BYTE_OUT_OF_PLACE = 6, /* Is a tenth byte 0 or 1, and a last byte after the first not 0? */
+    GASPLAN_PLAN_LIST_FULL = 7,      /* Is a place free for the number? */
+    /* The case: place is the index of a field, then an arc, a node, a station. */
+    GASPLAN_FIELD_MISSING = 10,      /* Is the field there? */
+    GASPLAN_FIELD_RANGE = 11,        /* Is the field in its range? */
+    GASPLAN_LEFT_OVER = 12,          /* Is nothing left over after the last field? */
+    GASPLAN_ARC_ENDS = 13,           /* Do the arc's ends differ? */
+    GASPLAN_ONE_STATION = 14,        /* Is the node in at most one station? */
+    GASPLAN_STATION_SIZE = 15,       /* Has the station at most 30 artificial arcs? */
+    GASPLAN_DIRECTION_SETS = 16,     /* Do each direction's entry and exit set share no node and hold only fence nodes? */
+    GASPLAN_STATE_SETS = 17,         /* Do on and off share nothing and name only the station's arcs, do machine sets name only
+                                      * its machines, and does activity at step 0 obey the state at step 0? */
+    /* The plan as a whole. */
+    GASPLAN_PLAN_HEAD = 20,          /* Are the first two numbers 1 and k, and is the length 2 + k * (6N + 4A + 2S)? */
+    /* A node in a step. */
+    GASPLAN_NODE_NUMBERS = 21,       /* Are p, d and the slacks in their ranges, and d and the slacks 0 at an inner node? */
+    GASPLAN_DEMAND = 22,             /* Is d + s+ - s- the demand? */
+    GASPLAN_ACTIVE_BOUNDS = 23,      /* Where there is a demand: is p + u+ >= actlow and p - u- <= acthigh? */
+    /* An arc in a step. */
+    GASPLAN_ARC_NUMBERS = 24,        /* Are flows within qmax, unused numbers 0, the setting known and not backward on a one-way
+                                      * arc, and the machines in the arc's set? */
+    GASPLAN_FLOW_ALLOWED = 25,       /* Is there no flow on a shut or off arc, and none against an artificial arc's setting? */
+    GASPLAN_PRESSURES = 26,          /* Do the pressures at its ends fit what the arc does? */
+    GASPLAN_MACHINES = 27,           /* Are there machines only where it compresses, not too many, and enough for the flow? */
+    GASPLAN_PIPE_MASS = 28,          /* Is |dt * (a - b) - c * (change of p at from + change at to)| <= E? */
+    GASPLAN_PIPE_PRESSURES = 29,     /* Is |1000000 * (to - from) + f * a + g * b + h * (from + to)| <= 1000000 * H? */
+    /* A station in a step. */
+    GASPLAN_STATION_CHOICE = 30,     /* Are direction and state in range, does the state support the direction, are all on arcs
+                                      * active and no off arc? */
+    GASPLAN_MACHINE_TWICE = 31,      /* Is each machine on at most one arc? */
+    GASPLAN_FENCE_FLOWS = 32,        /* Does gas go in at entry nodes, out at exit nodes, and neither at other fence nodes? */
+    /* A node in a step, after all arcs and stations. */
+    GASPLAN_BALANCE = 33,            /* Is dt * |flow out - flow in - d| <= E? */
+    /* The ledger. */
+    GASPLAN_LEDGER_SET = 40,         /* Does the set name only nodes? */
+    GASPLAN_LEDGER_STEPS = 41        /* Is 0 <= s <= t <= k? */
+};
 
 /* Reads bytes into a list.
  *
@@ -102,7 +196,8 @@ int64_t gasplan_judge_bytes(const uint8_t *case_bytes, size_t case_bytes_len,
  *
  * 0           The six figures are in out[0] to out[5]: nodes of the set, inner pipes (both ends in the set), their gas at
  *             step s and at step t (g), gas brought in over the steps s + 1 to t (g, out of the set negative), and the
- *             residual (g). The gas at t less the gas at s less what was brought in is, in size, at most the residual.
+ *             residual (g). The gas at t less the gas at s less what was brought in is, in size, at most the residual, and
+ *             the residual is at most (nodes + inner pipes) * (t - s) * E, where E is the case's mass tolerance.
  * 10 to 33    As gasplan_judge has it. No figure is given for a plan that is refused.
  * 40          The set names something that is no node. out[0] is 0; out[1] is the lowest such bit, or 0 where the set is
  *             outside 0 to 2^60 - 1.

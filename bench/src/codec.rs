@@ -2,7 +2,7 @@
 
 use std::hint::black_box;
 
-use beside::library;
+use gasplan::calls;
 use second::codec;
 
 use crate::race::Timer;
@@ -24,7 +24,7 @@ fn read(timer: Timer, subject: &Subject) -> [f64; 2] {
     let mut out = [0; 6];
     let seconds = timer.race(
         || {
-            black_box(library::read(black_box(&subject.bytes), ours, &mut out));
+            black_box(calls::read(black_box(&subject.bytes), ours, &mut out));
         },
         || {
             let _ = black_box(codec::read(black_box(&subject.bytes), plain));
@@ -44,7 +44,7 @@ fn write(timer: Timer, subject: &Subject) -> [f64; 2] {
     let mut out = [0; 6];
     let seconds = timer.race(
         || {
-            black_box(library::write(black_box(&subject.list), ours, &mut out));
+            black_box(calls::write(black_box(&subject.list), ours, &mut out));
         },
         || {
             let _ = black_box(codec::write(black_box(&subject.list), plain));

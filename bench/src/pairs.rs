@@ -2,8 +2,8 @@
 
 use std::hint::black_box;
 
-use beside::library;
-use harness::calls::{self, OUT_PLACES};
+use gasplan::calls as proved;
+use harness::calls::{self as plain, OUT_PLACES};
 use inputs::Rng;
 use inputs::generate::{Size, of_size};
 
@@ -38,8 +38,8 @@ impl Lists {
     pub fn race_case(&self, timer: Timer) -> [f64; 2] {
         race(
             timer,
-            |out| library::judge_case(black_box(&self.case), out),
-            |out| calls::judge_case(black_box(&self.case), out),
+            |out| proved::case(black_box(&self.case), out),
+            |out| plain::judge_case(black_box(&self.case), out),
         )
     }
 
@@ -47,8 +47,8 @@ impl Lists {
     pub fn race_plan(&self, timer: Timer) -> [f64; 2] {
         race(
             timer,
-            |out| library::judge_plan(black_box(&self.case), black_box(&self.plan), out),
-            |out| calls::judge_plan(black_box(&self.case), black_box(&self.plan), out),
+            |out| proved::judge(black_box(&self.case), black_box(&self.plan), out),
+            |out| plain::judge_plan(black_box(&self.case), black_box(&self.plan), out),
         )
     }
 
@@ -58,8 +58,8 @@ impl Lists {
         let steps = self.size.steps as i64;
         race(
             timer,
-            |out| library::draw_ledger(black_box(&self.case), &self.plan, set, 0, steps, out),
-            |out| calls::draw_ledger(black_box(&self.case), &self.plan, set, 0, steps, out),
+            |out| proved::ledger(black_box(&self.case), &self.plan, set, 0, steps, out),
+            |out| plain::draw_ledger(black_box(&self.case), &self.plan, set, 0, steps, out),
         )
     }
 }

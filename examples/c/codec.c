@@ -26,7 +26,7 @@ static void show(const char *call, int64_t answer, const int64_t *out, int64_t e
 static void there_and_back(void)
 {
     const int64_t list[COUNT] = {-900, 64, INT64_MIN, INT64_MAX};
-    uint8_t bytes[COUNT * GASPLAN_NUMBER_BYTES];
+    uint8_t bytes[COUNT * GASPLAN_NUMBER_BYTES] = {0};
     int64_t again[COUNT] = {0};
     int64_t out[GASPLAN_OUT] = {0};
 
@@ -54,10 +54,10 @@ static void refusals(void)
     uint8_t byte[1] = {0xAA};
     int64_t out[GASPLAN_OUT] = {0};
 
-    show("a number's bytes end early", gasplan_read(unfinished, 2, more, 2, out, GASPLAN_OUT), out, 1);
-    show("a last byte 00", gasplan_read(needless, 3, more, 2, out, GASPLAN_OUT), out, 2);
-    show("two numbers, one place", gasplan_read(two, 2, room, 1, out, GASPLAN_OUT), out, 3);
-    show("two bytes, room for one", gasplan_write(list, 1, byte, 1, out, GASPLAN_OUT), out, 4);
+    show("a number's bytes end early", gasplan_read(unfinished, 2, more, 2, out, GASPLAN_OUT), out, GASPLAN_BYTES_END);
+    show("a last byte 00", gasplan_read(needless, 3, more, 2, out, GASPLAN_OUT), out, GASPLAN_BYTE_OUT_OF_PLACE);
+    show("two numbers, one place", gasplan_read(two, 2, room, 1, out, GASPLAN_OUT), out, GASPLAN_LIST_FULL);
+    show("two bytes, room for one", gasplan_write(list, 1, byte, 1, out, GASPLAN_OUT), out, GASPLAN_BYTES_FULL);
     show("out too short", gasplan_write(list, 1, byte, 1, out, 5), out, GASPLAN_NO_ROOM);
     if (room[0] != 1 || more[0] != 1 || more[1] != 7 || byte[0] != 0xAA) {
         printf("  a lent place holds something else than the header says\n");

@@ -49,6 +49,7 @@ static int64_t whole_ledger(size_t case_count, size_t plan_count, int64_t *out)
     return gasplan_ledger(case_list, case_count, plan_list, plan_count, all, 0, steps, out, GASPLAN_OUT);
 }
 
+/* The status is 0 for accepted, 1 for refused and 2 where there is no verdict. */
 int main(int argc, char **argv)
 {
     const char *folder = argc > 1 ? argv[1] : ".";
@@ -57,7 +58,7 @@ int main(int argc, char **argv)
     size_t plan_size = load(folder, "plan.bin", plan_bytes, sizeof plan_bytes);
     if (case_size > CASE_BYTES || plan_size > PLAN_BYTES) {
         printf("too long\n");
-        return 1;
+        return 2;
     }
     int64_t answer = gasplan_judge_bytes(case_bytes, case_size, plan_bytes, plan_size, case_list, CASE_NUMBERS,
                                          plan_list, PLAN_NUMBERS, out, GASPLAN_OUT);

@@ -1,72 +1,42 @@
-//! Numbers to bytes and back, by the archive and nothing else.
+//! Numbers to bytes and back, and each refusal that can come.
 //!
-//!     mkdir -p target/examples
-//!     rustc --edition 2024 examples/rust/codec.rs -L target/staticlib -l static=gasplan -o target/examples/codec-rust
-//!     target/examples/codec-rust
+//!     cargo build --offline --release --quiet --manifest-path examples/rust/Cargo.toml --target-dir target/examples/rust --bin codec
+//!     target/examples/rust/release/codec
 
 use std::process::ExitCode;
 
-unsafe extern "C" {
-    fn gasplan_read(
-        bytes: *const u8,
-        bytes_len: usize,
-        list: *mut i64,
-        list_len: usize,
-        out: *mut i64,
-        out_len: usize,
-    ) -> i64;
-    fn gasplan_write(
-        list: *const i64,
-        list_len: usize,
-        bytes: *mut u8,
-        bytes_len: usize,
-        out: *mut i64,
-        out_len: usize,
-    ) -> i64;
+use gasplan::{NUMBER_BYTES, Refusal};
+
+/// Every list is lent for the time of a call; nothing is allocated.
+fn there_and_back() -> Result<bool, Refusal> {
+    let list = [-900, 64, i64::MIN, i64::MAX];
+    let mut bytes = [0; 4 * NUMBER_BYTES];
+    let length = gasplan::write(&list, &mut bytes)?;
+    println!("write: {length} bytes, first {:02X?}", &bytes[..4]);
+
+    let mut again = [0; 4];
+    let count = gasplan::read(&bytes[..length], &mut again)?;
+    println!("read: {count} numbers {again:?}");
+    Ok(count == again.len() && again == list)
 }
 
-/// The answer with its step and place, or with a count in the first place.
-type Told = (i64, [i64; 6]);
-
-/// A slice is lent as its own pointer and length, so the call is sound.
-fn read(bytes: &[u8], list: &mut [i64]) -> Told {
-    let mut out = [0; 6];
-    let (at, count) = (list.as_mut_ptr(), list.len());
-    let answer =
-        unsafe { gasplan_read(bytes.as_ptr(), bytes.len(), at, count, out.as_mut_ptr(), 6) };
-    (answer, out)
-}
-
-fn write(list: &[i64], bytes: &mut [u8]) -> Told {
-    let mut out = [0; 6];
-    let (at, count) = (bytes.as_mut_ptr(), bytes.len());
-    let answer =
-        unsafe { gasplan_write(list.as_ptr(), list.len(), at, count, out.as_mut_ptr(), 6) };
-    (answer, out)
+/// Numbers before the one that is refused are in the list; the rest of it is as it was.
+fn refusals() -> bool {
+    let (mut list, mut room, mut byte) = ([7; 2], [7; 1], [0xAA; 1]);
+    let answers = [
+        ("bytes end early", gasplan::read(&[0x02, 0x80], &mut list)),
+        ("a last byte 00", gasplan::read(&[2, 0x80, 0], &mut list)),
+        ("one place for two", gasplan::read(&[2, 4], &mut room)),
+        ("one byte for two", gasplan::write(&[-900], &mut byte)),
+    ];
+    for (what, answer) in answers {
+        println!("{what}: {answer:?}");
+    }
+    let numbers = answers.map(|(_, answer)| answer.map_err(|refusal| refusal.number));
+    numbers == [Err(1), Err(2), Err(3), Err(4)] && (list, room, byte) == ([1, 7], [1], [0xAA])
 }
 
 fn main() -> ExitCode {
-    let list = [-900, 64, i64::MIN, i64::MAX];
-    let mut bytes = [0; 40];
-    let (answer, out) = write(&list, &mut bytes);
-    println!(
-        "write: answer {answer}, {} bytes, first {:02X?}",
-        out[0],
-        &bytes[..4]
-    );
-    let length = out[0] as usize;
-
-    let mut again = [0; 4];
-    let (answer, out) = read(&bytes[..length], &mut again);
-    println!("read: answer {answer}, {} numbers {again:?}", out[0]);
-
-    let mut kept = [7; 2];
-    let (answer, out) = read(&[0x02, 0x80], &mut kept);
-    println!(
-        "read bytes that end early: answer {answer}, place {}, list {kept:?}",
-        out[1]
-    );
-
-    let as_said = again == list && (answer, out[1], kept) == (1, 1, [1, 7]);
+    let as_said = there_and_back() == Ok(true) && refusals();
     ExitCode::from(u8::from(!as_said))
 }

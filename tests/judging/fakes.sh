@@ -34,7 +34,7 @@ tools() {
     local tree=$room/tools body tool
     tree "$tree"
     tool=$tree/tools/target/release/gasplan-text
-    mkdir -p "$tree/tools/text/src" "$tree/tools/gasplan/src" "$(dirname "$tool")"
+    mkdir -p "$tree/tools/text/src" "$tree/bindings/gasplan/src" "$(dirname "$tool")"
     for body in 'exit 0' 'exit 3' 'kill -SEGV $$' 'echo refused 31 2 0; rm -r "$2"'; do
         script "$tool" <<<"$body"
         run "a tool for texts with '$body'" env PATH="$room/path" "$tree/judge" "$tree/examples/line"

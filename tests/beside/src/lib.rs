@@ -1,5 +1,5 @@
 //! The proved gas plan library beside the second checker.
-#![deny(unsafe_code)]
+#![forbid(unsafe_code)]
 
 pub mod library;
 pub mod program;

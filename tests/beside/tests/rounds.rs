@@ -3,6 +3,7 @@
 use std::io::{Write, stdout};
 
 use beside::library;
+use gasplan::calls;
 use harness::{Beside, Judge, codec_rounds, document, rounds};
 
 const ROUNDS: u64 = 6_000;
@@ -77,40 +78,40 @@ fn wrong_judges() -> Vec<(&'static str, Judge)> {
     };
     add("read", |judge| {
         judge.read = Some(Box::new(|bytes, list, out| {
-            let answer = library::read(bytes, list, out);
+            let answer = calls::read(bytes, list, out);
             if answer == 0 { 1 } else { answer }
         }));
     });
     add("write", |judge| {
         judge.write = Some(Box::new(|list, bytes, out| {
-            let answer = library::write(list, bytes, out);
+            let answer = calls::write(list, bytes, out);
             bytes.iter_mut().for_each(|byte| *byte = 0);
             answer
         }));
     });
     add("case", |judge| {
         judge.case = Some(Box::new(|case, out| {
-            library::judge_case(case, out);
+            calls::case(case, out);
             0
         }));
     });
     add("plan", |judge| {
         judge.plan = Some(Box::new(|case, plan, out| {
-            let answer = library::judge_plan(case, plan, out);
+            let answer = calls::judge(case, plan, out);
             raise_last_total(answer, out);
             answer
         }));
     });
     add("bytes", |judge| {
         judge.bytes = Some(Box::new(|case, plan, cases, plans, out| {
-            let answer = library::judge_bytes(case, plan, cases, plans, out);
+            let answer = calls::judge_bytes(case, plan, cases, plans, out);
             plans.iter_mut().for_each(|place| *place = 0);
             answer
         }));
     });
     add("ledger", |judge| {
         judge.ledger = Some(Box::new(|case, plan, set, s, t, out| {
-            let answer = library::draw_ledger(case, plan, set, s, t, out);
+            let answer = calls::ledger(case, plan, set, s, t, out);
             raise_last_total(answer, out);
             answer
         }));

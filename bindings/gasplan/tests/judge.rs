@@ -1,15 +1,10 @@
 //! The judging functions, through the wrapper: table T.
 
+mod table_t;
+
 use gasplan::program::{CASE_BYTES, PLAN_BYTES, Verdict, verdict};
 use gasplan::{Refusal, case, judge, judge_bytes, ledger, write_all};
-
-const CASE: [i64; 33] = [
-    1, 2, 1, 0, 1, 0, 0, 60, 1, 50000, 40000, 60000, 45000, 55000, 1100, 2, 49998, 40000, 60000,
-    45000, 55000, -900, 2, 0, 1, 2000, 6, 1000, 1000, 0, 0, 0, 0,
-];
-const PLAN: [i64; 18] = [
-    1, 1, 51000, 1100, 0, 0, 0, 0, 50998, -900, 0, 0, 0, 0, 1100, 900, 0, 0,
-];
+use table_t::{CASE, PLAN};
 
 /// Row 2's plan.
 fn leaking() -> [i64; 18] {

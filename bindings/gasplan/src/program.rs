@@ -1,6 +1,7 @@
 //! The program's verdict on two files: its limits, and then one call of the library.
 
-use std::fmt;
+use alloc::vec;
+use core::fmt;
 
 use crate::{Answer, Totals, judge_bytes};
 
