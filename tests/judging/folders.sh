@@ -20,8 +20,8 @@ verdicts() {
         says_nothing # nothing has changed, so nothing is proved, and text and bytes are the same
     done
     run "no folder named" ./judge
-    ends 0 "$(cat examples/two-nodes/expected.txt)"
-    says 'no folder is named.*examples/two-nodes'
+    ends 2
+    says 'no folder is named'
 
     example line long-case && head -c 200000 /dev/zero >"$room/long-case/case.bin"
     run "a long case" ./judge "$room/long-case"
@@ -106,7 +106,7 @@ streams() {
     says 'no scratch folder can be made'
     run "standard error closed" bash -c './judge examples/incident 2>&-'
     ends 1 "$incident"
-    run "standard error on a full disk" bash -c './judge 2>/dev/full'
+    run "standard error on a full disk" bash -c './judge examples/two-nodes 2>/dev/full'
     ends 0 "$(cat examples/two-nodes/expected.txt)"
 }
 
