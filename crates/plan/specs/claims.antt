@@ -1,5 +1,9 @@
+pub mod Says
+pub mod NodeFacts
+pub mod ArcFacts
+pub mod StationFacts
+pub mod PlanFacts
 pub mod Acceptance
-pub mod Facts
 pub mod Demand3
 pub mod TableT
 pub mod FurtherRows
