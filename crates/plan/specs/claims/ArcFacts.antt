@@ -42,7 +42,7 @@ abbrev pub lastSetting : ℕ → ℕ
 lastSetting kind = cond (eqb kind 0) 1 (cond (leb kind 2) 0 (cond (leb kind 5) 2 4))
 
 -- 24: "Are flows 0..qmax (pipe -qmax..qmax), unused numbers 0 (regulator b; machines of kinds 0 to 4), setting known and, on a one-way arc, not backward, and
--- machines within the arc's set?"
+-- machines within the arc's set?" Settings 2 and 4 are backward; kinds 0 to 2 have neither.
 pub record Rule24 (c : Arc) (x : Artificial) (r : ArcRow) : Type 0 where
   pub a : c .kind ≢ 2 → In (pos 0) (r .a) (c .qmax)
   pub b : c .kind ≢ 2 → c .kind ≢ 1 → In (pos 0) (r .b) (c .qmax)

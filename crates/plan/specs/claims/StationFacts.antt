@@ -28,7 +28,7 @@ use Rattle.case.specs.inside.FieldLaws.{and-first, and-second}
 use Rattle.case.specs.inside.AcceptedCase.{Accepted, on-arcs, off-arcs, direction-disjoint}
 use Rattle.plan.specs.law.PlanRecords.{nodeRow, arcRow, choiceOf, activeIn, directionIn, stateIn}
 use Rattle.plan.specs.law.Pipes.{duration}
-use Rattle.plan.specs.law.StationRules.{oneOf, activeSet, obeyed, choiceKept, onArc, machinesOnce, stationFlow, fenceFlowKept, fenceNodeKept, fenceFlowsKept}
+use Rattle.plan.specs.law.StationRules.{oneOf, activeSet, obeyed, choiceKept, onArc, machinesOnce, stationFlow, fenceNodeKept, fenceKept, fenceFlowsKept}
 use Rattle.plan.specs.law.Balance.{outflow, inflow, netFlow, nodeImbalance, nodeResidual, balanceKept}
 use Rattle.plan.specs.claims.Says.{Says, In, means, then, both, choose, when, all, nth, flag-says, ltb-says, le-says, zero-says, subset-says, disjoint-says, one-says}
 
@@ -125,19 +125,22 @@ pub record FenceFlow (d : Direction) (v : ℕ) (flow : ℤ) : Type 0 where
 abbrev pub Rule32 : List ℤ → List ℤ → ℕ → Type 0
 Rule32 case row s = (v : ℕ) → v < nodesOf case → fenceNode case s v ≡ true → FenceFlow (chosenDirection case row s) v (stationFlow case row s v)
 
-flow-says : (d : Direction) (v : ℕ) (flow : ℤ) → disjointOf (d .entry) (d .exit) ≡ true
-    → Says (fenceFlowKept (memberOf (d .entry) v) (memberOf (d .exit) v) flow) (FenceFlow d v flow)
-flow-says d v flow apart =
-    means (choose (flag-says _) (le-says (pos 0) flow) (choose (flag-says _) (le-says flow (pos 0)) (zero-says flow)))
+-- of one node; an accepted case has no node that is both entry and exit
+fence-says : (case row : List ℤ) (s f v : ℕ) → disjointOf (directionOf case s f .entry) (directionOf case s f .exit) ≡ true
+    → Says (fenceKept case row s f v) (fenceNode case s v ≡ true → FenceFlow (directionOf case s f) v (stationFlow case row s v))
+unfolding fenceNodeKept
+fence-says case row s f v apart =
+    let d = directionOf case s f in
+    when (flag-says _) (means (choose (flag-says _) (le-says _ _) (choose (flag-says _) (le-says _ _) (zero-says _)))
     (λ t. record { entry = t .0; exit = λ x. t .1 (λ e. disjoint-says (d .entry) (d .exit) .fact apart v e x) .0 x; neither = λ e x. t .1 e .1 x })
-    (λ f. (f .entry, λ e. (f .exit, f .neither e)))
+    (λ r. (r .entry, λ e. (r .exit, r .neither e))))
 
 pub rule32-says : (case row : List ℤ) (s : ℕ) → Accepted case → s < stationsOf case → directionIn case row s < stationOf case s .directions
     → Says (fenceFlowsKept case row s) (Rule32 case row s)
-unfolding fenceFlowsKept fenceNodeKept
+unfolding fenceFlowsKept
 rule32-says case row s ok p q =
     let f = directionIn case row s in
-    all (λ v l. when (flag-says _) (flow-says (chosenDirection case row s) v _ (direction-disjoint case ok s f p q)))
+    all (λ v l. fence-says case row s f v (direction-disjoint case ok s f p q))
 
 -- 33: "Is dt × |flow out - flow in - d| ≤ E, over all arcs (a pipe's flow is a at from and b at to, any other arc's a - b at both)?"
 abbrev pub Rule33 : List ℤ → List ℤ → ℕ → ℕ → Type 0
