@@ -1,3 +1,4 @@
+pub mod SaysLaws
 pub mod StationPass
 pub mod StepAnswer
 pub mod Sizes

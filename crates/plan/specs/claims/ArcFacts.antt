@@ -34,7 +34,8 @@ use Rattle.plan.specs.law.Machines.{machineFlow, machineGain}
 use Rattle.plan.specs.law.ArcPressures.{compressionKept, modePressures, settingPressures, pressuresKept}
 use Rattle.plan.specs.law.ArcMachines.{flowAlong, machinesCarry, settingMachines, machinesUsed}
 use Rattle.plan.specs.law.Pipes.{duration, change, pipeImbalance, pipeResidual, pipeMassKept, pressureBalance, pipePressuresKept}
-use Rattle.plan.specs.claims.Says.{Says, In, means, both, pick, choose, always, when, leb-says, eqb-says, le-says, within-says, same-says, zero-says, subset-says}
+use Rattle.plan.specs.claims.Says.{Says, In}
+use Rattle.plan.specs.inside.SaysLaws.{means, both, pick, choose, always, when, leb-says, eqb-says, le-says, within-says, same-says, zero-says, subset-says}
 
 -- "Setting: valve 0 shut, 1 open; kinds 3 to 5: 0 off, 1 forward, 2 backward; combined: 0 off, 1 and 2 regulating forward and backward, 3 and 4 compressing
 -- forward and backward; else 0": a kind's last setting

@@ -19,7 +19,8 @@ use Rattle.plan.specs.law.Compared.{within}
 use Rattle.plan.specs.law.PlanLayout.{stepWidth, stepAt}
 use Rattle.plan.specs.law.PlanHead.{headKept}
 use Rattle.plan.specs.law.NodeRules.{slackLimit, slacksKept, boundaryFlowKept, nodeNumbersKept, demandMet, activeBoundsKept}
-use Rattle.plan.specs.claims.Says.{Says, In, means, both, pick, unless, eqb-says, le-says, within-says, same-says, zero-says}
+use Rattle.plan.specs.claims.Says.{Says, In}
+use Rattle.plan.specs.inside.SaysLaws.{means, both, pick, unless, eqb-says, le-says, within-says, same-says, zero-says}
 
 -- 20: "are the first two numbers 1 and k, and is the length 2 + k × (6N + 4A + 2S)?"
 pub record Rule20 (case plan : List ℤ) : Type 0 where
@@ -53,7 +54,7 @@ flow-says kind d h = go (eqb kind 0) (eqb kind 1) refl refl
   where
     go : (a b : Bool) → eqb kind 0 ≡ a → eqb kind 1 ≡ b
         → Says (boundaryFlowKept kind d) ((kind ≡ 0 → d ≡ pos 0) × (kind ≡ 1 → In (pos 0) d (pos 10000000)) × (kind ≡ 2 → In (negsuc 9999999) d (pos 0)))
-    go true b p q = rw (eqb-true kind 0 p) (means (same-says (pos 0) d) (λ t. omega ints) (λ f. omega (ints, f .0 refl)))
+    go true b p q = rw (eqb-true kind 0 p) (means (zero-says d) (λ t. omega ints) (λ f. omega (ints, f .0 refl)))
     go false true p q = rw (eqb-true kind 1 q) (means (within-says (pos 0) d (pos 10000000)) (λ t. omega ints) (λ f. f .1 refl))
     go false false p q =
         let k : kind ≡ 2 = omega (arith, eqb-false kind 0 p, eqb-false kind 1 q) in

@@ -22,7 +22,7 @@ use Rattle.case.specs.law.Field.{lastOf}
 use Rattle.case.specs.law.Records.{stationOf, directionOf, stateOf}
 use Rattle.case.specs.law.StationFields.{firstItems}
 use Rattle.case.specs.law.StationArcs.{belongs, arcsBefore, stationArcs}
-use Rattle.case.specs.inside.FenceNode.{fenceNode}
+use Rattle.case.specs.law.StationNodes.{fenceNode}
 use Rattle.case.specs.inside.SetLaws.{arc-member}
 use Rattle.case.specs.inside.FieldLaws.{and-first, and-second}
 use Rattle.case.specs.inside.AcceptedCase.{Accepted, on-arcs, off-arcs, direction-disjoint}
@@ -30,7 +30,8 @@ use Rattle.plan.specs.law.PlanRecords.{nodeRow, arcRow, choiceOf, active
 use Rattle.plan.specs.law.Pipes.{duration}
 use Rattle.plan.specs.law.StationRules.{oneOf, activeSet, obeyed, choiceKept, onArc, machinesOnce, stationFlow, fenceNodeKept, fenceKept, fenceFlowsKept}
 use Rattle.plan.specs.law.Balance.{outflow, inflow, netFlow, nodeImbalance, nodeResidual, balanceKept}
-use Rattle.plan.specs.claims.Says.{Says, In, means, then, both, choose, when, all, nth, flag-says, ltb-says, le-says, zero-says, subset-says, disjoint-says, one-says}
+use Rattle.plan.specs.claims.Says.{Says, In}
+use Rattle.plan.specs.inside.SaysLaws.{means, then, both, choose, when, all, nth, flag-says, ltb-says, le-says, zero-says, subset-says, disjoint-says, one-says}
 
 -- the direction and the state that the station has in the step
 abbrev pub chosenDirection : List ℤ → List ℤ → ℕ → Direction
