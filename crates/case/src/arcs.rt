@@ -50,7 +50,10 @@ fn pipe_fields(case: &[i64], row: usize) -> Answer
 fn least_both_ways(kind: usize) -> i64
     ensures { λ r. ⌜ r ≡ leastBothWays kind ⌝ }
 {
-    if kind == 3 { 1 } else { 0 }
+    match kind {
+        3 => 1,
+        _ => 0,
+    }
 }
 
 fn member_fields(case: &[i64], row: usize, kind: usize) -> Answer

@@ -5,7 +5,7 @@ use mathlib.Core.Bool.{Bool, true, false, cond}
 use mathlib.Core.List.{List, _++_}
 use Prim.Native.Nat.{ℕ, _<_, _≤_, _^_}
 use native.Mathlib.Omega.{arith}
-use borrow.Author.Tests.{leb-false}
+use borrow.Author.Tests.{leb-false, eqb-false}
 use lib.Dec.{T, eqb, leb, ltb}
 use lib.IntN.{ℤ, pos, natAbs, _+ℤ_, _-ℤ_, _*ℤ_}
 use lib.ListN.{getD}
@@ -28,12 +28,14 @@ use Rattle.case.specs.law.Layout.{numberAt, nodesOf, machinesAt}
 use Rattle.case.specs.law.Records.{arcOf, pipeOf, artificialOf, machineRow}
 use Rattle.plan.specs.declared.rows.ArcRow.{ArcRow}
 use Rattle.plan.specs.declared.setting.Way.{Way}
-use Rattle.plan.specs.declared.setting.Way.the-variants.{Forward}
-use Rattle.plan.specs.declared.setting.Mode.the-variants.{Open, Compressing}
+use Rattle.plan.specs.declared.setting.Way.the-variants.{Forward, Backward}
+use Rattle.plan.specs.declared.setting.Mode.the-variants.{Open, Regulating, Compressing}
 use Rattle.plan.specs.declared.setting.Setting.{Setting}
 use Rattle.plan.specs.declared.setting.Setting.the-variants.{Unknown, Off, Active}
 use Rattle.plan.specs.law.PlanRecords.{arcRow}
-use Rattle.plan.specs.law.Setting.{settingOf, activeOf, valveOf, homeOf}
+use Rattle.plan.specs.law.Compared.{isZero}
+use Rattle.plan.specs.law.Setting.{settingOf, settingIn, activeOf, valveOf, directed, homeOf}
+use Rattle.plan.specs.law.ArcMachines.{settingMachines, machinesUsed}
 use Rattle.plan.specs.law.Machines.{machineGain, gainPart}
 use Rattle.plan.specs.law.Pipes.{duration, change, pipeImbalance, pressureBalance}
 use Rattle.plan.specs.inside.Sizes.{MachinesSized}
@@ -85,19 +87,44 @@ module _ {case row : List ℤ} {l : List ℕ} {i e : ℕ} (a : AtArc case row l 
     base = node-sized (a .at .accepted) u p i (a .at .step) .p0;
   }
 
--- only arcs of a station compress
-pub compressing-kind : (kind : ℕ) (z : ℤ) (way : Way) → settingOf kind z ≡ Active way Compressing → 3 ≤ kind
-unfolding settingOf activeOf valveOf
-compressing-kind kind z way e = go (leZ (pos 0) z) (eqb (posPart z) 0) (eqb kind 0) (leb kind 2) (eqb (posPart z) 1) _ refl e
+-- only compressors and combined arcs compress
+compressing-five : (kind : ℕ) (z : ℤ) (way : Way) → settingOf kind z ≡ Active way Compressing → 5 ≤ kind
+unfolding settingOf activeOf valveOf directed
+compressing-five kind z way e =
+    go (leZ (pos 0) z) (eqb (posPart z) 0) (eqb kind 0) (leb kind 2) (eqb kind 3) (eqb kind 4) (eqb (posPart z) 1) (eqb (posPart z) 2) _ refl refl refl e
   where
-    go : (a b v d f : Bool) (X : Setting) → leb kind 2 ≡ d
-        → cond a (cond b Off (cond v (cond f (Active Forward Open) Unknown) (cond d Unknown X))) Unknown ≡ Active way Compressing → 3 ≤ kind
-    go true true v d f X h e = let y : _≡_ {A = ℕ} 0 1 = cc in omega arith
-    go true false true d true X h e = let y : _≡_ {A = ℕ} 0 1 = cc in omega arith
-    go true false true d false X h e = let y : _≡_ {A = ℕ} 0 1 = cc in omega arith
-    go true false false true f X h e = let y : _≡_ {A = ℕ} 0 1 = cc in omega arith
-    go true false false false f X h e = omega (arith, leb-false kind 2 h)
-    go false b v d f X h e = let y : _≡_ {A = ℕ} 0 1 = cc in omega arith
+    go : (a b v d s t f g : Bool) (X : Setting) → leb kind 2 ≡ d → eqb kind 3 ≡ s → eqb kind 4 ≡ t
+        → cond a (cond b Off (cond v (cond f (Active Forward Open) Unknown) (cond d Unknown
+        (cond s (cond f (Active Forward Open) (cond g (Active Backward Open) Unknown))
+        (cond t (cond f (Active Forward Regulating) (cond g (Active Backward Regulating) Unknown)) X))))) Unknown ≡ Active way Compressing → 5 ≤ kind
+    go false b v d s t f g X h k l e = let y : _≡_ {A = ℕ} 0 1 = cc in omega arith
+    go true true v d s t f g X h k l e = let y : _≡_ {A = ℕ} 0 1 = cc in omega arith
+    go true false true d s t true g X h k l e = let y : _≡_ {A = ℕ} 0 1 = cc in omega arith
+    go true false true d s t false g X h k l e = let y : _≡_ {A = ℕ} 0 1 = cc in omega arith
+    go true false false true s t f g X h k l e = let y : _≡_ {A = ℕ} 0 1 = cc in omega arith
+    go true false false false true t true g X h k l e = let y : _≡_ {A = ℕ} 0 1 = cc in omega arith
+    go true false false false true t false true X h k l e = let y : _≡_ {A = ℕ} 0 1 = cc in omega arith
+    go true false false false true t false false X h k l e = let y : _≡_ {A = ℕ} 0 1 = cc in omega arith
+    go true false false false false true true g X h k l e = let y : _≡_ {A = ℕ} 0 1 = cc in omega arith
+    go true false false false false true false true X h k l e = let y : _≡_ {A = ℕ} 0 1 = cc in omega arith
+    go true false false false false true false false X h k l e = let y : _≡_ {A = ℕ} 0 1 = cc in omega arith
+    go true false false false false false f g X h k l e = omega (arith, leb-false kind 2 h, eqb-false kind 3 k, eqb-false kind 4 l)
+
+-- they are arcs of a station
+pub compressing-kind : (kind : ℕ) (z : ℤ) (way : Way) → settingOf kind z ≡ Active way Compressing → 3 ≤ kind
+compressing-kind kind z way e = omega (arith, compressing-five kind z way e)
+
+-- 27 of an arc that does not compress
+pub machines-none : (case row : List ℤ) (e : ℕ) → arcOf case e .kind ≤ 4 → machinesUsed case row e ≡ isZero (arcRow case row e .machines)
+unfolding machinesUsed
+machines-none case row e h = go (settingIn case row e) refl
+  where
+    go : (s : Setting) → settingIn case row e ≡ s → settingMachines case row e s ≡ isZero (arcRow case row e .machines)
+    go Unknown k = refl
+    go Off k = refl
+    go (Active way Open) k = refl
+    go (Active way Regulating) k = refl
+    go (Active way Compressing) k = let f : ⊥ = omega (arith, h, compressing-five _ _ way k) in absurd f
 
 -- ---- 28 and 29: the two sides of a pipe
 

@@ -45,13 +45,15 @@ pub(crate) fn end_flows(case: &[i64], row: &[i64], e: usize) -> Ends
     ensures { λ r. ⌜ (r .from ≡ flowAtFrom (now (case .entry)) (now (row .entry)) e) × (r .to ≡ flowAtTo (now (case .entry)) (now (row .entry)) e) ⌝ }
 {
     let r = arc_row(case, row, e);
-    if arc(case, e).kind == 2 {
-        Ends { from: r.a, to: r.b }
-    } else {
-        let flow = r.a - r.b;
-        Ends {
-            from: flow,
-            to: flow,
+    let kind = arc(case, e).kind;
+    match kind {
+        2 => Ends { from: r.a, to: r.b },
+        _ => {
+            let flow = r.a - r.b;
+            Ends {
+                from: flow,
+                to: flow,
+            }
         }
     }
 }

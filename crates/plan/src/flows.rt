@@ -50,10 +50,9 @@ fn flows_kept(c: Arc, r: ArcRow) -> bool
 fn machines_within(kind: usize, own: i64, machines: i64) -> bool
     ensures { λ x. ⌜ x ≡ machinesWithin kind own machines ⌝ }
 {
-    if kind <= 4 {
-        same(machines, 0)
-    } else {
-        both(at_most(0, machines), subset(machines, own))
+    match kind {
+        0 | 1 | 2 | 3 | 4 => same(machines, 0),
+        _ => both(at_most(0, machines), subset(machines, own)),
     }
 }
 
@@ -110,8 +109,9 @@ fn flow_allowed(c: Arc, r: ArcRow) -> bool
 {
     let kind = c.kind;
     match kind {
+        0 => no_flow_against(false, setting_of(kind, r.setting), r),
         1 | 2 => true,
-        _ => no_flow_against(3 <= kind, setting_of(kind, r.setting), r),
+        _ => no_flow_against(true, setting_of(kind, r.setting), r),
     }
 }
 

@@ -96,9 +96,9 @@ pub(crate) fn pipe_answer(case: &[i64], old: &[i64], row: &[i64], i: usize, e: u
     requires { ⌜ AtFlow (now case) (now old) (now row) i e ⌝ }
     ensures { λ r. ⌜ r ≡ firstNo (pipeQuestions (now (case .entry)) (numberAt (now (old .entry))) (now (row .entry)) i e) ⌝ }
 {
-    if arc(case, e).kind == 2 {
-        pipe_kept(case, old, row, i, e)
-    } else {
-        Answer::Yes
+    let kind = arc(case, e).kind;
+    match kind {
+        2 => pipe_kept(case, old, row, i, e),
+        _ => Answer::Yes,
     }
 }

@@ -8,7 +8,7 @@ ghost use Rattle.case.specs.law.Records.{arcOf};
 ghost use Rattle.plan.specs.declared.setting.Mode.the-variants as modes;
 ghost use Rattle.plan.specs.law.Setting.{homeOf, settingIn};
 ghost use Rattle.plan.specs.law.ArcPressures.{outBound, compressionKept, modePressures, settingPressures, pressuresKept};
-ghost use Rattle.plan.specs.law.ArcMachines.{machinesCarry, modeMachines, machinesUsed};
+ghost use Rattle.plan.specs.law.ArcMachines.{machinesCarry, modeMachines, settingMachines, machinesUsed};
 ghost use Rattle.plan.specs.law.ArcRules.{pressureQuestions};
 ghost use Rattle.plan.specs.inside.Sizes.{MachinesSized};
 ghost use Rattle.plan.specs.inside.Preconditions.{AcceptedCase, AtArc, Compresses};
@@ -176,13 +176,18 @@ fn mode_machines(
     }
 }
 
-// 27
-fn machines_used(case: &[i64], row: &[i64], rows: &[usize], i: usize, e: usize) -> bool
-    requires { ⌜ AtArc (now case) (now row) (now rows) i e ⌝ }
-    ensures { λ r. ⌜ r ≡ machinesUsed (now (case .entry)) (now (row .entry)) e ⌝ }
+fn setting_machines(
+    case: &[i64],
+    row: &[i64],
+    rows: &[usize],
+    i: usize,
+    e: usize,
+    setting: Setting,
+) -> bool
+    requires { ⌜ (AtArc (now case) (now row) (now rows) i e) × (setting ≡ settingIn (now case) (now row) e) ⌝ }
+    ensures { λ r. ⌜ r ≡ settingMachines (now (case .entry)) (now (row .entry)) e setting ⌝ }
 {
     let r = arc_row(case, row, e);
-    let setting = setting_of(arc(case, e).kind, r.setting);
     match setting {
         Setting::Unknown => same(r.machines, 0),
         Setting::Off => same(r.machines, 0),
@@ -190,6 +195,19 @@ fn machines_used(case: &[i64], row: &[i64], rows: &[usize], i: usize, e: usize) 
             Way::Forward => mode_machines(case, row, rows, i, e, mode, r.a),
             Way::Backward => mode_machines(case, row, rows, i, e, mode, r.b),
         },
+    }
+}
+
+// 27: only compressors and combined arcs have machines.
+fn machines_used(case: &[i64], row: &[i64], rows: &[usize], i: usize, e: usize) -> bool
+    requires { ⌜ AtArc (now case) (now row) (now rows) i e ⌝ }
+    ensures { λ r. ⌜ r ≡ machinesUsed (now (case .entry)) (now (row .entry)) e ⌝ }
+{
+    let r = arc_row(case, row, e);
+    let kind = arc(case, e).kind;
+    match kind {
+        0 | 1 | 2 | 3 | 4 => same(r.machines, 0),
+        _ => setting_machines(case, row, rows, i, e, setting_of(kind, r.setting)),
     }
 }
 

@@ -30,23 +30,24 @@ arc-requires : tie.Need-arc-requires
 arc-requires c κs = search needs
 
 sub-flow : tie.Need-sub-flow
-sub-flow c = let r = c .before .before .before .before .before in held-fits (a-is r -ʳ b-is r) tt
+sub-flow c = let r = c .before .before .before .before in held-fits (a-is r -ʳ b-is r) tt
 
 returns : tie.Need-returns
 unfolding flowAtFrom flowAtTo
 returns c =
-    let r = c .before .before .before .before in
+    let r = c .before .before .before in
     let s = r .before in
-    let y : isPipe (now (s .args .case)) (s .args .e) ≡ true = eq-eqb _ 2 (sym (ap (λ (x : Arc). x .kind) (c .before .before .before .arc .ensures)) ∙ c .before .if1 .taken) in
+    let k = ap (λ (x : Arc). x .kind) (c .before .before .arc .ensures) in
+    let y : isPipe (now (s .args .case)) (s .args .e) ≡ true = eq-eqb _ 2 (sym k ∙ c .before .match .keys1) in
     rw y (a-is r .val, b-is r .val)
 
 returns-2 : tie.Need-returns-2
 unfolding flowAtFrom flowAtTo
 returns-2 c =
-    let r = c .before .before .before .before .before in
+    let r = c .before .before .before .before in
     let s = r .before in
-    let k = ap (λ (x : Arc). x .kind) (c .before .before .before .before .arc .ensures) in
-    let y : isPipe (now (s .args .case)) (s .args .e) ≡ false = ne-eqb _ 2 (λ q. c .before .before .if1 .left (k ∙ q)) in
+    let k = ap (λ (x : Arc). x .kind) (c .before .before .before .arc .ensures) in
+    let y : isPipe (now (s .args .case)) (s .args .e) ≡ false = ne-eqb _ 2 (λ q. c .before .before .match .rest .1 (k ∙ q)) in
     let d = (held (a-is r -ʳ b-is r) tt) .val in
     rw y (d, d)
 

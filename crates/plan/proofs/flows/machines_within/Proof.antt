@@ -1,5 +1,7 @@
 use mathlib.Core.Path.{_≡_, ap₂, _∙_}
 use mathlib.Core.Bool.{_&&_}
+use Prim.Native.Nat.{_≤_, _<_}
+use native.Mathlib.Omega.{arith}
 use lib.IntN.{pos}
 use mir.Facts.{toZ-ofZ}
 use borrow.Author.Tests.{le-leb, lt-leb}
@@ -24,15 +26,21 @@ both-requires c κs = search needs
 
 returns : tie.Need-returns
 unfolding machinesWithin
-returns c = rw (le-leb _ _ (c .before .if1 .taken)) (simp (toZ-ofZ (c .before .before .fits .machines)) at (c .same .ensures))
+returns c =
+    let s = c .before .before in
+    let k : s .args .kind ≤ 4 = omega arith in
+    rw (le-leb _ _ k) (simp (toZ-ofZ (s .fits .machines)) at (c .same .ensures))
 
 returns-2 : tie.Need-returns-2
 unfolding machinesWithin
 returns-2 c =
     let s = c .before .before .before .before in
-    let w1 : c .before .before .at-most .result ≡ leZ (pos 0) (s .args .machines) = simp (toZ-ofZ (s .fits .machines)) at (c .before .before .at-most .ensures) in
-    let w2 : c .before .subset .result ≡ subsetOf (s .args .machines) (s .args .own) = simp (toZ-ofZ (s .fits .machines), toZ-ofZ (s .fits .own)) at (c .before .subset .ensures) in
-    rw (lt-leb _ _ (c .before .before .before .if1 .left)) (c .both .ensures ∙ ap₂ _&&_ w1 w2)
+    let k : 4 < s .args .kind = c .before .before .before .if1 .left in
+    let w1 : c .before .before .at-most .result ≡ leZ (pos 0) (s .args .machines) =
+    simp (toZ-ofZ (s .fits .machines)) at (c .before .before .at-most .ensures) in
+    let w2 : c .before .subset .result ≡ subsetOf (s .args .machines) (s .args .own) =
+    simp (toZ-ofZ (s .fits .machines), toZ-ofZ (s .fits .own)) at (c .before .subset .ensures) in
+    rw (lt-leb _ _ k) (c .both .ensures ∙ ap₂ _&&_ w1 w2)
 
 pub machines-within-spec : {M : Type 1} → statement M
 machines-within-spec =

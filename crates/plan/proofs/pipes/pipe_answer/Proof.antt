@@ -13,7 +13,7 @@ arc-requires : tie.Need-arc-requires
 arc-requires c κs = search needs
 
 pipe-kept-requires : tie.Need-pipe-kept-requires
-pipe-kept-requires c κs = record { at = c .before .before .before .pre; pipe = sym (ap (λ (x : Arc). x .kind) (c .before .before .arc .ensures)) ∙ c .if1 .taken }
+pipe-kept-requires c κs = record { at = c .before .before .pre; pipe = sym (ap (λ (x : Arc). x .kind) (c .before .arc .ensures)) ∙ c .match .keys1 }
 
 returns : tie.Need-returns
 returns c = search needs
@@ -21,8 +21,9 @@ returns c = search needs
 returns-2 : tie.Need-returns-2
 unfolding pipeQuestions pipeMassKept pipePressuresKept
 returns-2 c =
-    let a = c .before .before in
-    let k : isPipe (now (a .before .args .case)) (a .before .args .e) ≡ false = ne-eqb _ 2 (λ e. c .if1 .left (ap (λ (x : Arc). x .kind) (a .arc .ensures) ∙ e)) in
+    let a = c .before in
+    let n = ap (λ (x : Arc). x .kind) (a .arc .ensures) in
+    let k : isPipe (now (a .before .args .case)) (a .before .args .e) ≡ false = ne-eqb _ 2 (λ e. c .match .rest .1 (n ∙ e)) in
     rw k
 
 pub pipe-answer-spec : {M : Type 1} → statement M

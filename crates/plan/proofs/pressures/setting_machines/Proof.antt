@@ -1,0 +1,107 @@
+use mathlib.Core.Path.{_≡_, sym, ap, _∙_}
+use denote.Ref.{now}
+use mir.Syntax.{w64}
+use mir.Val.{toZ, ofZ}
+use Rattle.numbers.specs.inside.SignedLocals.{kept}
+use Rattle.plan.specs.declared.rows.ArcRow.{ArcRow}
+use Rattle.plan.specs.declared.setting.Setting.the-variants.{Active}
+use Rattle.plan.specs.law.PlanRecords.{arcRow}
+use Rattle.plan.specs.law.ArcMachines.{modeMachines}
+use Rattle.plan.specs.inside.CaseSizes.{counted}
+use Rattle.plan.proofs.ArcLaws.{compressing-kind}
+use borrow.Author.Needs.{needs}
+use Rattle.plan.proofs.pressures.setting_machines.Statement.{statement}
+use Rattle.plan.proofs.pressures.setting_machines.Tie as tie
+
+-- the arc's row of the step
+abbrev row-of : tie.After-arc-row → ArcRow
+row-of a = let s = a .before .before in arcRow (now (s .args .case)) (now (s .args .row)) (s .args .e)
+
+arc-row-requires : tie.Need-arc-row-requires
+arc-row-requires c κs = let a = c .before .pre .0 in (counted (a .at .accepted), a .arc)
+
+enum-told : tie.Need-enum-told
+enum-told c = search needs
+
+same-requires : tie.Need-same-requires
+same-requires c κs = search needs
+
+enum-told-2 : tie.Need-enum-told-2
+enum-told-2 c = search needs
+
+same-requires-2 : tie.Need-same-requires-2
+same-requires-2 c κs = search needs
+
+enum-known-setting : tie.Need-enum-known-setting
+enum-known-setting c = search needs
+
+enum-told-3 : tie.Need-enum-told-3
+enum-told-3 c = search needs
+
+mode-machines-requires : tie.Need-mode-machines-requires
+mode-machines-requires c κs =
+    let t = c .before .before .before .before in
+    let s = t .before .before .before .before in
+    let w = t .setting .given .0 .0 in
+    (s .pre .0, λ m. compressing-kind _ _ w (sym (s .pre .1) ∙ t .setting .given .1 ∙ ap (Active w) m))
+
+enum-told-4 : tie.Need-enum-told-4
+enum-told-4 c = search needs
+
+mode-machines-requires-2 : tie.Need-mode-machines-requires-2
+mode-machines-requires-2 c κs =
+    let t = c .before .before .before .before in
+    let s = t .before .before .before .before in
+    let w = t .setting .given .0 .0 in
+    (s .pre .0, λ m. compressing-kind _ _ w (sym (s .pre .1) ∙ t .setting .given .1 ∙ ap (Active w) m))
+
+returns : tie.Need-returns
+returns c =
+    let a = c .before .before .before .before in
+    let m : toZ w64 (ofZ w64 (a .arc-row .result .machines)) ≡ row-of a .machines =
+    kept _ (c .before .struct-told .given .1 .1 .1 .0 .1) ∙ ap (λ (x : ArcRow). x .machines) (a .arc-row .ensures) in
+    rw (c .before .before .enum-told .given .1) (simp m at (c .same .ensures))
+
+returns-2 : tie.Need-returns-2
+returns-2 c =
+    let a = c .before .before .before .before in
+    let m : toZ w64 (ofZ w64 (a .arc-row .result .machines)) ≡ row-of a .machines =
+    kept _ (c .before .struct-told2 .given .1 .1 .1 .0 .1) ∙ ap (λ (x : ArcRow). x .machines) (a .arc-row .ensures) in
+    rw (c .before .before .enum-told2 .given .1) (simp m at (c .same2 .ensures))
+
+returns-3 : tie.Need-returns-3
+returns-3 c =
+    let t = c .before .before .before .before .before in
+    let a = t .before .before in
+    let s = a .before .before in
+    let f = kept _ (c .before .struct-told3 .given .0 .1) ∙ ap (λ (x : ArcRow). x .a) (a .arc-row .ensures) in
+    rw (t .setting .given .1, c .before .before .enum-told3 .given .1)
+    (c .mode-machines .ensures ∙ ap (modeMachines (now (s .args .case)) (now (s .args .row)) (s .args .e) (t .setting .given .0 .1 .0)) f)
+
+returns-4 : tie.Need-returns-4
+returns-4 c =
+    let t = c .before .before .before .before .before in
+    let a = t .before .before in
+    let s = a .before .before in
+    let f = kept _ (c .before .struct-told4 .given .1 .0 .1) ∙ ap (λ (x : ArcRow). x .b) (a .arc-row .ensures) in
+    rw (t .setting .given .1, c .before .before .enum-told4 .given .1)
+    (c .mode-machines2 .ensures ∙ ap (modeMachines (now (s .args .case)) (now (s .args .row)) (s .args .e) (t .setting .given .0 .1 .0)) f)
+
+pub setting-machines-spec : {M : Type 1} → statement M
+setting-machines-spec =
+    tie.close
+    (tie.spec
+    arc-row-requires
+    enum-told
+    same-requires
+    enum-told-2
+    same-requires-2
+    enum-known-setting
+    enum-told-3
+    mode-machines-requires
+    enum-told-4
+    mode-machines-requires-2
+    returns
+    returns-2
+    returns-3
+    returns-4)
