@@ -20,7 +20,7 @@ use Rattle.case.specs.law.Layout.{arcsOf, stationsOf}
 use Rattle.case.specs.law.Records.{arcOf}
 use Rattle.case.specs.law.StationArcs.{belongs, arcsBefore, arcSet}
 use Rattle.plan.specs.law.PlanRecords.{arcRow, activeIn}
-use Rattle.plan.specs.law.StationRules.{machinesOnce}
+use Rattle.plan.specs.law.StationRules.{activeSet, machinesOnce}
 use Rattle.plan.specs.inside.StationPass.{ownStation, activeBits}
 use Rattle.plan.specs.inside.Preconditions.{AcceptedCase, MachinesKept}
 use Rattle.plan.specs.inside.CaseSizes.{station-in, station-size}
@@ -121,7 +121,7 @@ module _ {case row : List ℤ} {sets counts : List ℕ} {e o : ℕ} (g : ActiveP
 
 -- a set of at most 30 arcs is small
 pub active-bits : {case : List ℤ} (row : List ℤ) (s : ℕ) → AcceptedCase case → s < stationsOf case → activeBits case row s < 2 ^ 30
-unfolding activeBits
+unfolding activeSet
 active-bits {case} row s a p =
     let q : 2 ^ arcsBefore case s (arcsOf case) ≤ 2 ^ 30 = pow-mono (station-size a s p) in
     omega (arith, arcs-lt case s (activeIn case row) (arcsOf case))

@@ -103,7 +103,10 @@ pub(crate) fn artificial(case: &[i64], e: usize) -> Artificial
     }
 }
 
-// The station of an artificial arc, and 8 of any other arc.
+// The number of no station: a case has at most 8, and they count from 0.
+pub(crate) const NO_STATION: usize = 8;
+
+// The station of an artificial arc, and no station of any other arc.
 pub(crate) fn own_station(case: &[i64], e: usize) -> usize
     requires { ⌜ (AcceptedCase (now case)) × (e < arcsOf (now case)) ⌝ }
     ensures { λ r. ⌜ r ≡ ownStation (now (case .entry)) e ⌝ }
@@ -111,6 +114,6 @@ pub(crate) fn own_station(case: &[i64], e: usize) -> usize
     if 3 <= arc(case, e).kind {
         artificial(case, e).station
     } else {
-        8
+        NO_STATION
     }
 }

@@ -12,6 +12,7 @@ ghost use Rattle.plan.specs.law.StationRules.{machinesOnce};
 ghost use Rattle.plan.specs.inside.StationPass.{activeBits, artificialFlow};
 ghost use Rattle.plan.specs.inside.Sizes.{FlowsSized};
 ghost use Rattle.plan.specs.inside.Preconditions.{AcceptedCase, MachinesKept};
+use super::accepted::NO_STATION;
 use super::accepted::arc;
 use super::accepted::own_station;
 use super::balance::moved;
@@ -41,7 +42,7 @@ pub(crate) fn active_sets(case: &[i64], row: &[i64], arcs: usize) -> [usize; 8]
     let mut e: usize = 0;
     while e < arcs {
         let s = own_station(case, e);
-        if s < 8 {
+        if s < NO_STATION {
             let n = counts[s];
             sets[s] = with_active(case, row, sets[s], n, e);
             counts[s] = n + 1;
@@ -61,7 +62,7 @@ pub(crate) fn machines_once(case: &[i64], row: &[i64], arcs: usize) -> [bool; 8]
     let mut e: usize = 0;
     while e < arcs {
         let s = own_station(case, e);
-        if s < 8 {
+        if s < NO_STATION {
             let machines = index(arc_row(case, row, e).machines);
             let had = taken[s];
             if machines & had != 0 {

@@ -4,30 +4,31 @@ use mathlib.Core.Path.{_≡_}
 use mathlib.Core.Bool.{cond}
 use mathlib.Core.List.{List}
 use Prim.Native.Nat.{ℕ}
-use lib.Dec.{eqb, leb}
-use lib.IntN.{ℤ, pos, _-ℤ_}
+use lib.Dec.{leb}
+use lib.IntN.{ℤ, pos}
 use lib.ListN.{length}
+use Rattle.numbers.specs.law.Signed.{posPart}
 use Rattle.numbers.specs.law.Sums.{sum, only}
 use Rattle.case.specs.law.Layout.{nodesOf, arcsOf}
 use Rattle.case.specs.law.Records.{arcOf, artificialOf}
-use Rattle.case.specs.law.StationArcs.{arcSet}
 use Rattle.case.specs.law.LayoutOf.{Holds}
-use Rattle.plan.specs.law.PlanRecords.{arcRow, activeIn}
+use Rattle.plan.specs.law.StationRules.{activeSet, takenBy}
 
--- the station of an artificial arc; 8, the number of none, of any other arc
+-- the number of no station: a case has at most 8, and they count from 0
+abbrev pub noStation : ℕ
+noStation = 8
+
+-- the station of an artificial arc, and no station of any other arc
 unfoldable pub ownStation : List ℤ → ℕ → ℕ
-ownStation case e = cond (leb 3 (arcOf case e .kind)) (artificialOf case e .station) 8
+ownStation case e = cond (leb 3 (arcOf case e .kind)) (artificialOf case e .station) noStation
 
--- the station's arcs that are active in the step
-unfoldable pub activeBits : List ℤ → List ℤ → ℕ → ℕ
-activeBits case row s = arcSet case s (activeIn case row) (arcsOf case)
+-- the station's active arcs, as the pass gathers them: a number without a sign
+abbrev pub activeBits : List ℤ → List ℤ → ℕ → ℕ
+activeBits case row s = posPart (activeSet case row s)
 
 -- what arc e takes from node v, if the arc is artificial
 unfoldable pub artificialPart : List ℤ → List ℤ → ℕ → ℕ → ℤ
-artificialPart case row v e =
-    only (leb 3 (arcOf case e .kind))
-    (only (eqb (arcOf case e .from) v) (arcRow case row e .a -ℤ arcRow case row e .b)
-    -ℤ only (eqb (arcOf case e .to) v) (arcRow case row e .a -ℤ arcRow case row e .b))
+artificialPart case row v e = only (leb 3 (arcOf case e .kind)) (takenBy case row v e)
 
 unfoldable pub artificialFlow : List ℤ → List ℤ → ℕ → ℤ
 artificialFlow case row v = sum (arcsOf case) (artificialPart case row v)

@@ -58,12 +58,14 @@ machinesOnce case row s = every (stationOf case s .machines) (machineOnce case r
 -- ---- 32: "Net flow from each fence node into the station's artificial arcs: at or above 0 for the direction's entry nodes, at or below 0 for its exit nodes,
 -- exactly 0 for fence nodes in neither set?"
 
--- what arc e takes from node v, if the arc is the station's
+-- what arc e takes from node v, where it is no pipe
+abbrev pub takenBy : List ℤ → List ℤ → ℕ → ℕ → ℤ
+takenBy case row v e =
+    only (eqb (arcOf case e .from) v) (arcRow case row e .a -ℤ arcRow case row e .b)
+    -ℤ only (eqb (arcOf case e .to) v) (arcRow case row e .a -ℤ arcRow case row e .b)
+
 unfoldable pub stationPart : List ℤ → List ℤ → ℕ → ℕ → ℕ → ℤ
-stationPart case row s v e =
-    only (belongs case s e)
-    (only (eqb (arcOf case e .from) v) (arcRow case row e .a -ℤ arcRow case row e .b)
-    -ℤ only (eqb (arcOf case e .to) v) (arcRow case row e .a -ℤ arcRow case row e .b))
+stationPart case row s v e = only (belongs case s e) (takenBy case row v e)
 
 unfoldable pub stationFlow : List ℤ → List ℤ → ℕ → ℕ → ℤ
 stationFlow case row s v = sum (arcsOf case) (stationPart case row s v)

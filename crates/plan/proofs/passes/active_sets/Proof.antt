@@ -6,7 +6,7 @@ use denote.Ref.{now}
 use Rattle.case.specs.law.Layout.{arcsOf}
 use Rattle.case.specs.law.StationArcs.{arcSet}
 use Rattle.plan.specs.law.PlanRecords.{activeIn}
-use Rattle.plan.specs.inside.StationPass.{activeBits}
+use Rattle.plan.specs.law.StationRules.{activeSet}
 use Rattle.plan.specs.inside.CaseSizes.{counted}
 use Rattle.plan.proofs.StationPasses.{ActivePass, active-none, active-same, active-more, active-few, active-small}
 use Rattle.plan.proofs.passes.active_sets.Statement.{statement}
@@ -89,7 +89,7 @@ loop-again c =
     )
 
 returns : tie.Need-returns Inv-loop μ-loop
-unfolding activeBits
+unfolding activeSet
 returns c =
     let h = c .before in
     let s = h .before in

@@ -74,7 +74,7 @@ state-obeyed-requires : tie.Need-state-obeyed-requires
 state-obeyed-requires c κs = search needs
 
 returns : tie.Need-returns
-unfolding choiceKept activeSet activeBits
+unfolding choiceKept activeSet
 returns c =
     let j = c .before in
     let i = j .before .before in
