@@ -4,11 +4,14 @@
 //! read and written by the proved library alone.
 #![forbid(unsafe_code)]
 
+mod cursor;
 pub mod files;
 pub mod layout;
 pub mod model;
 pub mod parse;
+pub mod replace;
+pub mod terminal;
 pub mod words;
 pub mod write;
 
-pub use parse::{Error, parse};
+pub use parse::{Error, parse, parse_as};

@@ -1,7 +1,8 @@
 //! Text into a list.
 
-use std::fmt;
-
+pub use crate::cursor::Error;
+use crate::cursor::{Cursor, Line, lines};
+use crate::files::File;
 use crate::layout::{CaseLayout, Counts, Field, Form, Layout, NoParts, PlanLayout};
 use crate::words::words;
 
@@ -13,42 +14,41 @@ pub const LEFT_OVER: &str = "left-over";
 /// Sets hold the items 0 to 62, the bits of a number that is not negative.
 const LAST_ITEM: i64 = 62;
 
-/// Where a text is wrong, what was expected there and what was found. Both count from 1.
-#[derive(Clone, Debug, PartialEq, Eq)]
-pub struct Error {
-    pub line: usize,
-    pub column: usize,
-    pub expected: String,
-    pub found: String,
-}
-
-impl fmt::Display for Error {
-    fn fmt(&self, f: &mut fmt::Formatter<'_>) -> fmt::Result {
-        let Error {
-            line,
-            column,
-            expected,
-            found,
-        } = self;
-        write!(
-            f,
-            "line {line}, column {column}: expected {expected}, found {found}"
-        )
-    }
-}
+/// What the first word of a text may be.
+const ANY: [&str; 3] = ["case", "plan", "numbers"];
 
 /// Gives the list that a text stands for.
 pub fn parse(text: &str) -> Result<Vec<i64>, Error> {
+    read(text, &ANY)
+}
+
+/// Gives the list of a text that has to be a case or a plan, or numbers without names.
+pub fn parse_as(file: File, text: &str) -> Result<Vec<i64>, Error> {
+    read(text, &[file.name(), "numbers"])
+}
+
+fn read(text: &str, first_words: &[&str]) -> Result<Vec<i64>, Error> {
+    // Some editors put a mark before the first word, which is not seen.
+    let text = text.strip_prefix('\u{feff}').unwrap_or(text);
     let lines = lines(text);
     let end = text.lines().count() + 1;
     let Some((first, rest)) = lines.split_first() else {
-        return Err(ended(end, "`case`, `plan` or `numbers`"));
+        return Err(ended(end, &one_of(first_words)));
     };
-    let mut reader = Reader::of(first)?;
+    let mut reader = Reader::of(first, first_words)?;
     for line in rest {
         reader.take(line)?;
     }
     reader.finish(end)
+}
+
+/// As `case`, `plan` or `numbers`.
+fn one_of(words: &[&str]) -> String {
+    let quoted: Vec<String> = words.iter().map(|word| format!("`{word}`")).collect();
+    match quoted.split_last() {
+        Some((last, before)) => format!("{} or {last}", before.join(", ")),
+        None => String::new(),
+    }
 }
 
 /// The number that a text gives for one field: a number, a word or a set.
@@ -58,124 +58,6 @@ pub fn value(due: &Field, text: &str) -> Result<i64, Error> {
     let number = value_of(&mut cursor, due)?;
     cursor.end()?;
     Ok(number)
-}
-
-/// One line that holds more than a comment.
-struct Line<'a> {
-    number: usize,
-    tokens: Vec<Token<'a>>,
-    /// The column past its last token.
-    end: usize,
-}
-
-#[derive(Clone, Copy)]
-struct Token<'a> {
-    column: usize,
-    text: &'a str,
-}
-
-impl Line<'_> {
-    fn of(number: usize, text: &str) -> Line<'_> {
-        Line {
-            number,
-            tokens: tokens(text),
-            end: code_of(text).trim_end().chars().count() + 1,
-        }
-    }
-}
-
-fn lines(text: &str) -> Vec<Line<'_>> {
-    text.lines()
-        .enumerate()
-        .map(|(at, line)| Line::of(at + 1, line))
-        .filter(|line| !line.tokens.is_empty())
-        .collect()
-}
-
-/// What stands before the comment.
-fn code_of(line: &str) -> &str {
-    line.split('#').next().unwrap_or("")
-}
-
-/// Words, and the signs of a set each by itself.
-fn tokens(line: &str) -> Vec<Token<'_>> {
-    let code = code_of(line);
-    let is_sign = |sign: char| matches!(sign, '{' | '}' | ',');
-    let mut found = Vec::new();
-    let mut start = None;
-    for (column, (at, sign)) in code.char_indices().enumerate() {
-        let ends = sign.is_whitespace() || is_sign(sign);
-        if let (Some((column, from)), true) = (start, ends) {
-            let text = &code[from..at];
-            found.push(Token { column, text });
-            start = None;
-        }
-        if is_sign(sign) {
-            let text = &code[at..at + sign.len_utf8()];
-            let column = column + 1;
-            found.push(Token { column, text });
-        } else if !ends && start.is_none() {
-            start = Some((column + 1, at));
-        }
-    }
-    if let Some((column, from)) = start {
-        let text = &code[from..];
-        found.push(Token { column, text });
-    }
-    found
-}
-
-/// A line's tokens, one after the other.
-struct Cursor<'a> {
-    line: &'a Line<'a>,
-    at: usize,
-}
-
-impl<'a> Cursor<'a> {
-    fn new(line: &'a Line<'a>) -> Self {
-        Cursor { line, at: 0 }
-    }
-
-    fn peek(&self) -> Option<Token<'a>> {
-        self.line.tokens.get(self.at).copied()
-    }
-
-    fn next(&mut self) -> Option<Token<'a>> {
-        let token = self.peek();
-        self.at += 1;
-        token
-    }
-
-    /// An error at the token that comes.
-    fn wrong(&self, expected: impl Into<String>) -> Error {
-        let (column, found) = match self.peek() {
-            Some(token) => (token.column, format!("`{}`", token.text)),
-            None => (self.line.end, "the end of the line".to_string()),
-        };
-        Error {
-            line: self.line.number,
-            column,
-            expected: expected.into(),
-            found,
-        }
-    }
-
-    fn word(&mut self, word: &str) -> Result<(), Error> {
-        match self.peek() {
-            Some(token) if token.text == word => {
-                self.at += 1;
-                Ok(())
-            }
-            _ => Err(self.wrong(format!("`{word}`"))),
-        }
-    }
-
-    fn end(&self) -> Result<(), Error> {
-        match self.peek() {
-            None => Ok(()),
-            Some(_) => Err(self.wrong("the end of the line or a comment")),
-        }
-    }
 }
 
 fn ended(line: usize, expected: &str) -> Error {
@@ -225,10 +107,12 @@ struct Reader {
 
 impl Reader {
     /// By the first line, which says what the text holds.
-    fn of(line: &Line) -> Result<Reader, Error> {
+    fn of(line: &Line, first_words: &[&str]) -> Result<Reader, Error> {
         let mut cursor = Cursor::new(line);
-        let wrong = cursor.wrong("`case`, `plan` or `numbers`");
-        let (layout, place): (Box<dyn Layout>, Place) = match cursor.next().map(|it| it.text) {
+        let wrong = cursor.wrong(one_of(first_words));
+        let first = cursor.next().map(|it| it.text);
+        let first = first.filter(|word| first_words.contains(word));
+        let (layout, place): (Box<dyn Layout>, Place) = match first {
             Some("case") => (Box::<CaseLayout>::default(), Place::Fields),
             Some("plan") => {
                 let counts = counts(&mut cursor)?;

@@ -1,8 +1,9 @@
 //! The command itself: what it prints and how it ends.
 
 use std::fs;
+use std::io;
 use std::path::Path;
-use std::process::{Command, Output};
+use std::process::{Command, Output, Stdio};
 
 fn run(words: &[&str]) -> Output {
     let mut command = Command::new(env!("CARGO_BIN_EXE_gasplan-text"));
@@ -101,4 +102,37 @@ fn other_words_get_the_usage() {
         assert_eq!(done.status.code(), Some(2));
         assert!(String::from_utf8_lossy(&done.stderr).starts_with("usage: gasplan-text"));
     }
+}
+
+#[test]
+fn help_is_an_answer() {
+    for words in [&["-h"][..], &["--help"], &["to-bin", "--help"]] {
+        let done = run(words);
+        assert_eq!(done.status.code(), Some(0), "{words:?}");
+        assert!(String::from_utf8_lossy(&done.stdout).starts_with("usage: gasplan-text"));
+        assert!(done.stderr.is_empty());
+    }
+}
+
+/// The status and the error of a command that cannot write.
+fn writing_to(stdout: impl Into<Stdio>) -> (Option<i32>, String) {
+    let mut command = Command::new(env!("CARGO_BIN_EXE_gasplan-text"));
+    command.args(["to-text", "case", &example("day/case.bin")]);
+    let done = command.stdout(stdout).stderr(Stdio::piped()).output();
+    let done = done.expect("the command runs");
+    let said = String::from_utf8_lossy(&done.stderr).into_owned();
+    (done.status.code(), said)
+}
+
+#[test]
+fn output_that_cannot_be_written_is_an_error() {
+    let full = fs::File::options().write(true).open("/dev/full").unwrap();
+    let (status, said) = writing_to(full);
+    assert_eq!(status, Some(2), "{said}");
+    assert!(said.starts_with("standard output: No space left"), "{said}");
+    let (reader, writer) = io::pipe().unwrap();
+    drop(reader);
+    let (status, said) = writing_to(writer);
+    assert_eq!(status, Some(2), "{said}");
+    assert!(said.starts_with("standard output: Broken pipe"), "{said}");
 }

@@ -149,7 +149,10 @@ fn a_difference_is_named() {
     fs::write(folder.join("case.bin"), [2, 4]).unwrap();
     fs::write(folder.join("case.txt"), "numbers\n1\n3\n").unwrap();
     let error = files::check(&folder).unwrap_err();
-    assert!(error.ends_with("number 1 is 2, the text says 3"), "{error}");
+    assert!(
+        error.ends_with("case.bin: number 1 (nodes) is 2 in the bytes and 3 in the text"),
+        "{error}"
+    );
     fs::write(folder.join("case.bin"), [2, 0x80]).unwrap();
     let error = files::check(&folder).unwrap_err();
     assert!(
