@@ -1,14 +1,16 @@
 //! The whole answer to a request: text, and a picture where one is asked for.
 
-use gasplan::program::{self, Verdict};
-use gasplan::{Refusal, Totals, read_all};
-use gasplan_text::model::{Case, Plan};
+use gasplan::{Refusal, Totals};
+use gasplan_text::model::Plan;
 
 use crate::balance::{self, Balance};
-use crate::explanation::{Explanation, Input, Region, explain_refusal};
-use crate::report;
+use crate::explanation::{Explanation, Region, explain};
+use crate::input::{Input, Lists};
+use crate::margins::margins;
+use crate::noes::noes;
 use crate::request::{Request, all_nodes};
 use crate::svg::{Subject, picture};
+use crate::{limits, listing, report};
 
 pub struct Answer {
     pub text: String,
@@ -17,70 +19,97 @@ pub struct Answer {
     pub accepted: bool,
 }
 
-/// The two lists, as far as they can be read.
-struct Lists {
-    case_list: Vec<i64>,
-    plan_list: Vec<i64>,
-    /// None where the case is not whole.
-    case: Option<Case>,
+/// Is the step to be shown one of the case's? Nothing is asked where the case is not whole: no step is shown then.
+pub fn check_step(input: &Input, request: &Request) -> Result<(), String> {
+    let steps = input.lists().case.map(|case| case.steps());
+    match (request.step, steps) {
+        (Some(step), Some(last)) if step > last => {
+            Err(format!("--step {step}: the case has the steps 1 to {last}"))
+        }
+        _ => Ok(()),
+    }
 }
 
 pub fn answer(input: &Input, request: &Request) -> Answer {
-    let verdict = program::verdict(&input.case_bytes, &input.plan_bytes);
-    let case_list = read_all(&input.case_bytes).unwrap_or_default();
-    let lists = Lists {
-        case: Case::of(&case_list),
-        case_list,
-        plan_list: read_all(&input.plan_bytes).unwrap_or_default(),
+    let lists = input.lists();
+    let verdict = input.verdict();
+    let note = limits::note(input, &verdict).map_or(String::new(), |note| note + "\n");
+    let told = match &verdict {
+        Ok(totals) => accepted(totals, &note, &lists, input, request),
+        Err(refusal) => refused(input, &lists, *refusal, &note, None),
     };
-    let mut told = match verdict {
-        Verdict::Judged(Ok(totals)) => accepted(&totals, &lists, input, request),
-        Verdict::Judged(Err(refusal)) => refused(input, refusal, None),
-        Verdict::TooLong => Told {
-            text: format!("{verdict}\n{}", report::too_long()),
-            explanation: None,
-            accepted: false,
-        },
-    };
-    told.text.push_str(&format!("{}\n", report::NOT_PROVED));
     let wanted = request.svg.is_some();
+    let more = more(&told, &lists, input, request);
     Answer {
         picture: wanted.then(|| draw(&told, &lists, request)),
-        text: told.text,
+        text: format!("{}{more}{}\n", told.text, report::NOT_PROVED),
         accepted: told.accepted,
     }
+}
+
+/// Lists that are asked for beside the verdict.
+fn more(told: &Told, lists: &Lists, input: &Input, request: &Request) -> String {
+    let mut text = String::new();
+    let region = region_of(lists, request);
+    if request.all {
+        let verdict = told.explanation.as_ref().map(|it| it.refusal);
+        text.push_str(&listing::noes(&noes(input, region), verdict));
+    }
+    if request.margins {
+        let plan = lists.case.as_ref().filter(|_| told.accepted_plan);
+        let plan = plan.map(|case| Plan::new(case, &lists.plan_list));
+        text.push_str(&match plan {
+            Some(plan) => listing::margins(&plan, &margins(&plan)),
+            None => "No margins: they are those of an accepted plan.\n".to_string(),
+        });
+    }
+    text
+}
+
+fn region_of(lists: &Lists, request: &Request) -> Option<Region> {
+    let words = request.ledger.as_ref()?;
+    Some(words.region(lists.case.as_ref()?.nodes.len()))
 }
 
 struct Told {
     text: String,
     explanation: Option<Explanation>,
     accepted: bool,
+    /// Was the plan accepted, whatever became of the ledger?
+    accepted_plan: bool,
 }
 
-fn refused(input: &Input, refusal: Refusal, region: Option<Region>) -> Told {
-    let explanation = explain_refusal(input, refusal, region);
+fn refused(
+    input: &Input,
+    lists: &Lists,
+    refusal: Refusal,
+    note: &str,
+    region: Option<Region>,
+) -> Told {
+    let explanation = explain(input, lists, refusal, region);
     Told {
-        text: format!("{refusal}\n{}", report::refused(&explanation)),
+        text: format!("{refusal}\n{note}{}", report::refused(&explanation)),
         explanation: Some(explanation),
         accepted: false,
+        accepted_plan: false,
     }
 }
 
-fn accepted(totals: &Totals, lists: &Lists, input: &Input, request: &Request) -> Told {
+fn accepted(totals: &Totals, note: &str, lists: &Lists, input: &Input, request: &Request) -> Told {
     let mut told = Told {
-        text: format!("{totals}\n{}", report::totals(totals)),
+        text: format!("{totals}\n{note}{}", report::totals(totals)),
         explanation: None,
         accepted: true,
+        accepted_plan: true,
     };
-    let (Some(words), Some(case)) = (&request.ledger, &lists.case) else {
+    let (Some(region), Some(case)) = (region_of(lists, request), &lists.case) else {
         return told;
     };
-    let region = words.region(case.nodes.len());
     let Region { set, s, t } = region;
     match gasplan::ledger(&lists.case_list, &lists.plan_list, set, s, t) {
         Ok(ledger) => told.text.push_str(&report::ledger(case, region, &ledger)),
         Err(refusal) => {
-            let refused = refused(input, refusal, Some(region));
+            let refused = refused(input, lists, refusal, "", Some(region));
             told.text.push_str(&refused.text);
             told.explanation = refused.explanation;
             told.accepted = false;
@@ -101,7 +130,7 @@ fn draw(told: &Told, lists: &Lists, request: &Request) -> String {
     let balance = plan.and_then(|plan| region_balance(plan, lists, request, number));
     let step = told.explanation.as_ref().map_or(0, |it| it.refusal.step);
     let shown = |plan: &Plan| match (request.step, step) {
-        (Some(step), _) => step.clamp(1, plan.case.steps()),
+        (Some(step), _) => step.min(plan.case.steps()),
         (None, 0) => plan.case.steps(),
         (None, step) => step,
     };
@@ -114,8 +143,7 @@ fn draw(told: &Told, lists: &Lists, request: &Request) -> String {
             plan.case.span_words(step)
         )
     });
-    let kept = words.iter().filter(|line| **line != report::NOT_PROVED);
-    let kept = kept.map(|line| line.trim().to_string());
+    let kept = words.iter().map(|line| line.trim().to_string());
     picture(&Subject {
         verdict: verdict.to_string(),
         words: kept.chain(step_words).collect(),

@@ -1,11 +1,13 @@
-//! The questions 24 to 29 of an arc in a step.
+//! The questions 24 to 27 of an arc in a step.
 
 use gasplan_text::model::{
     Arc, COMBINED, Machine, PIPE, Plan, REGULATING, REGULATOR, SHORTCUT, VALVE,
 };
 use gasplan_text::words;
 
-use crate::check::{Check, check, plus, subset, wide, within, zero};
+use crate::amount::{Amount, FLOW, MACHINE, MBAR};
+use crate::bound::Bound;
+use crate::check::{Check, at_least, at_most, check, same, subset, sum, wide, within, zero};
 
 /// What an arc does with the pressures of its ends.
 #[derive(Clone, Copy, PartialEq, Eq)]
@@ -17,13 +19,26 @@ pub enum Mode {
     Raising,
 }
 
-pub fn mode(kind: i64, setting: i64) -> Mode {
+/// None where the setting is unknown and says what the arc does.
+pub fn mode(kind: i64, setting: i64) -> Option<Mode> {
     match (kind, setting) {
-        (REGULATOR, _) => Mode::Falling,
-        (PIPE, _) | (_, 0) => Mode::Nothing,
-        (VALVE | SHORTCUT, _) => Mode::Equal,
-        (REGULATING, _) | (COMBINED, 1 | 2) => Mode::Falling,
-        _ => Mode::Raising,
+        (REGULATOR, _) => Some(Mode::Falling),
+        (PIPE, _) => Some(Mode::Nothing),
+        (_, setting) if !(0..=most_setting(kind)).contains(&setting) => None,
+        (_, 0) => Some(Mode::Nothing),
+        (VALVE | SHORTCUT, _) => Some(Mode::Equal),
+        (REGULATING, _) | (COMBINED, 1 | 2) => Some(Mode::Falling),
+        _ => Some(Mode::Raising),
+    }
+}
+
+/// Settings of a kind go from 0 to this.
+fn most_setting(kind: i64) -> i64 {
+    match kind {
+        VALVE => 1,
+        REGULATOR | PIPE => 0,
+        COMBINED => 4,
+        _ => 2,
     }
 }
 
@@ -44,20 +59,25 @@ pub fn rule_24(plan: &Plan, step: usize, index: usize) -> Vec<Check> {
     let arc = &plan.case.arcs[index];
     let row = plan.arc(step, index);
     let least = if arc.is_pipe() { -arc.qmax } else { 0 };
-    let mut checks = vec![
-        within("a", row.a, least, arc.qmax),
-        within("b", row.b, least, arc.qmax),
-    ];
+    let flow = |name, number: i64| {
+        let within = within(name, number, least, arc.qmax, Some(FLOW));
+        match arc.qmax {
+            // Nothing to choose.
+            0 => within,
+            qmax => within.margin_above(Bound::Flow, qmax.saturating_sub(number.saturating_abs())),
+        }
+    };
+    let mut checks = vec![flow("a", row.a), flow("b", row.b)];
     if arc.kind == REGULATOR {
         checks.push(zero("b", row.b, "a regulator passes gas forward alone"));
     }
-    let most = match arc.kind {
-        VALVE => 1,
-        REGULATOR | PIPE => 0,
-        COMBINED => 4,
-        _ => 2,
-    };
-    checks.push(within("setting", row.setting, 0, most));
+    checks.push(within(
+        "setting",
+        row.setting,
+        0,
+        most_setting(arc.kind),
+        None,
+    ));
     if arc.station().is_some() && !arc.both_ways() {
         let text = format!("setting = {}, backward on a one-way arc", row.setting);
         checks.push(check(!backward(arc, row.setting), text));
@@ -74,6 +94,7 @@ pub fn rule_24(plan: &Plan, step: usize, index: usize) -> Vec<Check> {
     checks
 }
 
+/// Asked where the setting is known.
 pub fn rule_25(plan: &Plan, step: usize, index: usize) -> Vec<Check> {
     let arc = &plan.case.arcs[index];
     let row = plan.arc(step, index);
@@ -82,6 +103,7 @@ pub fn rule_25(plan: &Plan, step: usize, index: usize) -> Vec<Check> {
     let (a, b) = (zero("a", row.a, &why), zero("b", row.b, &why));
     let none = matches!(arc.kind, REGULATOR | PIPE);
     match (row.setting, arc.station()) {
+        _ if mode(arc.kind, row.setting).is_none() => Vec::new(),
         (0, _) if !none => vec![a, b],
         (_, None) => Vec::new(),
         _ if backward(arc, row.setting) => vec![a],
@@ -89,37 +111,43 @@ pub fn rule_25(plan: &Plan, step: usize, index: usize) -> Vec<Check> {
     }
 }
 
-/// The machines that an arc's row names.
-fn machines(plan: &Plan, step: usize, index: usize) -> Vec<Machine> {
+/// The machines that an arc's row names; none where the number is no set.
+fn machines(plan: &Plan, step: usize, index: usize) -> Option<Vec<Machine>> {
     let station = plan.case.arcs[index].station().unwrap_or(usize::MAX);
     let all = plan.case.stations.get(station).map(|it| &it.machines);
-    words::items(plan.arc(step, index).machines)
-        .into_iter()
-        .filter_map(|machine| all?.get(machine).copied())
-        .collect()
+    let named = plan.arc(step, index).machines;
+    let machine = |item: usize| all?.get(item).copied();
+    (named >= 0).then(|| {
+        words::items(named)
+            .into_iter()
+            .filter_map(machine)
+            .collect()
+    })
 }
 
+/// Asked where the setting is known.
 pub fn rule_26(plan: &Plan, step: usize, index: usize) -> Vec<Check> {
     let arc = &plan.case.arcs[index];
     let setting = plan.arc(step, index).setting;
     let (in_end, out_end) = ends(arc, setting);
     let (p_in, p_out) = (plan.pressure(step, in_end), plan.pressure(step, out_end));
-    let side = |is| format!("p at node {in_end} = {p_in}, {is} p at node {out_end} = {p_out}");
+    let words = |node: usize, p: i64| format!("p at node {node} = {p}");
+    let (at_in, at_out) = (words(in_end, p_in), words(out_end, p_out));
+    let (in_side, out_side) = ((at_in.as_str(), wide(p_in)), (at_out.as_str(), wide(p_out)));
     match mode(arc.kind, setting) {
-        Mode::Nothing => Vec::new(),
-        Mode::Equal => vec![check(
-            p_in == p_out,
-            side("not") + " (gas passes freely, so they are to be equal)",
-        )],
-        Mode::Falling => vec![check(
-            p_in >= p_out,
-            side("below") + " (pressure cannot rise here)",
-        )],
-        Mode::Raising => {
-            let mut checks = vec![check(
-                p_in <= p_out,
-                side("above") + " (a compressing arc cannot lower it)",
-            )];
+        None | Some(Mode::Nothing) => Vec::new(),
+        Some(Mode::Equal) => {
+            let why = "gas passes freely, so they are to be equal";
+            vec![same(in_side, out_side, MBAR).because(why)]
+        }
+        Some(Mode::Falling) => {
+            let falls = at_least(in_side, out_side, MBAR).because("pressure cannot rise here");
+            vec![falls.margin(Bound::Falling)]
+        }
+        Some(Mode::Raising) => {
+            let why = "a compressing arc cannot lower it";
+            let rises = at_least(out_side, in_side, MBAR).because(why);
+            let mut checks = vec![rises.margin(Bound::Rising)];
             checks.extend(reach(plan, step, index, in_end, out_end));
             checks
         }
@@ -129,131 +157,72 @@ pub fn rule_26(plan: &Plan, step: usize, index: usize) -> Vec<Check> {
 /// How far a compressing arc can raise the pressure.
 fn reach(plan: &Plan, step: usize, index: usize, in_end: usize, out_end: usize) -> Vec<Check> {
     let p_out = plan.pressure(step, out_end);
-    let bound = plan.case.arcs[index].out_bound();
-    let machines = machines(plan, step, index);
+    let side = format!("p at the out end, node {out_end}, = {p_out}");
+    let side = (side.as_str(), wide(p_out));
+    let most = plan.case.arcs[index].out_bound();
+    let bound = format!("the out bound {most}");
+    let bounded = at_most(side, (&bound, wide(most)), MBAR);
+    let mut checks = vec![bounded.margin(Bound::OutBound)];
+    let Some(machines) = machines(plan, step, index) else {
+        return checks;
+    };
     let gains: Vec<i64> = machines
         .iter()
         .map(|machine| machine.ratio - 1_000)
         .collect();
     let p0 = plan.case.nodes[in_end].p0;
-    let left = 1_000 * wide(p_out);
-    let right = wide(p0) * (1_000 + gains.iter().map(|&gain| wide(gain)).sum::<i128>());
-    let gains = plus(&gains);
-    vec![
-        check(
-            p_out <= bound,
-            format!("p at the out end, node {out_end}, = {p_out}, above the out bound {bound}"),
+    // 1,000 × out ≤ p0 × .. holds of whole numbers exactly if out is at most the quotient, rounded down.
+    let most = wide(p0) * (1_000 + gains.iter().map(|&gain| wide(gain)).sum::<i128>()) / 1_000;
+    let bound = format!("the {most} that its machines reach");
+    let texts: Vec<String> = gains.iter().map(|gain| format!(" + {gain}")).collect();
+    let why = match gains.is_empty() {
+        true => format!("p0 of the in end, node {in_end}: no machine is on"),
+        false => format!(
+            "{p0}, p0 of the in end, node {in_end}, × (1000{}) / 1000",
+            texts.join("")
         ),
-        check(
-            left <= right,
-            format!(
-                "1000 × {p_out} (p at the out end, node {out_end}) = {left}, above {p0} (p0 at the in end, node {in_end}) × (1000 + {gains}) = {right}"
-            ),
-        ),
-    ]
+    };
+    let reached = at_most(side, (&bound, most), MBAR).because(&why);
+    checks.push(reached.margin(Bound::Reach));
+    checks
 }
 
+/// Asked where the setting is known.
 pub fn rule_27(plan: &Plan, step: usize, index: usize) -> Vec<Check> {
     let arc = &plan.case.arcs[index];
     let row = plan.arc(step, index);
-    if mode(arc.kind, row.setting) != Mode::Raising {
-        let text = format!(
-            "machines {} on an arc that does not compress",
-            words::set(row.machines)
-        );
-        return vec![check(row.machines == 0, text)];
-    }
-    let machines = machines(plan, step, index);
-    let most: Vec<i64> = machines.iter().map(|machine| machine.flow).collect();
-    let sum: i128 = most.iter().map(|&flow| wide(flow)).sum();
+    let text = format!(
+        "machines {} on an arc that does not compress",
+        words::set(row.machines)
+    );
+    let machines = match mode(arc.kind, row.setting) {
+        None => return Vec::new(),
+        Some(Mode::Raising) => machines(plan, step, index),
+        Some(_) => return vec![check(row.machines == 0, text)],
+    };
+    let Some(machines) = machines else {
+        return Vec::new();
+    };
     let flow = if backward(arc, row.setting) {
         row.b
     } else {
         row.a
     };
-    let count = i64::from(row.machines.count_ones());
+    let most: Vec<i64> = machines.iter().map(|machine| machine.flow).collect();
+    let bound = format!("the {} that its machines take", sum(&most));
+    let taken = most.iter().map(|&flow| wide(flow)).sum();
+    let count = i128::from(row.machines.count_ones());
+    let (on, unit) = (words::set(row.machines), MACHINE);
+    let named = format!("{} {on}", Amount { count, unit });
+    let allowed = format!("the most machines {}", arc.most_machines());
     vec![
-        check(
-            count <= arc.most_machines(),
-            format!(
-                "{count} machines {}, over the most machines {}",
-                words::set(row.machines),
-                arc.most_machines()
-            ),
-        ),
-        check(
-            wide(flow) <= sum,
-            format!(
-                "flow {flow}, over what its machines take: {} = {sum}",
-                plus(&most)
-            ),
-        ),
+        at_most(
+            (&named, count),
+            (&allowed, wide(arc.most_machines())),
+            MACHINE,
+        )
+        .margin(Bound::MostMachines),
+        at_most((&format!("flow {flow}"), wide(flow)), (&bound, taken), FLOW)
+            .margin(Bound::MachineFlow),
     ]
-}
-
-/// Pressure at a node in the step before and in the step.
-fn pressures(plan: &Plan, step: usize, node: usize) -> [i64; 2] {
-    [step.saturating_sub(1), step].map(|step| plan.pressure(step, node))
-}
-
-/// dt × (a - b) - c × (change of p at from + change at to) of a pipe, 0 of any other arc.
-pub fn left_28(plan: &Plan, step: usize, index: usize) -> i128 {
-    let arc = &plan.case.arcs[index];
-    let c = arc.pipe().map_or(0, |[c, ..]| c);
-    let row = plan.arc(step, index);
-    match arc.is_pipe() {
-        true => {
-            let brought = plan.case.span(step) * (wide(row.a) - wide(row.b));
-            brought - wide(c) * change(plan, step, index)
-        }
-        false => 0,
-    }
-}
-
-/// Change of p at from and at to, together.
-fn change(plan: &Plan, step: usize, index: usize) -> i128 {
-    let arc = &plan.case.arcs[index];
-    let at = |node| {
-        let [before, after] = pressures(plan, step, node);
-        wide(after) - wide(before)
-    };
-    at(arc.from) + at(arc.to)
-}
-
-pub fn rule_28(plan: &Plan, step: usize, index: usize) -> Vec<Check> {
-    let arc = &plan.case.arcs[index];
-    let Some([c, ..]) = arc.pipe() else {
-        return Vec::new();
-    };
-    let row = plan.arc(step, index);
-    let (change, span) = (change(plan, step, index), plan.case.span(step));
-    let left = left_28(plan, step, index);
-    let tolerance = plan.case.mass_tolerance;
-    let [from_before, from] = pressures(plan, step, arc.from);
-    let [to_before, to] = pressures(plan, step, arc.to);
-    let text = format!(
-        "{span} × ({} - {}) - {c} × {change} = {left}, over the mass tolerance {tolerance}\n\
-         change of p: {from} - {from_before} at node {} and {to} - {to_before} at node {}, together {change}",
-        row.a, row.b, arc.from, arc.to
-    );
-    vec![check(left.abs() <= wide(tolerance), text)]
-}
-
-pub fn rule_29(plan: &Plan, step: usize, index: usize) -> Vec<Check> {
-    let arc = &plan.case.arcs[index];
-    let Some([_, f, g, h]) = arc.pipe() else {
-        return Vec::new();
-    };
-    let row = plan.arc(step, index);
-    let (from, to) = (plan.pressure(step, arc.from), plan.pressure(step, arc.to));
-    let left = 1_000_000 * (wide(to) - wide(from))
-        + wide(f) * wide(row.a)
-        + wide(g) * wide(row.b)
-        + wide(h) * (wide(from) + wide(to));
-    let right = 1_000_000 * wide(plan.case.pressure_tolerance);
-    let text = format!(
-        "1000000 × ({to} - {from}) + {f} × {} + {g} × {} + {h} × ({from} + {to}) = {left}, over 1000000 × the pressure tolerance {} = {right}",
-        row.a, row.b, plan.case.pressure_tolerance
-    );
-    vec![check(left.abs() <= right, text)]
 }

@@ -4,9 +4,9 @@ use gasplan::Answer;
 use gasplan_text::model::Plan;
 use gasplan_text::words::items;
 
-use crate::arc_rules::left_28;
 use crate::check::wide;
 use crate::node_rules::{flows, left_33};
+use crate::pipe_rules::left_28;
 
 /// One step's figures of a region, in g.
 #[derive(Clone, Copy, Debug, PartialEq, Eq)]

@@ -1,6 +1,4 @@
-//! The questions 1 to 3 of case bytes, and 5 to 7 of plan bytes.
-
-use gasplan::program::{CASE_NUMBERS, PLAN_NUMBERS};
+//! The questions 1 and 2 of case bytes, and 5 and 6 of plan bytes. 3 and 7 are in `limits`.
 
 use crate::check::{Check, check};
 
@@ -49,15 +47,4 @@ pub fn out_of_place(bytes: &[u8], place: usize) -> Vec<Check> {
             format!("the number's bytes are {text}: the last is 00, which a number does not need"),
         ),
     ]
-}
-
-/// 3 and 7.
-pub fn no_place(bytes: &[u8], place: usize, plan: bool) -> Vec<Check> {
-    let room = if plan { PLAN_NUMBERS } else { CASE_NUMBERS };
-    let before = bytes.get(..place).unwrap_or_default();
-    let numbers = before.iter().filter(|&&byte| byte < MORE).count();
-    vec![check(
-        numbers < room,
-        format!("{numbers} numbers end before byte {place}, and the list has {room} places"),
-    )]
 }

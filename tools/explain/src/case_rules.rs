@@ -3,7 +3,8 @@
 use gasplan_text::model::{Arc, Case};
 use gasplan_text::words;
 
-use crate::check::{Check, check, subset};
+use crate::amount::Unit;
+use crate::check::{Check, at_most, check, subset};
 
 const MOST_ARCS: usize = 30;
 
@@ -35,16 +36,18 @@ pub fn rule_14(case: &Case, node: usize) -> Vec<Check> {
         .iter()
         .map(|(station, arcs)| format!("station {station} ({})", arc_list(arcs)))
         .collect();
-    let text = format!("it is in {}, over 1", texts.join(" and in "));
+    let text = format!("it is in {}", texts.join(" and in "));
     vec![check(stations.len() <= 1, text)]
 }
 
 pub fn rule_15(case: &Case, station: usize) -> Vec<Check> {
     let arcs = case.station_arcs(station).len();
-    vec![check(
-        arcs <= MOST_ARCS,
-        format!("{arcs} artificial arcs, over {MOST_ARCS}"),
-    )]
+    let (side, most) = (format!("{arcs} artificial arcs"), MOST_ARCS.to_string());
+    let sides = (
+        (side.as_str(), arcs as i128),
+        (most.as_str(), MOST_ARCS as i128),
+    );
+    vec![at_most(sides.0, sides.1, Unit::Thing("arc"))]
 }
 
 pub fn rule_16(case: &Case, station: usize) -> Vec<Check> {
@@ -101,7 +104,7 @@ fn activity_at_0(case: &Case, station: usize, arcs: &[usize]) -> Vec<Check> {
     let state_at_0 = case.stations[station].state_at_0;
     let active = |arc: usize| case.arcs[arc].active_at_0();
     let state = usize::try_from(state_at_0).unwrap_or(usize::MAX);
-    let what = format!("state {state_at_0}, that of step 0,");
+    let what = format!("state {state_at_0}, that at step 0,");
     obeys(case, station, state, arcs, &what, active)
 }
 
@@ -126,13 +129,19 @@ pub fn obeys(
             .into_iter()
             .filter(|&arc| active(arc) != asked)
             .collect();
-        let (has, is) = if asked {
-            ("on", "not active")
-        } else {
-            ("off", "active")
+        let (has, is) = match asked {
+            true => ("on", "not active"),
+            false => ("off", "active"),
         };
-        let text = format!("{what} has {} {has}, {is} here", arc_list(&wrong));
-        check(wrong.is_empty(), text)
+        let (are, them) = match wrong.len() {
+            1 => ("is", "it"),
+            _ => ("are", "them"),
+        };
+        let arcs = arc_list(&wrong);
+        check(
+            wrong.is_empty(),
+            format!("{arcs} {are} {is}, but {what} has {them} {has}"),
+        )
     };
     vec![part(state.on, true), part(state.off, false)]
 }

@@ -1,16 +1,11 @@
 //! Trial changes to the two files, kept in memory.
 
 use gasplan::{read_all, write_all};
-use gasplan_text::layout::{CaseLayout, Counts, Field, Layout, PlanLayout, fields};
+use gasplan_text::files::{File, layout_of};
+use gasplan_text::layout::{Field, fields};
 use gasplan_text::parse::value;
 
-use crate::explanation::Input;
-
-#[derive(Clone, Copy, Debug, PartialEq, Eq)]
-pub enum File {
-    Case,
-    Plan,
-}
+use crate::input::Input;
 
 #[derive(Clone, Debug, PartialEq, Eq)]
 pub enum Change {
@@ -24,14 +19,10 @@ pub enum Change {
     Append { file: File, bytes: Vec<u8> },
 }
 
-impl File {
-    pub fn of(word: &str) -> Result<File, String> {
-        match word {
-            "case" => Ok(File::Case),
-            "plan" => Ok(File::Plan),
-            _ => Err(format!("expected case or plan, found {word}")),
-        }
-    }
+/// The file that a word names.
+pub fn file_of(word: &str) -> Result<File, String> {
+    let found = File::BOTH.into_iter().find(|file| file.name() == word);
+    found.ok_or_else(|| format!("expected case or plan, found '{word}'"))
 }
 
 /// Bytes in hexadecimal, each with a count if it comes more than once, as `80 00*12`.
@@ -39,7 +30,7 @@ pub fn bytes_of(text: &str) -> Result<Vec<u8>, String> {
     let mut bytes = Vec::new();
     for word in text.split_whitespace() {
         let (byte, count) = word.split_once('*').unwrap_or((word, "1"));
-        let wrong = || format!("expected bytes as 80 or 00*12, found {word}");
+        let wrong = || format!("expected bytes as 80 or 00*12, found '{word}'");
         let byte = u8::from_str_radix(byte, 16).map_err(|_| wrong())?;
         let count: u16 = count.parse().map_err(|_| wrong())?;
         bytes.extend(vec![byte; usize::from(count)]);
@@ -51,7 +42,7 @@ pub fn bytes_of(text: &str) -> Result<Vec<u8>, String> {
 pub fn apply(input: &mut Input, changes: &[Change]) -> Result<(), String> {
     for change in changes {
         match change {
-            Change::Append { file, bytes } => bytes_mut(input, *file).extend(bytes),
+            Change::Append { file, bytes } => input.bytes_mut(*file).extend(bytes),
             Change::Field {
                 file,
                 address,
@@ -62,28 +53,23 @@ pub fn apply(input: &mut Input, changes: &[Change]) -> Result<(), String> {
     Ok(())
 }
 
-fn bytes_mut(input: &mut Input, file: File) -> &mut Vec<u8> {
-    match file {
-        File::Case => &mut input.case_bytes,
-        File::Plan => &mut input.plan_bytes,
-    }
-}
-
 fn change_field(input: &mut Input, file: File, address: &str, text: &str) -> Result<(), String> {
-    let case = read_all(&input.case_bytes).map_err(|refusal| refusal.to_string())?;
-    let mut list = match file {
-        File::Case => case.clone(),
-        File::Plan => read_all(&input.plan_bytes).map_err(|refusal| refusal.to_string())?,
+    let list_of = |file: File| {
+        read_all(input.bytes(file))
+            .map_err(|refusal| format!("no field of {} can be changed: {refusal}", file.name()))
     };
-    let mut layout: Box<dyn Layout> = match file {
-        File::Case => Box::<CaseLayout>::default(),
-        File::Plan => Box::new(PlanLayout::new(Counts::of_case(&case))),
-    };
-    let found = fields(layout.as_mut(), &list);
+    let case = list_of(File::Case)?;
+    let mut list = list_of(file)?;
+    let found = fields(layout_of(file, &case).as_mut(), &list);
     let is_it = |field: &Field| field.address() == address;
     let at = found.iter().position(is_it);
-    let at = at.ok_or_else(|| format!("no field is called '{address}' there"))?;
-    list[at] = value(&found[at], text).map_err(|error| error.to_string())?;
-    *bytes_mut(input, file) = write_all(&list).map_err(|refusal| refusal.to_string())?;
+    let at = at.ok_or_else(|| format!("no field of the {} is called '{address}'", file.name()))?;
+    list[at] = value(&found[at], text).map_err(|error| {
+        format!(
+            "{address}: expected {}, found {}",
+            error.expected, error.found
+        )
+    })?;
+    *input.bytes_mut(file) = write_all(&list).map_err(|refusal| refusal.to_string())?;
     Ok(())
 }

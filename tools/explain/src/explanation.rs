@@ -1,18 +1,15 @@
 //! From a refusal to the item, the step and the numbers of the failed question.
 
-use gasplan::{Refusal, read_all};
+use gasplan::Refusal;
+use gasplan_text::files::File;
 use gasplan_text::layout::Part;
 use gasplan_text::model::{Case, Plan};
 
-use crate::check::{Check, check};
+use crate::check::Check;
+use crate::input::{Input, Lists};
+use crate::questions::{checks_of_item, checks_of_region};
 use crate::rules::rule_of;
-use crate::{arc_rules, byte_rules, case_rules, field_rules, node_rules, station_rules};
-
-/// The contents of the two files.
-pub struct Input {
-    pub case_bytes: Vec<u8>,
-    pub plan_bytes: Vec<u8>,
-}
+use crate::{byte_rules, field_rules};
 
 /// What the ledger is asked for.
 #[derive(Clone, Copy, Debug)]
@@ -39,28 +36,39 @@ pub struct Explanation {
     pub mark: Option<Mark>,
 }
 
-/// Explains a refusal by the library. The region is that of a ledger, where one was asked for.
+/// Explains a "no". The region is that of a ledger, where one was asked for.
 pub fn explain_refusal(input: &Input, refusal: Refusal, region: Option<Region>) -> Explanation {
-    let case_list = read_all(&input.case_bytes).unwrap_or_default();
-    let plan_list = read_all(&input.plan_bytes).unwrap_or_default();
+    explain(input, &input.lists(), refusal, region)
+}
+
+/// The same, where the lists are read already.
+pub fn explain(
+    input: &Input,
+    lists: &Lists,
+    refusal: Refusal,
+    region: Option<Region>,
+) -> Explanation {
     let (item, mark, checks) = match refusal.number {
         1..=7 => of_bytes(input, refusal),
-        10..=12 => of_field(&case_list, refusal),
-        20 => (
-            "plan".to_string(),
-            None,
-            field_rules::rule_20(&case_list, &plan_list),
-        ),
-        _ => match Case::of(&case_list) {
-            Some(case) => of_item(&case, &plan_list, refusal, region),
+        10..=12 => of_field(&lists.case_list, refusal),
+        20 => {
+            let checks = field_rules::rule_20(&lists.case_list, &lists.plan_list);
+            ("plan".to_string(), None, checks)
+        }
+        _ => match &lists.case {
+            Some(case) => of_item(case, &lists.plan_list, refusal, region),
             None => ("case".to_string(), None, Vec::new()),
         },
     };
     let wrong = checks.into_iter().filter(|check| !check.holds);
+    let finding = |check: Check| match check.more {
+        Some(more) => format!("{}\n{more}", check.text),
+        None => check.text,
+    };
     Explanation {
         refusal,
         item,
-        findings: wrong.map(|check| check.text).collect(),
+        findings: wrong.map(finding).collect(),
         mark,
     }
 }
@@ -68,19 +76,17 @@ pub fn explain_refusal(input: &Input, refusal: Refusal, region: Option<Region>) 
 type Answer = (String, Option<Mark>, Vec<Check>);
 
 fn of_bytes(input: &Input, refusal: Refusal) -> Answer {
-    let plan = refusal.number > 4;
-    let (file, bytes) = match plan {
-        true => ("plan.bin", &input.plan_bytes),
-        false => ("case.bin", &input.case_bytes),
+    let file = match refusal.number > 4 {
+        true => File::Plan,
+        false => File::Case,
     };
-    let place = refusal.place;
+    let (bytes, place) = (input.bytes(file), refusal.place);
     let checks = match refusal.number {
         1 | 5 => byte_rules::ends_early(bytes, place),
         2 | 6 => byte_rules::out_of_place(bytes, place),
-        3 | 7 => byte_rules::no_place(bytes, place, plan),
         _ => Vec::new(),
     };
-    (format!("{file}, byte {place}"), None, checks)
+    (format!("{}.bin, byte {place}", file.name()), None, checks)
 }
 
 fn of_field(case: &[i64], refusal: Refusal) -> Answer {
@@ -112,17 +118,17 @@ fn of_item(case: &Case, plan_list: &[i64], refusal: Refusal, region: Option<Regi
         step,
         place,
     } = refusal;
-    let (words, mark) = match number {
-        13 | 24..=29 if place < case.arcs.len() => (case.arc_words(place), Mark::Arc(place)),
-        14 | 21..=23 | 33 if place < case.nodes.len() => {
-            (case.node_words(place), Mark::Node(place))
+    let mark = match number {
+        13 | 24..=29 if place < case.arcs.len() => Mark::Arc(place),
+        14 | 21..=23 | 33 if place < case.nodes.len() => Mark::Node(place),
+        15..=17 | 30..=32 if place < case.stations.len() => Mark::Station(place),
+        40 | 41 => {
+            let checks = region.map(|region| checks_of_region(case, number, region));
+            return ("ledger".to_string(), None, checks.unwrap_or_default());
         }
-        15..=17 | 30..=32 if place < case.stations.len() => {
-            (station_words(case, place), Mark::Station(place))
-        }
-        40 | 41 => return of_region(case, number, place, region),
         _ => return (format!("item {place}"), None, Vec::new()),
     };
+    let words = item_words(case, number, place);
     let item = match step {
         0 => words,
         _ => format!("{words}, step {step}, {}", case.span_words(step)),
@@ -131,54 +137,35 @@ fn of_item(case: &Case, plan_list: &[i64], refusal: Refusal, region: Option<Regi
     (item, Some(mark), checks_of_item(&plan, number, step, place))
 }
 
-/// The parts of a question about an item of the case (13 to 17) or of a step (21 to 33).
-pub fn checks_of_item(plan: &Plan, number: i64, step: usize, place: usize) -> Vec<Check> {
+/// The arc, node or station that a question is asked of.
+pub fn item_words(case: &Case, number: i64, place: usize) -> String {
     match number {
-        13 => case_rules::rule_13(plan.case, place),
-        14 => case_rules::rule_14(plan.case, place),
-        15 => case_rules::rule_15(plan.case, place),
-        16 => case_rules::rule_16(plan.case, place),
-        17 => case_rules::rule_17(plan.case, place),
-        21 => node_rules::rule_21(plan, step, place),
-        22 => node_rules::rule_22(plan, step, place),
-        23 => node_rules::rule_23(plan, step, place),
-        24 => arc_rules::rule_24(plan, step, place),
-        25 => arc_rules::rule_25(plan, step, place),
-        26 => arc_rules::rule_26(plan, step, place),
-        27 => arc_rules::rule_27(plan, step, place),
-        28 => arc_rules::rule_28(plan, step, place),
-        29 => arc_rules::rule_29(plan, step, place),
-        30 => station_rules::rule_30(plan, step, place),
-        31 => station_rules::rule_31(plan, step, place),
-        32 => station_rules::rule_32(plan, step, place),
-        33 => node_rules::rule_33(plan, step, place),
-        _ => Vec::new(),
+        13 | 24..=29 => case.arc_words(place),
+        14 | 21..=23 | 33 => case.node_words(place),
+        _ => station_words(case, place),
     }
 }
 
 fn station_words(case: &Case, station: usize) -> String {
-    let list = |items: &[usize]| {
-        let texts: Vec<String> = items.iter().map(usize::to_string).collect();
-        texts.join(" ")
-    };
-    format!(
-        "station {station} (nodes {}; arcs {})",
-        list(&case.station_nodes(station)),
-        list(&case.station_arcs(station))
-    )
+    let arcs = case.station_arcs(station);
+    match arcs.is_empty() {
+        true => format!("station {station} (no arcs)"),
+        false => format!(
+            "station {station} (nodes {}; arcs {})",
+            runs(&case.station_nodes(station)),
+            runs(&arcs)
+        ),
+    }
 }
 
-fn of_region(case: &Case, number: i64, place: usize, region: Option<Region>) -> Answer {
-    let Some(Region { set, s, t }) = region else {
-        return ("ledger".to_string(), None, Vec::new());
+/// Numbers that go up, with three or more in a row as `1 to 31`.
+fn runs(numbers: &[usize]) -> String {
+    let words = |run: &[usize]| match run {
+        [first, _, .., last] => vec![format!("{first} to {last}")],
+        _ => run.iter().map(usize::to_string).collect(),
     };
-    let (last, steps) = (case.nodes.len() - 1, case.steps());
-    let text = match (number, (0..1 << 60).contains(&set)) {
-        (40, true) => format!("the set names node {place}; the case's last node is {last}"),
-        (40, false) => format!("the set is the number {set}, outside 0 to 2^60 - 1"),
-        _ => format!("s = {s}, t = {t}, k = {steps}: s is below 0, or above t, or t is above k"),
-    };
-    ("ledger".to_string(), None, vec![check(false, text)])
+    let runs = numbers.chunk_by(|one, next| one + 1 == *next);
+    runs.flat_map(words).collect::<Vec<String>>().join(", ")
 }
 
 impl Explanation {

@@ -1,14 +1,11 @@
 //! The questions 10 to 12 of a case's fields, and 20 of a plan's head and length.
 
-use gasplan_text::layout::{CaseLayout, Counts, Field, Layout, Part, fields};
+use gasplan_text::layout::{CaseLayout, Counts, Field, Form, Layout, Part};
+use gasplan_text::words;
 
-use crate::check::{Check, check, within};
-use crate::node_rules::MOST_FLOW;
-
-const MOST_PRESSURE: i64 = 200_000;
-const MOST_WEIGHT: i64 = 1_000_000;
-const MOST_SPAN: i64 = 86_400;
-const SHORTCUT: i64 = 3;
+use crate::amount::Unit;
+use crate::check::{Check, check, same, within};
+use crate::ranges::range;
 
 /// The part of the case that a number belongs to.
 pub fn part_of(case: &[i64], place: usize) -> Option<Part> {
@@ -37,11 +34,21 @@ pub fn rule_10(case: &[i64], place: usize) -> Vec<Check> {
 }
 
 pub fn rule_11(case: &[i64], place: usize) -> Vec<Check> {
-    let (Some(field), Some(&number)) = (due_at(case, place), case.get(place)) else {
-        return Vec::new();
-    };
-    let (least, most) = range(case, place, &field);
-    vec![within(&field.to_string(), number, least, most)]
+    match (due_at(case, place), case.get(place)) {
+        (Some(field), Some(&number)) => vec![in_range(case, place, &field, number)],
+        _ => Vec::new(),
+    }
+}
+
+fn in_range(case: &[i64], place: usize, field: &Field, number: i64) -> Check {
+    let (least, most) = range(case, place, field);
+    let name = field.to_string();
+    if field.form == Form::Set && number > most {
+        let last = i64::from(most.count_ones()) - 1;
+        let set = words::set(number);
+        return check(false, format!("{name} = {set}: its items go up to {last}"));
+    }
+    within(&name, number, least, most, field.unit().map(Unit::Of))
 }
 
 pub fn rule_12(case: &[i64], place: usize) -> Vec<Check> {
@@ -55,87 +62,59 @@ pub fn rule_12(case: &[i64], place: usize) -> Vec<Check> {
     )]
 }
 
-/// The range of a field. A bound between two fields counts for the later one.
-fn range(case: &[i64], place: usize, field: &Field) -> (i64, i64) {
-    let back = |by: usize| place.checked_sub(by).map_or(0, |at| case[at]);
-    match (field.part, field.name) {
-        (Part::Head, name) => head_range(name),
-        (Part::Times, _) => {
-            let before = if field.step == Some(1) { 0 } else { back(1) };
-            (before.saturating_add(1), before.saturating_add(MOST_SPAN))
+/// Where 10 to 12 have a "no", in list order, and what is not asked because of it.
+#[derive(Default)]
+pub struct FieldNoes {
+    /// Number and place of each.
+    pub noes: Vec<(i64, usize)>,
+    pub left_out: Vec<String>,
+}
+
+/// Asks 10 to 12 of the list, as long as it is clear which field stands where.
+pub fn field_noes(case: &[i64]) -> FieldNoes {
+    let mut found = FieldNoes::default();
+    let mut layout = CaseLayout::default();
+    let mut kind_unknown = None;
+    for (place, &number) in case.iter().enumerate() {
+        let Some(field) = layout.due() else {
+            found.noes.push((12, place));
+            return found;
+        };
+        layout.take(number);
+        let of_unknown_kind = field.name == "demand" && kind_unknown == Some(field.part);
+        if of_unknown_kind || in_range(case, place, &field, number).holds {
+            continue;
         }
-        (Part::Node(_), "kind") => (0, 2),
-        (Part::Node(_), "actlow") => (back(2), MOST_PRESSURE),
-        (Part::Node(_), "acthigh") => (back(1), back(2)),
-        (Part::Node(_), "demand") => match back(5 + field.step.unwrap_or(1)) {
-            0 => (0, 0),
-            1 => (0, MOST_FLOW),
-            _ => (-MOST_FLOW, 0),
-        },
-        (Part::Node(_), _) => (0, MOST_PRESSURE),
-        (Part::Arc(_), name) => arc_range(case, name, back(5)),
-        (Part::Station(_), name) => station_range(name, back(3)),
-        (Part::State(station, _), "directions") => (0, all(directions(case, station))),
-        (_, "entry" | "exit") => (0, all(60)),
-        (_, "on" | "off") => (0, all(30)),
-        (_, "flow") => (0, MOST_FLOW),
-        (_, "ratio") => (1_001, 10_000),
-        _ => (0, MOST_WEIGHT),
+        found.noes.push((11, place));
+        if decides_what_follows(&field) {
+            let why = format!("{field} = {number} says which fields follow");
+            found.left_out.push(format!(
+                "10 to 12 of the numbers after number {place}: {why}"
+            ));
+            return found;
+        }
+        if field.name == "kind" {
+            kind_unknown = Some(field.part);
+            let part = field.part;
+            found.left_out.push(format!(
+                "11 of the demands of {part}: their range goes by its kind, {number}"
+            ));
+        }
     }
-}
-
-/// The set of the first items.
-fn all(count: i64) -> i64 {
-    (1 << count.clamp(0, 62)) - 1
-}
-
-fn head_range(name: &str) -> (i64, i64) {
-    match name {
-        "edition" => (1, 1),
-        "nodes" => (1, 60),
-        "arcs" => (0, 120),
-        "stations" => (0, 8),
-        "steps" => (1, 48),
-        "mass-tolerance" => (0, 1_000_000),
-        _ => (0, 1_000),
+    if layout.due().is_some() {
+        found.noes.push((10, case.len()));
     }
+    found
 }
 
-/// The kind stands five fields before the both-ways field, where alone it matters here.
-fn arc_range(case: &[i64], name: &str, kind: i64) -> (i64, i64) {
-    let last = |at: usize| case.get(at).map_or(0, |count| count - 1);
-    match name {
-        "kind" => (0, 6),
-        "from" | "to" => (0, last(1)),
-        "c" => (1, 100_000_000),
-        "qmax" | "f" | "g" => (0, MOST_FLOW),
-        "h" => (-200_000, 200_000),
-        "station" => (0, last(3)),
-        "both-ways" if kind == SHORTCUT => (1, 1),
-        "both-ways" | "active-at-0" => (0, 1),
-        "weight" => (0, MOST_WEIGHT),
-        "machines" => (0, all(12)),
-        "most-machines" => (0, 12),
-        "out-bound" => (0, MOST_PRESSURE),
-        _ => (0, 0),
+/// Is it this field that says how many rows follow, or what an arc's fields are?
+fn decides_what_follows(field: &Field) -> bool {
+    match field.part {
+        Part::Head => !field.name.ends_with("tolerance"),
+        Part::Arc(_) => field.name == "kind",
+        Part::Station(_) => !field.name.ends_with("at-0"),
+        _ => false,
     }
-}
-
-/// Directions and states stand three fields before those of step 0.
-fn station_range(name: &str, count: i64) -> (i64, i64) {
-    match name {
-        "directions" => (1, 8),
-        "states" => (1, 16),
-        "machines" => (0, 12),
-        _ => (0, count - 1),
-    }
-}
-
-/// How many directions a station says that it has.
-fn directions(case: &[i64], station: usize) -> i64 {
-    let found = fields(&mut CaseLayout::default(), case);
-    let is_it = |field: &Field| field.part == Part::Station(station) && field.name == "directions";
-    found.iter().position(is_it).map_or(0, |at| case[at])
 }
 
 pub fn rule_20(case: &[i64], plan: &[i64]) -> Vec<Check> {
@@ -143,11 +122,12 @@ pub fn rule_20(case: &[i64], plan: &[i64]) -> Vec<Check> {
     let steps = case.get(4).copied().unwrap_or(0);
     let (first, second) = (plan.first(), plan.get(1));
     let says = |number: Option<&i64>| number.map_or("missing".to_string(), i64::to_string);
-    let length = 2 + usize::try_from(steps)
+    let due = 2 + usize::try_from(steps)
         .unwrap_or(0)
         .saturating_mul(counts.width());
-    let sum = format!(
-        "2 + {steps} × (6 × {} + 4 × {} + 2 × {}) = {length}",
+    let length = format!("the plan has {} numbers", plan.len());
+    let wanted = format!(
+        "2 + {steps} × (6 × {} + 4 × {} + 2 × {}) = {due}",
         counts.nodes, counts.arcs, counts.stations
     );
     vec![
@@ -162,9 +142,10 @@ pub fn rule_20(case: &[i64], plan: &[i64]) -> Vec<Check> {
                 says(second)
             ),
         ),
-        check(
-            plan.len() == length,
-            format!("the plan has {} numbers, not {sum}", plan.len()),
+        same(
+            (&length, plan.len() as i128),
+            (&wanted, due as i128),
+            Unit::Thing("number"),
         ),
     ]
 }

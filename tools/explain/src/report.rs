@@ -4,11 +4,12 @@ use gasplan::{Ledger, Totals};
 use gasplan_text::model::Case;
 use gasplan_text::words::{grouped, set};
 
+use crate::amount::{Amount, MASS, Unit};
 use crate::check::wide;
 use crate::explanation::{Explanation, Region};
 
-pub const NOT_PROVED: &str =
-    "The verdict is the proved library's. The words and sums beside it are not proved.";
+/// Below every answer. Each begins with a verdict of the library.
+pub const NOT_PROVED: &str = "The verdict with its numbers, and the figures of a ledger, are the proved library's. All else is not proved.";
 
 pub fn refused(explanation: &Explanation) -> String {
     let mut text = format!("{}\n", explanation.rule());
@@ -17,13 +18,6 @@ pub fn refused(explanation: &Explanation) -> String {
         text.push('\n');
     }
     text
-}
-
-pub fn too_long() -> String {
-    use gasplan::program::{CASE_BYTES, PLAN_BYTES};
-    format!(
-        "The program takes at most {CASE_BYTES} bytes of case and {PLAN_BYTES} bytes of plan.\n"
-    )
 }
 
 /// The six totals with their units.
@@ -57,7 +51,8 @@ pub fn totals(totals: &Totals) -> String {
 
 fn table(rows: &[(&str, i64, &str)]) -> String {
     let line = |&(name, number, unit): &(&str, i64, &str)| {
-        format!("  {name:<18}{:>16} {unit}\n", grouped(wide(number)))
+        let line = format!("  {name:<18}{:>16} {unit}", grouped(wide(number)));
+        format!("{}\n", line.trim_end())
     };
     rows.iter().map(line).collect()
 }
@@ -103,14 +98,23 @@ fn balance(case: &Case, region: Region, ledger: &Ledger) -> String {
     let steps = wide(region.t) - wide(region.s);
     let most = steps * items * wide(case.mass_tolerance);
     let than = |small: i128, large: i128| if small <= large { "at most" } else { "OVER" };
+    let [steps, items] = [(steps, "step"), (items, "node or inner pipe")].map(|(count, thing)| {
+        let unit = Unit::Thing(thing);
+        Amount { count, unit }.to_string()
+    });
+    let items = items.replace("node or inner pipes", "nodes and inner pipes");
+    let grams = |count| Amount { count, unit: MASS };
     format!(
-        "  balance: {} - {} - {} = {left}; its size is {} the residual {residual},\n           \
-         which is {} {steps} steps × {items} nodes and pipes × tolerance {} = {most}\n",
-        ledger.gas_at_t,
-        ledger.gas_at_s,
-        ledger.brought_in,
+        "  balance: gas at step {} - gas at step {} - brought in = {};\n           \
+         its size is {} the residual, {}, and that is {}\n           \
+         {steps} × {items} × the mass tolerance {} = {}\n",
+        region.t,
+        region.s,
+        grams(left),
         than(left.abs(), residual),
+        grams(residual),
         than(residual, most),
-        case.mass_tolerance
+        grams(wide(case.mass_tolerance)),
+        grams(most)
     )
 }

@@ -78,7 +78,8 @@ pub const RULES: [Rule; 31] = [
     rule(
         17,
         "states and machines of a station",
-        "do on and off share nothing and name only the station's arcs, do its arcs' machine sets name only its machines, and does the activity at step 0 obey the state at step 0?",
+        "do on and off share nothing and name only the station's arcs, do its arcs' machine sets name only its machines, \
+         and does the activity at step 0 obey the state at step 0?",
     ),
     rule(
         20,

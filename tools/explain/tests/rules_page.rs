@@ -5,23 +5,11 @@ mod common;
 use std::collections::BTreeSet;
 use std::fs;
 
-use common::{ask, refusal_line, root};
+use common::{Shown, ask, refusal_line, root, shown};
 use explain::rules::RULES;
 
 fn page() -> String {
     fs::read_to_string(root().join("docs/RULES.md")).expect("the page is there")
-}
-
-/// The commands of the page, each with the line that it promises.
-fn inputs(page: &str) -> Vec<(String, String)> {
-    let lines: Vec<&str> = page.lines().map(str::trim).collect();
-    lines
-        .windows(2)
-        .filter_map(|pair| {
-            let command = pair[0].strip_prefix("$ tools/bin/explain ")?;
-            Some((command.to_string(), pair[1].to_string()))
-        })
-        .collect()
 }
 
 #[test]
@@ -38,26 +26,32 @@ fn every_number_has_its_heading() {
     assert_eq!(headings, wanted);
 }
 
+/// The verdict's line is the first, or the first that is a refusal where a ledger is refused.
 #[test]
 fn every_input_gives_its_number_and_is_explained() {
     let mut given = BTreeSet::new();
-    for (command, promised) in inputs(&page()) {
+    for Shown {
+        heading,
+        command,
+        lines,
+    } in shown(&page())
+    {
+        let Some((number, _)) = heading.split_once(' ') else {
+            continue;
+        };
         let answer = ask(&command);
-        assert_eq!(
-            refusal_line(&answer.text),
-            Some(promised.as_str()),
-            "{command}"
-        );
         assert!(!answer.accepted);
-        let number: i64 = promised.split(' ').nth(1).unwrap().parse().unwrap();
-        let rule = format!("rule {number}, ");
-        assert!(answer.text.contains(&rule), "{}", answer.text);
-        assert!(
-            !answer.text.contains("no part of the question"),
-            "{}",
-            answer.text
-        );
-        given.insert(number);
+        let text = &answer.text;
+        assert_eq!(refusal_line(text), Some(lines[0].as_str()), "{command}");
+        let printed = |line: &String| text.lines().any(|it| it == line);
+        assert!(lines.iter().all(printed), "{command}:\n{text}");
+        let said = lines
+            .iter()
+            .any(|it| it.contains(&format!("refused {number} ")));
+        assert!(said, "{command} does not show {number}");
+        assert!(text.contains(&format!("rule {number}, ")), "{text}");
+        assert!(!text.contains("no part of the question"), "{text}");
+        given.insert(number.parse().unwrap());
     }
     // 4 is the writer's: no file gives it.
     let wanted = RULES
@@ -67,19 +61,29 @@ fn every_input_gives_its_number_and_is_explained() {
     assert_eq!(given, wanted.collect());
 }
 
+/// The first command of the page is shown with all that it prints, up to there.
 #[test]
 fn the_page_shows_what_is_printed() {
-    let (start, _) = page()
-        .split_once("\n## Bytes")
-        .map(|(a, b)| (a.to_string(), b.len()))
-        .unwrap();
-    let shown: Vec<String> = start
-        .lines()
-        .filter_map(|line| line.strip_prefix("    "))
-        .map(str::to_string)
-        .collect();
-    let command = shown[0].strip_prefix("$ tools/bin/explain ").unwrap();
-    let answer = ask(command);
-    let printed: Vec<&str> = answer.text.lines().take(shown.len() - 1).collect();
-    assert_eq!(printed, shown[1..]);
+    let shown = shown(&page());
+    let first = shown.first().expect("the page begins with a command");
+    assert_eq!(first.heading, "");
+    let answer = ask(&first.command);
+    let printed: Vec<&str> = answer.text.lines().take(first.lines.len()).collect();
+    assert!(printed.len() > 2);
+    assert_eq!(printed, first.lines);
+}
+
+/// Each line of the tools' page is printed, in its order; dots stand for lines that are left out.
+#[test]
+fn the_tools_page_shows_what_is_printed() {
+    let page = fs::read_to_string(root().join("tools/README.md")).expect("the page is there");
+    let shown = shown(&page);
+    assert!(shown.len() >= 2);
+    for Shown { command, lines, .. } in shown {
+        let text = ask(&command).text;
+        let mut printed = text.lines();
+        for line in lines.iter().filter(|line| *line != "...") {
+            assert!(printed.any(|it| it == line), "{command}: {line}");
+        }
+    }
 }

@@ -4,10 +4,12 @@
 use std::fs;
 use std::path::{Path, PathBuf};
 
-use explain::Input;
 use explain::answer::{Answer, answer};
 use explain::change::apply;
+use explain::noes::{Noes, noes};
 use explain::request::Request;
+use explain::{Explanation, Input};
+use gasplan::{Refusal, write_all};
 
 pub const EXAMPLES: [&str; 5] = ["two-nodes", "line", "day", "incident", "crowd"];
 
@@ -47,4 +49,72 @@ pub fn ask(line: &str) -> Answer {
 /// The first line that is a refusal.
 pub fn refusal_line(text: &str) -> Option<&str> {
     text.lines().find(|line| line.starts_with("refused"))
+}
+
+/// What the words ask of two lists, as `--all --margins`.
+pub fn ask_lists(case: &[i64], plan: &[i64], options: &str) -> Answer {
+    let words = words(&format!("folder {options}"));
+    let request = Request::of(&words).expect(options);
+    answer(&input_of(case, plan), &request)
+}
+
+pub fn input_of(case: &[i64], plan: &[i64]) -> Input {
+    Input {
+        case_bytes: write_all(case).unwrap(),
+        plan_bytes: write_all(plan).unwrap(),
+    }
+}
+
+/// Every "no" on two lists.
+pub fn noes_of(case: &[i64], plan: &[i64]) -> Noes {
+    noes(&input_of(case, plan), None)
+}
+
+pub fn refusals(rows: &[Explanation]) -> Vec<Refusal> {
+    rows.iter().map(|row| row.refusal).collect()
+}
+
+pub fn refusal(number: i64, step: usize, place: usize) -> Refusal {
+    Refusal {
+        number,
+        step,
+        place,
+    }
+}
+
+/// The second checker's answer on two lists.
+pub fn second(case: &[i64], plan: &[i64]) -> Option<Refusal> {
+    let answer = second::plan::judge(case, plan).err()?;
+    Some(refusal(answer.number.into(), answer.step, answer.place))
+}
+
+/// A command that a page shows, with the heading above it and the lines that it promises.
+pub struct Shown {
+    pub heading: String,
+    pub command: String,
+    pub lines: Vec<String>,
+}
+
+/// The commands of a page that begin with `$ tools/bin/explain`. A block ends where its indent does.
+pub fn shown(page: &str) -> Vec<Shown> {
+    let mut shown: Vec<Shown> = Vec::new();
+    let (mut heading, mut within) = (String::new(), false);
+    for line in page.lines() {
+        if let Some(title) = line.strip_prefix("### ") {
+            heading = title.to_string();
+        }
+        let text = line.strip_prefix("    ");
+        let command = text.and_then(|it| it.strip_prefix("$ tools/bin/explain "));
+        within = command.is_some() || (within && text.is_some());
+        if let Some(command) = command {
+            shown.push(Shown {
+                heading: heading.clone(),
+                command: command.to_string(),
+                lines: Vec::new(),
+            });
+        } else if let (true, Some(text), Some(last)) = (within, text, shown.last_mut()) {
+            last.lines.push(text.to_string());
+        }
+    }
+    shown
 }
