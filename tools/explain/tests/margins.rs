@@ -6,6 +6,7 @@ use std::collections::BTreeMap;
 
 use common::{ask, input_of, noes_of, refusal, refusals, second};
 use explain::bound::Bound;
+use explain::check::Check;
 use explain::margins::{Kept, margins};
 use explain::questions::checks_of_item;
 use gasplan_text::model::{Case, Plan};
@@ -179,21 +180,16 @@ struct Tally {
     first: usize,
 }
 
-/// What is left of a bound at an item; the least, where it has the bound more than once.
-fn left(pair: &Pair, bound: Bound, kept: &Kept) -> i128 {
+/// Is a bound kept at an item, and what is left of it? The least, where it has the bound more than once.
+fn kept_and_left(pair: &Pair, bound: Bound, kept: &Kept) -> (bool, i128) {
     let (case, plan) = (Case::of(&pair.case.list()).unwrap(), pair.plan.list());
-    let checks = checks_of_item(
-        &Plan::new(&case, &plan),
-        bound.number(),
-        kept.step,
-        kept.place,
-    );
-    let margins = checks.into_iter().filter_map(|check| check.margin);
-    let of_bound = margins.filter(|margin| margin.bound == bound);
-    of_bound
-        .map(|margin| margin.left.count)
-        .min()
-        .expect("the bound is asked")
+    let plan = Plan::new(&case, &plan);
+    let mut checks = checks_of_item(&plan, bound.number(), kept.step, kept.place);
+    checks.retain(|check| check.margin.as_ref().is_some_and(|it| it.bound == bound));
+    let left = |check: &Check| check.margin.as_ref().map(|it| it.left.count);
+    let least = checks.iter().filter_map(left).min();
+    let holds = checks.iter().all(|check| check.holds);
+    (holds, least.expect("the bound is asked"))
 }
 
 fn try_item(pair: &Pair, bound: Bound, kept: &Kept, tally: &mut Tally) {
@@ -202,13 +198,11 @@ fn try_item(pair: &Pair, bound: Bound, kept: &Kept, tally: &mut Tally) {
     if let Some(up_to) = moved(pair, bound, kept, 0)
         && !two_ends
     {
-        let left = left(&up_to, bound, kept);
+        let (holds, left) = kept_and_left(&up_to, bound, kept);
         // A g/s is worth more than one where it is multiplied.
         let whole = !matches!(bound, Bound::Stored | Bound::Friction | Bound::Balance);
-        assert!(
-            left == 0 || (left > 0 && !whole),
-            "{left} {bound:?} {kept:?}"
-        );
+        assert!(holds && left >= 0, "{left} {bound:?} {kept:?}");
+        assert!(left == 0 || !whole, "{left} {bound:?} {kept:?}");
     }
     let Some(past) = moved(pair, bound, kept, 1) else {
         return;
@@ -217,7 +211,8 @@ fn try_item(pair: &Pair, bound: Bound, kept: &Kept, tally: &mut Tally) {
     let found = refusals(&noes_of(&case, &plan).rows);
     let question = refusal(bound.number(), kept.step, kept.place);
     assert!(found.contains(&question), "{bound:?} {kept:?} {found:?}");
-    assert!(left(&past, bound, kept) < 0, "{bound:?} {kept:?}");
+    let (holds, left) = kept_and_left(&past, bound, kept);
+    assert!(!holds && left < 0, "{left} {bound:?} {kept:?}");
     let verdict = input_of(&case, &plan).verdict().unwrap_err();
     assert_eq!((Some(verdict), found[0]), (second(&case, &plan), verdict));
     tally.passed += 1;
