@@ -51,6 +51,9 @@ pub fn answer(input: &Input, request: &Request) -> Answer {
 fn more(told: &Told, lists: &Lists, input: &Input, request: &Request) -> String {
     let mut text = String::new();
     let region = region_of(lists, request);
+    if request.ledger.is_some() && !told.accepted_plan {
+        text.push_str("No ledger: it is drawn up of an accepted plan.\n");
+    }
     if request.all {
         let verdict = told.explanation.as_ref().map(|it| it.refusal);
         text.push_str(&listing::noes(&noes(input, region), verdict));

@@ -12,7 +12,7 @@ use inputs::damage::any_number;
 use inputs::model::Case;
 use inputs::{Pair, Rng, generate};
 
-const SEEDS: u64 = 1_200;
+const SEEDS: u64 = 900;
 /// Plans with more numbers are left out.
 const LARGE: usize = 2_000;
 

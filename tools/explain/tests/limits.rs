@@ -28,7 +28,11 @@ fn the_largest_plan_is_judged_and_explained() {
     let mut pair = largest();
     let (case, plan) = (pair.case.list(), pair.plan.list());
     assert!(plan.len() == 41_090 && case.len() > CASE_NUMBERS);
-    let answer = ask_lists(&case, &plan, "--all --margins --ledger all 0 48");
+    let answer = ask_lists(
+        &case,
+        &plan,
+        "--all --margins --ledger all 0 48 --svg file --step 48",
+    );
     let [verdict, program] = first_lines(&answer.text);
     assert_eq!(verdict, line(&second::plan::judge(&case, &plan)));
     assert!(verdict.starts_with("accepted ") && answer.accepted);
@@ -40,6 +44,8 @@ fn the_largest_plan_is_judged_and_explained() {
             .text
             .contains("\n  33 balance within the mass tolerance\n")
     );
+    let picture = answer.picture.expect("a picture was asked for");
+    assert!(picture.starts_with("<svg") && picture.contains("Numbers are those of step 48, "));
     pair.node_mut(48, 59).p = -1;
     let answer = ask_lists(&case, &pair.plan.list(), "--all");
     let [verdict, program] = first_lines(&answer.text);

@@ -14,7 +14,7 @@ use inputs::aimed::sides::{left_28, left_29, left_33};
 use inputs::model::{F, MACHINES, SOURCE, is_backward};
 use inputs::{Pair, Rng, generate};
 
-const SEEDS: u64 = 150;
+const SEEDS: u64 = 80;
 /// Items of each bound that are tried in a plan: the tightest.
 const TRIED: usize = 4;
 
@@ -240,7 +240,7 @@ fn a_margin_is_what_is_left() {
     for bound in BOUNDS {
         let Tally { passed, first } = tallies.remove(&bound).unwrap_or_default();
         println!("{bound:?}: {passed} passed, {first} of them the first no");
-        assert!(passed >= 20 && first >= 5, "{bound:?}: {passed}, {first}");
+        assert!(passed >= 20 && first >= 3, "{bound:?}: {passed}, {first}");
     }
     assert!(tallies.is_empty());
 }

@@ -13,7 +13,7 @@ use inputs::damage::{any_list, damage_bytes, damage_list};
 use inputs::{Pair, Rng, generate};
 
 /// How many accepted pairs are drawn.
-const SEEDS: u64 = 150;
+const SEEDS: u64 = 100;
 /// Above this many numbers only some of the changes are made.
 const LARGE: usize = 3_000;
 

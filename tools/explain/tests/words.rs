@@ -125,6 +125,15 @@ fn totals_have_units_and_a_ledger_its_balance() {
     );
 }
 
+#[test]
+fn a_refused_plan_has_no_ledger() {
+    says(
+        "incident --ledger all 0 1",
+        "No ledger: it is drawn up of an accepted plan.",
+    );
+    assert!(!ask("incident").text.contains("ledger: "));
+}
+
 /// How many items the question with this number is asked of.
 fn asked_of(case: &Case, number: i64) -> usize {
     match number {
