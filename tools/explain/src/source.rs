@@ -147,9 +147,9 @@ fn difference(pair: &Pair, as_text: bool, input: &Input) -> Option<String> {
     };
     let (binary, text) = (pair.binary.display(), pair.text.display());
     Some(match as_text {
-        true => format!("warning: {text} is judged, and {binary} is another: {how}"),
+        true => format!("warning: {text} is judged, but {binary} says something else: {how}"),
         false => format!(
-            "warning: {binary} is judged, and {text} is another: {how} (--text judges the text)"
+            "warning: {binary} is judged, but {text} says something else: {how} (--text judges the text)"
         ),
     })
 }

@@ -79,7 +79,7 @@ fn stale_bytes_are_judged_with_a_warning() {
     for words in [["."].as_slice(), &["case.bin", "plan.bin"]] {
         let done = run(&folder, words);
         assert!(done.status == 0 && done.out.starts_with(ACCEPTED));
-        let wanted = "plan.txt is another: number 15 (step 1 arc 0 b) is 900 in the bytes and 901 in the text (--text judges the text)\n";
+        let wanted = "plan.txt says something else: number 15 (step 1 arc 0 b) is 900 in the bytes and 901 in the text (--text judges the text)\n";
         assert!(
             done.error.starts_with("warning: ") && done.error.ends_with(wanted),
             "{}",
@@ -100,13 +100,13 @@ fn the_text_is_judged_where_that_is_asked_for() {
         let done = run(&folder, words);
         assert!(done.status == 1 && done.out.starts_with("refused 28 1 0\n"));
         assert!(
-            done.error.contains("plan.txt is judged, and "),
+            done.error.contains("plan.txt is judged, but "),
             "{}",
             done.error
         );
         assert!(
             done.error
-                .contains("plan.bin is another: number 15 (step 1 arc 0 b)")
+                .contains("plan.bin says something else: number 15 (step 1 arc 0 b)")
         );
     }
     assert!(
