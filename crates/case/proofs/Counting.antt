@@ -18,8 +18,8 @@ use Rattle.case.specs.law.TimeFields.{timeField}
 use Rattle.case.specs.inside.Counts.{Counts}
 
 -- a row's first number
-pub first-is : {case : List ℤ} (row : ℕ) {r : ℕ} → Counts case (row + 0) r → r ≡ countAt case row
-first-is {case} row c = c .value ∙ ap (countAt case) (add-zero row)
+pub first-is : {case : List ℤ} (offset : ℕ) {r : ℕ} → Counts case (offset + 0) r → r ≡ countAt case offset
+first-is {case} offset c = c .value ∙ ap (countAt case) (add-zero offset)
 
 -- times grow by at most a day a step
 pub time-grows : (case : List ℤ) (i : ℕ) {n : ℕ} → Bounded (timeBefore case i) n → firstNo (timeField case i) ≡ Yes → Bounded (timeBefore case (i + 1)) (n + 86400)

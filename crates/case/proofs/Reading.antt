@@ -18,15 +18,15 @@ pub past : (case : List ℤ) (i : ℕ) → length case ≤ i → pos 0 ≡ getD 
 past case i h = sym (List·getD-eq-default case (pos 0) h)
 
 -- what is read from a row on is the same from where the row begins, or from the end if that is nearer
-pub near : (case : List ℤ) (row j : ℕ) → getD case (min row (length case) + j) (pos 0) ≡ getD case (row + j) (pos 0)
-near case row j = go (leb row (length case)) refl
+pub near : (case : List ℤ) (offset j : ℕ) → getD case (min offset (length case) + j) (pos 0) ≡ getD case (offset + j) (pos 0)
+near case offset j = go (leb offset (length case)) refl
   where
-    go : (b : Bool) → leb row (length case) ≡ b → getD case (min row (length case) + j) (pos 0) ≡ getD case (row + j) (pos 0)
-    go true e = let h = leb-true row (length case) e in let m : min row (length case) ≡ row = omega arith in rw m
+    go : (b : Bool) → leb offset (length case) ≡ b → getD case (min offset (length case) + j) (pos 0) ≡ getD case (offset + j) (pos 0)
+    go true e = let h = leb-true offset (length case) e in let m : min offset (length case) ≡ offset = omega arith in rw m
     go false e =
-        let h = leb-false row (length case) e in
-        let m : min row (length case) ≡ length case = omega arith in
-        rw m (sym (past case (length case + j) (omega arith)) ∙ past case (row + j) (omega arith))
+        let h = leb-false offset (length case) e in
+        let m : min offset (length case) ≡ length case = omega arith in
+        rw m (sym (past case (length case + j) (omega arith)) ∙ past case (offset + j) (omega arith))
 
 -- rows that do not fit before the end
 pub rows-past : (room count width : ℕ) → 0 < width → room / width < count → room < count * width
@@ -42,15 +42,15 @@ count-small (pos n) h = h
 count-small (negsuc n) h = omega arith
 
 -- a number j places into a row, read from where `r` says that the row begins
-pub number-in : (case : List ℤ) (row j : ℕ) {r : ℕ} {z : ℤ} → r ≡ min row (length case) → z ≡ getD case (r + j) (pos 0) → z ≡ getD case (row + j) (pos 0)
-number-in case row j e h = h ∙ ap (λ (i : ℕ). getD case (i + j) (pos 0)) e ∙ near case row j
+pub number-in : (case : List ℤ) (offset j : ℕ) {r : ℕ} {z : ℤ} → r ≡ min offset (length case) → z ≡ getD case (r + j) (pos 0) → z ≡ getD case (offset + j) (pos 0)
+number-in case offset j e h = h ∙ ap (λ (i : ℕ). getD case (i + j) (pos 0)) e ∙ near case offset j
 
-pub count-in : (case : List ℤ) (row j : ℕ) {r n : ℕ} → r ≡ min row (length case) → n ≡ posPart (getD case (r + j) (pos 0)) → n ≡ posPart (getD case (row + j) (pos 0))
-count-in case row j e h = h ∙ ap posPart (number-in case row j e refl)
+pub count-in : (case : List ℤ) (offset j : ℕ) {r n : ℕ} → r ≡ min offset (length case) → n ≡ posPart (getD case (r + j) (pos 0)) → n ≡ posPart (getD case (offset + j) (pos 0))
+count-in case offset j e h = h ∙ ap posPart (number-in case offset j e refl)
 
 -- the same of a row's first number
-pub first-number : (case : List ℤ) (row : ℕ) {r : ℕ} {z : ℤ} → r ≡ min row (length case) → z ≡ getD case (r + 0) (pos 0) → z ≡ getD case row (pos 0)
-first-number case row e h = number-in case row 0 e h ∙ ap (λ (i : ℕ). getD case i (pos 0)) (add-zero row)
+pub first-number : (case : List ℤ) (offset : ℕ) {r : ℕ} {z : ℤ} → r ≡ min offset (length case) → z ≡ getD case (r + 0) (pos 0) → z ≡ getD case offset (pos 0)
+first-number case offset e h = number-in case offset 0 e h ∙ ap (λ (i : ℕ). getD case i (pos 0)) (add-zero offset)
 
-pub first-count : (case : List ℤ) (row : ℕ) {r n : ℕ} → r ≡ min row (length case) → n ≡ posPart (getD case (r + 0) (pos 0)) → n ≡ posPart (getD case row (pos 0))
-first-count case row e h = h ∙ ap posPart (first-number case row e refl)
+pub first-count : (case : List ℤ) (offset : ℕ) {r n : ℕ} → r ≡ min offset (length case) → n ≡ posPart (getD case (r + 0) (pos 0)) → n ≡ posPart (getD case offset (pos 0))
+first-count case offset e h = h ∙ ap posPart (first-number case offset e refl)

@@ -16,17 +16,17 @@ pub arc-row : (l : List ℤ) (e : ℕ) {first : ℕ} → first ≡ arcAt l 0 →
 unfolding arcAt
 arc-row l e h = omega (arith, h)
 
-pub state-row : (l : List ℤ) (row z : ℕ) {d : ℕ} → d ≡ directionsAt l row → row + 5 + d * 3 + z * 4 ≡ stateAt l row z
+pub state-row : (l : List ℤ) (offset z : ℕ) {d : ℕ} → d ≡ directionsAt l offset → offset + 5 + d * 3 + z * 4 ≡ stateAt l offset z
 unfolding stateAt directionAt
-state-row l row z h = rw h
+state-row l offset z h = rw h
 
-pub machine-row : (l : List ℤ) (row m : ℕ) {first : ℕ} → first ≡ machineAt l row 0 → first + m * 2 ≡ machineAt l row m
+pub machine-row : (l : List ℤ) (offset m : ℕ) {first : ℕ} → first ≡ machineAt l offset 0 → first + m * 2 ≡ machineAt l offset m
 unfolding machineAt
-machine-row l row m h = omega (arith, h)
+machine-row l offset m h = omega (arith, h)
 
-pub arc-asked : (l : List ℤ) (e row : ℕ) {a b r : Answer} → row ≡ arcAt l e → r ≡ orElse a b → a ≡ firstNo (endFields l row) → b ≡ firstNo (kindFields l row) → r ≡ firstNo (arcFields l e)
+pub arc-asked : (l : List ℤ) (e offset : ℕ) {a b r : Answer} → offset ≡ arcAt l e → r ≡ orElse a b → a ≡ firstNo (endFields l offset) → b ≡ firstNo (kindFields l offset) → r ≡ firstNo (arcFields l e)
 unfolding arcFields
-arc-asked l e row h o p q = rw (← h, firstNo-append) (chain o p q)
+arc-asked l e offset h o p q = rw (← h, firstNo-append) (chain o p q)
 
 -- where the arcs' rows begin, and the stations'
 pub first-arc : (l : List ℤ) {n k : ℕ} → n ≡ nodesOf l → k ≡ stepsOf l → 7 + k + n * (6 + k) ≡ arcAt l 0

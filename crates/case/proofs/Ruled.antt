@@ -13,7 +13,7 @@ use Rattle.numbers.specs.declared.answer.Answer.the-variants.{Yes, No}
 use Rattle.case.specs.declared.records.Layout.{Layout}
 use Rattle.case.specs.law.Layout.{stationsOf, stationAt, directionsAt}
 use Rattle.case.specs.law.Records.{stationOf, directionRow}
-use Rattle.case.specs.law.LayoutOf.{Laid}
+use Rattle.case.specs.law.LayoutOf.{LayoutOf}
 use Rattle.case.specs.inside.InSet.{inSet, inBoth}
 use Rattle.case.specs.law.StationArcs.{stationArcs, every}
 use Rattle.case.specs.law.StationNodes.{stationNodes, plainNodes}
@@ -24,7 +24,7 @@ use Rattle.case.specs.law.States.{stationKept, stateSets}
 use Rattle.case.specs.inside.CountLaws.{count-same}
 
 -- 14: the stations that have the node, by the layout's sets
-pub stations-with : {l : List ℤ} {y : Layout} → Laid l y → (v : ℕ) → count (y .stations) (inSet (y .inside) v) ≡ count (stationsOf l) (inStation l v)
+pub stations-with : {l : List ℤ} {y : Layout} → LayoutOf l y → (v : ℕ) → count (y .stations) (inSet (y .inside) v) ≡ count (stationsOf l) (inStation l v)
 stations-with {l} {y} h v = rw (h .stations) (count-same (inSet (y .inside) v) (inStation l v) (stationsOf l) (λ s p. ap (λ (z : ℤ). memberOf z v) (h .inside .each s p)))
 
 pub one-no : (l : List ℤ) (v : ℕ) {n : ℕ} → n ≡ count (stationsOf l) (inStation l v) → 1 < n → No 14 0 v ≡ firstNo (oneStation l v)
@@ -45,10 +45,10 @@ unfolding stationSize
 size-yes l s e h = rw (← e, le-leb _ _ h)
 
 -- 16: the answer by what was found of all directions
-pub directions-asked : (l : List ℤ) (s row : ℕ) (inside plain : ℤ) {b v : Bool} → row ≡ stationAt l s → inside ≡ stationNodes l s → plain ≡ plainNodes l
-    → b ≡ every (directionsAt l row) (λ f. setsKept (inBoth inside plain) (directionRow l row f)) → b ≡ v → answer v 16 0 s ≡ firstNo (directionSets l s)
+pub directions-asked : (l : List ℤ) (s offset : ℕ) (inside plain : ℤ) {b v : Bool} → offset ≡ stationAt l s → inside ≡ stationNodes l s → plain ≡ plainNodes l
+    → b ≡ every (directionsAt l offset) (λ f. setsKept (inBoth inside plain) (directionRow l offset f)) → b ≡ v → answer v 16 0 s ≡ firstNo (directionSets l s)
 unfolding directionSets
-directions-asked l s row inside plain {b} {v} r i p e w =
+directions-asked l s offset inside plain {b} {v} r i p e w =
     let k : b ≡ every (stationOf l s .directions) (directionKept l s) = rw (r, i, p) at e in
     rw (sym k ∙ w) (single v)
   where

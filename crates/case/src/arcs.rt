@@ -16,31 +16,31 @@ use super::offsets::last;
 use numbers::answer::Answer;
 use numbers::answer::or_else;
 
-fn end_fields(case: &[i64], row: usize) -> Answer
-    requires { ⌜ row < 10000 ⌝ }
-    ensures { λ r. ⌜ r ≡ firstNo (endFields (now (case .entry)) row) ⌝ }
+fn end_fields(case: &[i64], offset: usize) -> Answer
+    requires { ⌜ offset < 10000 ⌝ }
+    ensures { λ r. ⌜ r ≡ firstNo (endFields (now (case .entry)) offset) ⌝ }
 {
     let last_node = last(count(case, 0, 1));
     or_else(
-        field(case, row, 0, 6),
+        field(case, offset, 0, 6),
         or_else(
-            fields(case, row + 1, 2, 0, last_node),
-            field(case, row + 3, 0, MOST_FLOW),
+            fields(case, offset + 1, 2, 0, last_node),
+            field(case, offset + 3, 0, MOST_FLOW),
         ),
     )
 }
 
-fn pipe_fields(case: &[i64], row: usize) -> Answer
-    requires { ⌜ row < 10000 ⌝ }
-    ensures { λ r. ⌜ r ≡ firstNo (pipeFields (now (case .entry)) row) ⌝ }
+fn pipe_fields(case: &[i64], offset: usize) -> Answer
+    requires { ⌜ offset < 10000 ⌝ }
+    ensures { λ r. ⌜ r ≡ firstNo (pipeFields (now (case .entry)) offset) ⌝ }
 {
     or_else(
-        field(case, row + 4, 1, 100000000),
+        field(case, offset + 4, 1, 100000000),
         or_else(
-            fields(case, row + 5, 2, 0, 10000000),
+            fields(case, offset + 5, 2, 0, 10000000),
             or_else(
-                field(case, row + 7, -200000, 200000),
-                fields(case, row + 8, 3, 0, 0),
+                field(case, offset + 7, -200000, 200000),
+                fields(case, offset + 8, 3, 0, 0),
             ),
         ),
     )
@@ -56,51 +56,54 @@ fn least_both_ways(kind: usize) -> i64
     }
 }
 
-fn member_fields(case: &[i64], row: usize, kind: usize) -> Answer
-    requires { ⌜ (row < 10000) × (kind ≡ countAt (now case) row) ⌝ }
-    ensures { λ r. ⌜ r ≡ firstNo (memberFields (now (case .entry)) row) ⌝ }
+fn member_fields(case: &[i64], offset: usize, kind: usize) -> Answer
+    requires { ⌜ (offset < 10000) × (kind ≡ countAt (now case) offset) ⌝ }
+    ensures { λ r. ⌜ r ≡ firstNo (memberFields (now (case .entry)) offset) ⌝ }
 {
     let last_station = last(count(case, 0, 3));
     let least = least_both_ways(kind);
     or_else(
-        field(case, row + 4, 0, last_station),
+        field(case, offset + 4, 0, last_station),
         or_else(
-            field(case, row + 5, least, 1),
+            field(case, offset + 5, least, 1),
             or_else(
-                field(case, row + 6, 0, MOST_WEIGHT),
-                field(case, row + 7, 0, 1),
+                field(case, offset + 6, 0, MOST_WEIGHT),
+                field(case, offset + 7, 0, 1),
             ),
         ),
     )
 }
 
-fn compressor_fields(case: &[i64], row: usize) -> Answer
-    requires { ⌜ row < 10000 ⌝ }
-    ensures { λ r. ⌜ r ≡ firstNo (compressorFields (now (case .entry)) row) ⌝ }
+fn compressor_fields(case: &[i64], offset: usize) -> Answer
+    requires { ⌜ offset < 10000 ⌝ }
+    ensures { λ r. ⌜ r ≡ firstNo (compressorFields (now (case .entry)) offset) ⌝ }
 {
     or_else(
-        field(case, row + 8, 0, 4095),
+        field(case, offset + 8, 0, 4095),
         or_else(
-            field(case, row + 9, 0, 12),
-            field(case, row + 10, 0, MOST_PRESSURE),
+            field(case, offset + 9, 0, 12),
+            field(case, offset + 10, 0, MOST_PRESSURE),
         ),
     )
 }
 
 // The seven fields past the first four.
-fn kind_fields(case: &[i64], row: usize) -> Answer
-    requires { ⌜ row < 10000 ⌝ }
-    ensures { λ r. ⌜ r ≡ firstNo (kindFields (now (case .entry)) row) ⌝ }
+fn kind_fields(case: &[i64], offset: usize) -> Answer
+    requires { ⌜ offset < 10000 ⌝ }
+    ensures { λ r. ⌜ r ≡ firstNo (kindFields (now (case .entry)) offset) ⌝ }
 {
-    let kind = count(case, row, 0);
+    let kind = count(case, offset, 0);
     match kind {
-        0 | 1 => fields(case, row + 4, 7, 0, 0),
-        2 => pipe_fields(case, row),
+        0 | 1 => fields(case, offset + 4, 7, 0, 0),
+        2 => pipe_fields(case, offset),
         3 | 4 => or_else(
-            member_fields(case, row, kind),
-            fields(case, row + 8, 3, 0, 0),
+            member_fields(case, offset, kind),
+            fields(case, offset + 8, 3, 0, 0),
         ),
-        _ => or_else(member_fields(case, row, kind), compressor_fields(case, row)),
+        _ => or_else(
+            member_fields(case, offset, kind),
+            compressor_fields(case, offset),
+        ),
     }
 }
 
@@ -110,8 +113,8 @@ pub(crate) fn arc_rows(case: &[i64], first: usize, arcs: usize) -> Answer
 {
     let mut e: usize = 0;
     while e < arcs {
-        let row = first + e * ARC;
-        let a = or_else(end_fields(case, row), kind_fields(case, row));
+        let offset = first + e * ARC;
+        let a = or_else(end_fields(case, offset), kind_fields(case, offset));
         match a {
             Answer::Yes => {}
             Answer::No {

@@ -6,9 +6,9 @@ ghost use Rattle.numbers.specs.law.Question.{firstNo, told};
 ghost use Rattle.case.specs.law.Layout.{arcsOf, stationsOf, stationAt};
 ghost use Rattle.case.specs.law.StationNodes.{stationNodes};
 ghost use Rattle.case.specs.inside.Counts.{Counted, StationsCounted};
-ghost use Rattle.case.specs.law.LayoutOf.{Holds, Clear, Laid};
+ghost use Rattle.case.specs.law.LayoutOf.{Holds, Clear, LayoutOf};
 ghost use Rattle.case.specs.law.Judged.{rowQuestions, listQuestions, judgedCase};
-ghost use Rattle.case.specs.law.LayoutOf.{LaidOut};
+ghost use Rattle.case.specs.law.LayoutOf.{LayingOf};
 use super::arcs::arc_rows;
 use super::head::head;
 use super::head::times;
@@ -69,15 +69,15 @@ fn station_firsts(case: &[i64], first: usize, stations: usize) -> [usize; 8]
     requires { ⌜ (first ≤ 5000) × (first ≡ stationAt (now case) 0) × (stations ≤ 8) × (stations ≡ stationsOf (now case)) × (StationsCounted (now case)) ⌝ }
     ensures { λ r. ⌜ (Holds 0 r (stationAt (now (case .entry))) stations) × (Clear 0 r stations) ⌝ }
 {
-    let mut rows = [0usize; 8];
-    let mut row = first;
+    let mut offsets = [0usize; 8];
+    let mut offset = first;
     let mut s: usize = 0;
     while s < stations {
-        rows[s] = row;
-        row = station_end(case, row);
+        offsets[s] = offset;
+        offset = station_end(case, offset);
         s += 1;
     }
-    rows
+    offsets
 }
 
 // Each station's nodes.
@@ -97,21 +97,21 @@ fn insides(case: &[i64], arcs: usize, stations: usize) -> [i64; 8]
 // The layout of a case whose fields are all there and in range.
 fn lay(case: &[i64]) -> Layout
     requires { ⌜ (Counted (now case)) × (StationsCounted (now case)) ⌝ }
-    ensures { λ r. ⌜ Laid (now (case .entry)) r ⌝ }
+    ensures { λ r. ⌜ LayoutOf (now (case .entry)) r ⌝ }
 {
     let nodes = count(case, 0, 1);
     let arcs = count(case, 0, 2);
     let stations = count(case, 0, 3);
     let steps = count(case, 0, 4);
     let first = HEAD + steps + nodes * (NODE + steps) + arcs * ARC;
-    let rows = station_firsts(case, first, stations);
+    let offsets = station_firsts(case, first, stations);
     let inside = insides(case, arcs, stations);
     Layout {
         steps: steps,
         nodes: nodes,
         arcs: arcs,
         stations: stations,
-        rows: rows,
+        offsets: offsets,
         inside: inside,
         plain: plain_nodes(case, arcs),
     }
@@ -119,7 +119,7 @@ fn lay(case: &[i64]) -> Layout
 
 // The answer on a case with its layout, one of zeros where 10 to 12 refuse the list: nobody reads on there.
 pub fn judge_and_lay(case: &[i64]) -> Laying
-    ensures { λ r. ⌜ LaidOut (now (case .entry)) r ⌝ }
+    ensures { λ r. ⌜ LayingOf (now (case .entry)) r ⌝ }
 {
     let a = list_answer(case);
     match a {
@@ -141,7 +141,7 @@ pub fn judge_and_lay(case: &[i64]) -> Laying
                 nodes: 0,
                 arcs: 0,
                 stations: 0,
-                rows: [0; 8],
+                offsets: [0; 8],
                 inside: [0; 8],
                 plain: 0,
             },

@@ -13,9 +13,9 @@ use super::offsets::count;
 pub(crate) fn belongs(case: &[i64], s: usize, e: usize) -> bool
     ensures { λ r. ⌜ r ≡ belongs (now (case .entry)) s e ⌝ }
 {
-    let row = arc_at(case, e);
-    if 3 <= count(case, row, 0) {
-        count(case, row, 4) == s
+    let offset = arc_at(case, e);
+    if 3 <= count(case, offset, 0) {
+        count(case, offset, 4) == s
     } else {
         false
     }
@@ -25,8 +25,8 @@ pub(crate) fn belongs(case: &[i64], s: usize, e: usize) -> bool
 pub(crate) fn plain(case: &[i64], e: usize) -> bool
     ensures { λ r. ⌜ r ≡ plain (now (case .entry)) e ⌝ }
 {
-    let row = arc_at(case, e);
-    count(case, row, 0) <= 2
+    let offset = arc_at(case, e);
+    count(case, offset, 0) <= 2
 }
 
 // How many of the first `arcs` arcs are the station's.
@@ -78,8 +78,8 @@ pub(crate) fn start_set(case: &[i64], s: usize, arcs: usize) -> i64
 pub fn active(case: &[i64], e: usize) -> bool
     ensures { λ r. ⌜ r ≡ activeAtStart (now (case .entry)) e ⌝ }
 {
-    let row = arc_at(case, e);
-    1 <= count(case, row, 7)
+    let offset = arc_at(case, e);
+    1 <= count(case, offset, 7)
 }
 
 // The set with the node in it.
@@ -93,8 +93,11 @@ fn with_node(set: usize, v: usize) -> usize
 fn with_ends(case: &[i64], set: usize, e: usize) -> usize
     ensures { λ r. ⌜ r ≡ withEnds (now (case .entry)) set e ⌝ }
 {
-    let row = arc_at(case, e);
-    with_node(with_node(set, count(case, row, 1)), count(case, row, 2))
+    let offset = arc_at(case, e);
+    with_node(
+        with_node(set, count(case, offset, 1)),
+        count(case, offset, 2),
+    )
 }
 
 // The ends of the station's arcs among the first `arcs`, as a node set.

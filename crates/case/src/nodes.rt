@@ -17,35 +17,35 @@ use super::offsets::number;
 use numbers::answer::Answer;
 use numbers::answer::or_else;
 
-fn bound_fields(case: &[i64], row: usize) -> Answer
-    requires { ⌜ row < 10000 ⌝ }
-    ensures { λ r. ⌜ r ≡ firstNo (boundFields (now (case .entry)) row) ⌝ }
+fn bound_fields(case: &[i64], offset: usize) -> Answer
+    requires { ⌜ offset < 10000 ⌝ }
+    ensures { λ r. ⌜ r ≡ firstNo (boundFields (now (case .entry)) offset) ⌝ }
 {
-    let low = number(case, row, 2);
-    let high = number(case, row, 3);
-    let actlow = number(case, row, 4);
+    let low = number(case, offset, 2);
+    let high = number(case, offset, 3);
+    let actlow = number(case, offset, 4);
     or_else(
-        field(case, row, 0, 2),
+        field(case, offset, 0, 2),
         or_else(
-            fields(case, row + 1, 3, 0, MOST_PRESSURE),
+            fields(case, offset + 1, 3, 0, MOST_PRESSURE),
             or_else(
-                field(case, row + 4, low, MOST_PRESSURE),
-                field(case, row + 5, actlow, high),
+                field(case, offset + 4, low, MOST_PRESSURE),
+                field(case, offset + 5, actlow, high),
             ),
         ),
     )
 }
 
 // The demands, whose range goes by the node's kind.
-fn demand_fields(case: &[i64], row: usize, steps: usize) -> Answer
-    requires { ⌜ (row < 10000) × (steps ≤ 48) × (steps ≡ stepsOf (now case)) ⌝ }
-    ensures { λ r. ⌜ r ≡ firstNo (demandFields (now (case .entry)) row) ⌝ }
+fn demand_fields(case: &[i64], offset: usize, steps: usize) -> Answer
+    requires { ⌜ (offset < 10000) × (steps ≤ 48) × (steps ≡ stepsOf (now case)) ⌝ }
+    ensures { λ r. ⌜ r ≡ firstNo (demandFields (now (case .entry)) offset) ⌝ }
 {
-    let kind = count(case, row, 0);
+    let kind = count(case, offset, 0);
     match kind {
-        1 => fields(case, row + NODE, steps, 0, MOST_FLOW),
-        2 => fields(case, row + NODE, steps, LEAST_FLOW, 0),
-        _ => fields(case, row + NODE, steps, 0, 0),
+        1 => fields(case, offset + NODE, steps, 0, MOST_FLOW),
+        2 => fields(case, offset + NODE, steps, LEAST_FLOW, 0),
+        _ => fields(case, offset + NODE, steps, 0, 0),
     }
 }
 
@@ -53,8 +53,11 @@ fn node_fields(case: &[i64], steps: usize, v: usize) -> Answer
     requires { ⌜ (v < 60) × (steps ≤ 48) × (steps ≡ stepsOf (now case)) ⌝ }
     ensures { λ r. ⌜ r ≡ firstNo (nodeFields (now (case .entry)) v) ⌝ }
 {
-    let row = HEAD + steps + v * (NODE + steps);
-    or_else(bound_fields(case, row), demand_fields(case, row, steps))
+    let offset = HEAD + steps + v * (NODE + steps);
+    or_else(
+        bound_fields(case, offset),
+        demand_fields(case, offset, steps),
+    )
 }
 
 pub(crate) fn node_rows(case: &[i64], steps: usize, nodes: usize) -> Answer

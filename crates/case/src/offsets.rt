@@ -22,22 +22,22 @@ pub(crate) const STATE: usize = 4;
 
 pub(crate) const MACHINE: usize = 2;
 
-// The number `j` places into the row that begins at `row`.
-pub(crate) fn number(case: &[i64], row: usize, j: usize) -> i64
-    ensures { λ r. ⌜ r ≡ numberAt (now (case .entry)) (row + j) ⌝ }
+// The number `j` places into the row that begins at `offset`.
+pub(crate) fn number(case: &[i64], offset: usize, j: usize) -> i64
+    ensures { λ r. ⌜ r ≡ numberAt (now (case .entry)) (offset + j) ⌝ }
 {
-    if row < case.len() {
-        if j < case.len() - row {
-            return case[row + j];
+    if offset < case.len() {
+        if j < case.len() - offset {
+            return case[offset + j];
         }
     }
     0
 }
 
-pub(crate) fn count(case: &[i64], row: usize, j: usize) -> usize
-    ensures { λ r. ⌜ Counts (now (case .entry)) (row + j) r ⌝ }
+pub(crate) fn count(case: &[i64], offset: usize, j: usize) -> usize
+    ensures { λ r. ⌜ Counts (now (case .entry)) (offset + j) r ⌝ }
 {
-    index(number(case, row, j))
+    index(number(case, offset, j))
 }
 
 // The place `count` rows of `width` numbers past `at`, or the end.
@@ -68,25 +68,25 @@ pub(crate) fn arc_at(case: &[i64], e: usize) -> usize
     along(case.len(), node_at(case, nodes), e, ARC)
 }
 
-pub(crate) fn direction_at(case: &[i64], row: usize, f: usize) -> usize
-    ensures { λ r. ⌜ r ≡ min (directionAt row f) (length (now (case .entry))) ⌝ }
+pub(crate) fn direction_at(case: &[i64], offset: usize, f: usize) -> usize
+    ensures { λ r. ⌜ r ≡ min (directionAt offset f) (length (now (case .entry))) ⌝ }
 {
     let end = case.len();
-    along(end, along(end, row, STATION, 1), f, DIRECTION)
+    along(end, along(end, offset, STATION, 1), f, DIRECTION)
 }
 
-pub(crate) fn state_at(case: &[i64], row: usize, z: usize) -> usize
-    ensures { λ r. ⌜ r ≡ min (stateAt (now (case .entry)) row z) (length (now (case .entry))) ⌝ }
+pub(crate) fn state_at(case: &[i64], offset: usize, z: usize) -> usize
+    ensures { λ r. ⌜ r ≡ min (stateAt (now (case .entry)) offset z) (length (now (case .entry))) ⌝ }
 {
-    let directions = count(case, row, 0);
-    along(case.len(), direction_at(case, row, directions), z, STATE)
+    let directions = count(case, offset, 0);
+    along(case.len(), direction_at(case, offset, directions), z, STATE)
 }
 
-pub(crate) fn machine_at(case: &[i64], row: usize, m: usize) -> usize
-    ensures { λ r. ⌜ r ≡ min (machineAt (now (case .entry)) row m) (length (now (case .entry))) ⌝ }
+pub(crate) fn machine_at(case: &[i64], offset: usize, m: usize) -> usize
+    ensures { λ r. ⌜ r ≡ min (machineAt (now (case .entry)) offset m) (length (now (case .entry))) ⌝ }
 {
-    let states = count(case, row, 1);
-    along(case.len(), state_at(case, row, states), m, MACHINE)
+    let states = count(case, offset, 1);
+    along(case.len(), state_at(case, offset, states), m, MACHINE)
 }
 
 // The last index of `n` items, -1 where there are none.

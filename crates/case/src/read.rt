@@ -37,24 +37,24 @@ pub fn time_before(case: &[i64], i: usize) -> i64
 pub fn node(case: &[i64], v: usize, i: usize) -> Node
     ensures { λ r. ⌜ r ≡ nodeOf (now (case .entry)) v i ⌝ }
 {
-    let row = node_at(case, v);
+    let offset = node_at(case, v);
     Node {
-        kind: count(case, row, 0),
-        p0: number(case, row, 1),
-        low: number(case, row, 2),
-        high: number(case, row, 3),
-        actlow: number(case, row, 4),
-        acthigh: number(case, row, 5),
-        demand: demand(case, row, i),
+        kind: count(case, offset, 0),
+        p0: number(case, offset, 1),
+        low: number(case, offset, 2),
+        high: number(case, offset, 3),
+        actlow: number(case, offset, 4),
+        acthigh: number(case, offset, 5),
+        demand: demand(case, offset, i),
     }
 }
 
-// The demand in the step with index `i` of the node whose row begins at `row`.
-fn demand(case: &[i64], row: usize, i: usize) -> i64
-    ensures { λ r. ⌜ r ≡ numberAt (now (case .entry)) (demandsAt row + i) ⌝ }
+// The demand in the step with index `i` of the node whose row begins at `offset`.
+fn demand(case: &[i64], offset: usize, i: usize) -> i64
+    ensures { λ r. ⌜ r ≡ numberAt (now (case .entry)) (demandsAt offset + i) ⌝ }
 {
     if i < case.len() {
-        number(case, row, NODE + i)
+        number(case, offset, NODE + i)
     } else {
         0
     }
@@ -63,47 +63,47 @@ fn demand(case: &[i64], row: usize, i: usize) -> i64
 pub(crate) fn arc(case: &[i64], e: usize) -> Arc
     ensures { λ r. ⌜ r ≡ arcOf (now (case .entry)) e ⌝ }
 {
-    let row = arc_at(case, e);
+    let offset = arc_at(case, e);
     Arc {
-        kind: count(case, row, 0),
-        from: count(case, row, 1),
-        to: count(case, row, 2),
-        qmax: number(case, row, 3),
+        kind: count(case, offset, 0),
+        from: count(case, offset, 1),
+        to: count(case, offset, 2),
+        qmax: number(case, offset, 3),
     }
 }
 
 pub(crate) fn artificial(case: &[i64], e: usize) -> Artificial
     ensures { λ r. ⌜ r ≡ artificialOf (now (case .entry)) e ⌝ }
 {
-    let row = arc_at(case, e);
+    let offset = arc_at(case, e);
     Artificial {
-        station: count(case, row, 4),
-        bothways: count(case, row, 5),
-        weight: count(case, row, 6),
-        active: count(case, row, 7),
-        machines: number(case, row, 8),
-        most: count(case, row, 9),
-        outbound: number(case, row, 10),
+        station: count(case, offset, 4),
+        bothways: count(case, offset, 5),
+        weight: count(case, offset, 6),
+        active: count(case, offset, 7),
+        machines: number(case, offset, 8),
+        most: count(case, offset, 9),
+        outbound: number(case, offset, 10),
     }
 }
 
-// The station whose rows begin at `row`, and its directions, states and machines.
-pub fn station(case: &[i64], row: usize) -> Station
-    ensures { λ r. ⌜ r ≡ stationRow (now (case .entry)) row ⌝ }
+// The station whose rows begin at `offset`, and its directions, states and machines.
+pub fn station(case: &[i64], offset: usize) -> Station
+    ensures { λ r. ⌜ r ≡ stationRow (now (case .entry)) offset ⌝ }
 {
     Station {
-        directions: count(case, row, 0),
-        states: count(case, row, 1),
-        machines: count(case, row, 2),
-        direction: count(case, row, 3),
-        state: count(case, row, 4),
+        directions: count(case, offset, 0),
+        states: count(case, offset, 1),
+        machines: count(case, offset, 2),
+        direction: count(case, offset, 3),
+        state: count(case, offset, 4),
     }
 }
 
-pub fn direction(case: &[i64], row: usize, f: usize) -> Direction
-    ensures { λ r. ⌜ r ≡ directionRow (now (case .entry)) row f ⌝ }
+pub fn direction(case: &[i64], offset: usize, f: usize) -> Direction
+    ensures { λ r. ⌜ r ≡ directionRow (now (case .entry)) offset f ⌝ }
 {
-    let at = direction_at(case, row, f);
+    let at = direction_at(case, offset, f);
     Direction {
         entry: number(case, at, 0),
         exit: number(case, at, 1),
@@ -111,10 +111,10 @@ pub fn direction(case: &[i64], row: usize, f: usize) -> Direction
     }
 }
 
-pub fn state(case: &[i64], row: usize, z: usize) -> State
-    ensures { λ r. ⌜ r ≡ stateRow (now (case .entry)) row z ⌝ }
+pub fn state(case: &[i64], offset: usize, z: usize) -> State
+    ensures { λ r. ⌜ r ≡ stateRow (now (case .entry)) offset z ⌝ }
 {
-    let at = state_at(case, row, z);
+    let at = state_at(case, offset, z);
     State {
         directions: number(case, at, 0),
         on: number(case, at, 1),
@@ -123,10 +123,10 @@ pub fn state(case: &[i64], row: usize, z: usize) -> State
     }
 }
 
-pub fn machine(case: &[i64], row: usize, m: usize) -> Machine
-    ensures { λ r. ⌜ r ≡ machineRow (now (case .entry)) row m ⌝ }
+pub fn machine(case: &[i64], offset: usize, m: usize) -> Machine
+    ensures { λ r. ⌜ r ≡ machineRow (now (case .entry)) offset m ⌝ }
 {
-    let at = machine_at(case, row, m);
+    let at = machine_at(case, offset, m);
     Machine {
         flow: number(case, at, 0),
         ratio: number(case, at, 1),

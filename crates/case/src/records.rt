@@ -71,7 +71,7 @@ pub struct Layout {
     pub nodes: usize,
     pub arcs: usize,
     pub stations: usize,
-    pub rows: [usize; 8], // where each station's rows begin
+    pub offsets: [usize; 8], // where each station's rows begin
     pub inside: [i64; 8], // each station's nodes, a node set
     pub plain: i64, // the nodes that end an arc of kind 0 to 2, a node set
 }

@@ -7,7 +7,7 @@ ghost use Rattle.numbers.specs.law.Sums.{count};
 ghost use Rattle.case.specs.law.Layout.{arcsOf, stationAt, directionsAt, statesAt};
 ghost use Rattle.case.specs.law.Records.{directionRow};
 ghost use Rattle.case.specs.inside.Ranges.{DirectionRanges};
-ghost use Rattle.case.specs.law.LayoutOf.{Laid};
+ghost use Rattle.case.specs.law.LayoutOf.{LayoutOf};
 ghost use Rattle.case.specs.inside.InSet.{inSet, inBoth};
 ghost use Rattle.case.specs.inside.Counts.{Counted, StationCounted, StationsCounted, DirectionsRanged, StationsRanged, Sized};
 ghost use Rattle.case.specs.law.ArcEnds.{allArcEnds};
@@ -71,7 +71,7 @@ fn stations_with(inside: [i64; 8], stations: usize, v: usize) -> usize
 
 // 14
 fn one_station(case: &[i64], layout: Layout) -> Answer
-    requires { ⌜ (Counted (now case)) × (Laid (now case) layout) ⌝ }
+    requires { ⌜ (Counted (now case)) × (LayoutOf (now case) layout) ⌝ }
     ensures { λ r. ⌜ r ≡ firstNo (allOneStation (now (case .entry))) ⌝ }
 {
     let inside = layout.inside;
@@ -93,7 +93,7 @@ fn one_station(case: &[i64], layout: Layout) -> Answer
 
 // 15
 fn station_size(case: &[i64], layout: Layout) -> Answer
-    requires { ⌜ Laid (now case) layout ⌝ }
+    requires { ⌜ LayoutOf (now case) layout ⌝ }
     ensures { λ r. ⌜ r ≡ firstNo (allStationSizes (now (case .entry))) ⌝ }
 {
     let arcs = layout.arcs;
@@ -124,11 +124,11 @@ fn only_fence(inside: i64, plain: i64, set: i64) -> bool
     }
 }
 
-fn direction_kept(case: &[i64], row: usize, inside: i64, plain: i64, f: usize) -> bool
-    requires { ⌜ DirectionRanges (directionRow (now case) row f) ⌝ }
-    ensures { λ r. ⌜ r ≡ setsKept (inBoth inside plain) (directionRow (now (case .entry)) row f) ⌝ }
+fn direction_kept(case: &[i64], offset: usize, inside: i64, plain: i64, f: usize) -> bool
+    requires { ⌜ DirectionRanges (directionRow (now case) offset f) ⌝ }
+    ensures { λ r. ⌜ r ≡ setsKept (inBoth inside plain) (directionRow (now (case .entry)) offset f) ⌝ }
 {
-    let d = direction(case, row, f);
+    let d = direction(case, offset, f);
     let entry = d.entry;
     let exit = d.exit;
     if disjoint(entry, exit) {
@@ -139,14 +139,14 @@ fn direction_kept(case: &[i64], row: usize, inside: i64, plain: i64, f: usize) -
     false
 }
 
-fn directions_kept(case: &[i64], row: usize, inside: i64, plain: i64) -> bool
-    requires { ⌜ DirectionsRanged (now case) row ⌝ }
-    ensures { λ r. ⌜ r ≡ every (directionsAt (now (case .entry)) row) (λ f. setsKept (inBoth inside plain) (directionRow (now (case .entry)) row f)) ⌝ }
+fn directions_kept(case: &[i64], offset: usize, inside: i64, plain: i64) -> bool
+    requires { ⌜ DirectionsRanged (now case) offset ⌝ }
+    ensures { λ r. ⌜ r ≡ every (directionsAt (now (case .entry)) offset) (λ f. setsKept (inBoth inside plain) (directionRow (now (case .entry)) offset f)) ⌝ }
 {
-    let directions = station(case, row).directions;
+    let directions = station(case, offset).directions;
     let mut f: usize = 0;
     while f < directions {
-        if !direction_kept(case, row, inside, plain, f) {
+        if !direction_kept(case, offset, inside, plain, f) {
             return false;
         }
         f += 1;
@@ -156,16 +156,16 @@ fn directions_kept(case: &[i64], row: usize, inside: i64, plain: i64) -> bool
 
 // 16
 fn direction_sets(case: &[i64], layout: Layout) -> Answer
-    requires { ⌜ (Counted (now case)) × (Laid (now case) layout) × (StationsRanged (now case)) ⌝ }
+    requires { ⌜ (Counted (now case)) × (LayoutOf (now case) layout) × (StationsRanged (now case)) ⌝ }
     ensures { λ r. ⌜ r ≡ firstNo (allDirectionSets (now (case .entry))) ⌝ }
 {
     let plain = layout.plain;
     let stations = layout.stations;
     let mut s: usize = 0;
     while s < stations {
-        let row = layout.rows[s];
+        let offset = layout.offsets[s];
         let inside = layout.inside[s];
-        if !directions_kept(case, row, inside, plain) {
+        if !directions_kept(case, offset, inside, plain) {
             return Answer::No {
                 number: 16,
                 step: 0,
@@ -177,10 +177,10 @@ fn direction_sets(case: &[i64], layout: Layout) -> Answer
     Answer::Yes
 }
 
-fn state_kept(case: &[i64], row: usize, own: i64, z: usize) -> bool
-    ensures { λ r. ⌜ r ≡ stateKept (now (case .entry)) row own z ⌝ }
+fn state_kept(case: &[i64], offset: usize, own: i64, z: usize) -> bool
+    ensures { λ r. ⌜ r ≡ stateKept (now (case .entry)) offset own z ⌝ }
 {
-    let a = state(case, row, z);
+    let a = state(case, offset, z);
     let on = a.on;
     let off = a.off;
     if disjoint(on, off) {
@@ -191,13 +191,13 @@ fn state_kept(case: &[i64], row: usize, own: i64, z: usize) -> bool
     false
 }
 
-fn states_kept(case: &[i64], row: usize, own: i64) -> bool
-    ensures { λ r. ⌜ r ≡ every (statesAt (now (case .entry)) row) (stateKept (now (case .entry)) row own) ⌝ }
+fn states_kept(case: &[i64], offset: usize, own: i64) -> bool
+    ensures { λ r. ⌜ r ≡ every (statesAt (now (case .entry)) offset) (stateKept (now (case .entry)) offset own) ⌝ }
 {
-    let states = station(case, row).states;
+    let states = station(case, offset).states;
     let mut z: usize = 0;
     while z < states {
-        if !state_kept(case, row, own, z) {
+        if !state_kept(case, offset, own, z) {
             return false;
         }
         z += 1;
@@ -223,11 +223,11 @@ fn machines_kept(case: &[i64], s: usize, own: i64, arcs: usize) -> bool
 }
 
 // Does activity at step 0 obey the step-0 state?
-fn start_kept(case: &[i64], row: usize, active: i64) -> bool
-    ensures { λ r. ⌜ r ≡ startKept (now (case .entry)) row active ⌝ }
+fn start_kept(case: &[i64], offset: usize, active: i64) -> bool
+    ensures { λ r. ⌜ r ≡ startKept (now (case .entry)) offset active ⌝ }
 {
-    let z = station(case, row).state;
-    let a = state(case, row, z);
+    let z = station(case, offset).state;
+    let a = state(case, offset, z);
     let on = a.on;
     let off = a.off;
     if subset(on, active) {
@@ -237,16 +237,16 @@ fn start_kept(case: &[i64], row: usize, active: i64) -> bool
     }
 }
 
-fn station_kept(case: &[i64], row: usize, s: usize, arcs: usize) -> bool
-    requires { ⌜ (row ≡ stationAt (now case) s) × (arcs ≡ arcsOf (now case)) × (stationArcs (now case) s ≤ 30) × (StationCounted (now case) row) ⌝ }
+fn station_kept(case: &[i64], offset: usize, s: usize, arcs: usize) -> bool
+    requires { ⌜ (offset ≡ stationAt (now case) s) × (arcs ≡ arcsOf (now case)) × (stationArcs (now case) s ≤ 30) × (StationCounted (now case) offset) ⌝ }
     ensures { λ r. ⌜ r ≡ stationKept (now (case .entry)) s ⌝ }
 {
     let own_arcs = first_items(station_arcs(case, s, arcs));
-    let own_machines = first_items(station(case, row).machines);
+    let own_machines = first_items(station(case, offset).machines);
     let active = start_set(case, s, arcs);
-    if states_kept(case, row, own_arcs) {
+    if states_kept(case, offset, own_arcs) {
         if machines_kept(case, s, own_machines, arcs) {
-            return start_kept(case, row, active);
+            return start_kept(case, offset, active);
         }
     }
     false
@@ -254,15 +254,15 @@ fn station_kept(case: &[i64], row: usize, s: usize, arcs: usize) -> bool
 
 // 17
 fn state_sets(case: &[i64], layout: Layout) -> Answer
-    requires { ⌜ (Counted (now case)) × (Laid (now case) layout) × (Sized (now case)) × (StationsCounted (now case)) ⌝ }
+    requires { ⌜ (Counted (now case)) × (LayoutOf (now case) layout) × (Sized (now case)) × (StationsCounted (now case)) ⌝ }
     ensures { λ r. ⌜ r ≡ firstNo (allStateSets (now (case .entry))) ⌝ }
 {
     let arcs = layout.arcs;
     let stations = layout.stations;
     let mut s: usize = 0;
     while s < stations {
-        let row = layout.rows[s];
-        if !station_kept(case, row, s, arcs) {
+        let offset = layout.offsets[s];
+        if !station_kept(case, offset, s, arcs) {
             return Answer::No {
                 number: 17,
                 step: 0,
@@ -276,7 +276,7 @@ fn state_sets(case: &[i64], layout: Layout) -> Answer
 
 // 13 to 16, and then 17, which leans on 15.
 pub(crate) fn rules(case: &[i64], layout: Layout) -> Answer
-    requires { ⌜ (Counted (now case)) × (Laid (now case) layout) × (StationsCounted (now case)) × (StationsRanged (now case)) ⌝ }
+    requires { ⌜ (Counted (now case)) × (LayoutOf (now case) layout) × (StationsCounted (now case)) × (StationsRanged (now case)) ⌝ }
     ensures { λ r. ⌜ r ≡ firstNo (ruleQuestions (now (case .entry))) ⌝ }
 {
     let arcs = layout.arcs;

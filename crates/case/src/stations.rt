@@ -30,34 +30,34 @@ pub(crate) fn first_items(n: usize) -> i64
     ((1usize << n) - 1) as i64
 }
 
-pub(crate) fn station_head(case: &[i64], row: usize) -> Answer
-    requires { ⌜ row < 10000 ⌝ }
-    ensures { λ r. ⌜ r ≡ firstNo (stationHead (now (case .entry)) row) ⌝ }
+pub(crate) fn station_head(case: &[i64], offset: usize) -> Answer
+    requires { ⌜ offset < 10000 ⌝ }
+    ensures { λ r. ⌜ r ≡ firstNo (stationHead (now (case .entry)) offset) ⌝ }
 {
-    let last_direction = last(count(case, row, 0));
-    let last_state = last(count(case, row, 1));
+    let last_direction = last(count(case, offset, 0));
+    let last_state = last(count(case, offset, 1));
     or_else(
-        field(case, row, 1, 8),
+        field(case, offset, 1, 8),
         or_else(
-            field(case, row + 1, 1, 16),
+            field(case, offset + 1, 1, 16),
             or_else(
-                field(case, row + 2, 0, 12),
+                field(case, offset + 2, 0, 12),
                 or_else(
-                    field(case, row + 3, 0, last_direction),
-                    field(case, row + 4, 0, last_state),
+                    field(case, offset + 3, 0, last_direction),
+                    field(case, offset + 4, 0, last_state),
                 ),
             ),
         ),
     )
 }
 
-fn direction_rows(case: &[i64], row: usize, directions: usize) -> Answer
-    requires { ⌜ (row < 10000) × (directions ≤ 8) ⌝ }
-    ensures { λ r. ⌜ r ≡ firstNo (over (directionFields (now (case .entry)) row) 0 directions) ⌝ }
+fn direction_rows(case: &[i64], offset: usize, directions: usize) -> Answer
+    requires { ⌜ (offset < 10000) × (directions ≤ 8) ⌝ }
+    ensures { λ r. ⌜ r ≡ firstNo (over (directionFields (now (case .entry)) offset) 0 directions) ⌝ }
 {
     let mut f: usize = 0;
     while f < directions {
-        let at = row + STATION + f * DIRECTION;
+        let at = offset + STATION + f * DIRECTION;
         let a = or_else(
             fields(case, at, 2, 0, 1152921504606846975),
             field(case, at + 2, 0, MOST_WEIGHT),
@@ -90,12 +90,12 @@ fn state_fields(case: &[i64], at: usize, sets: i64) -> Answer
     )
 }
 
-fn state_rows(case: &[i64], row: usize, directions: usize, states: usize) -> Answer
-    requires { ⌜ (row < 10000) × (directions ≤ 8) × (directions ≡ directionsAt (now case) row) × (states ≤ 16) ⌝ }
-    ensures { λ r. ⌜ r ≡ firstNo (over (stateFields (now (case .entry)) row) 0 states) ⌝ }
+fn state_rows(case: &[i64], offset: usize, directions: usize, states: usize) -> Answer
+    requires { ⌜ (offset < 10000) × (directions ≤ 8) × (directions ≡ directionsAt (now case) offset) × (states ≤ 16) ⌝ }
+    ensures { λ r. ⌜ r ≡ firstNo (over (stateFields (now (case .entry)) offset) 0 states) ⌝ }
 {
     let sets = first_items(directions);
-    let first = row + STATION + directions * DIRECTION;
+    let first = offset + STATION + directions * DIRECTION;
     let mut z: usize = 0;
     while z < states {
         let a = state_fields(case, first + z * STATE, sets);
@@ -114,9 +114,9 @@ fn state_rows(case: &[i64], row: usize, directions: usize, states: usize) -> Ans
     Answer::Yes
 }
 
-fn machine_rows(case: &[i64], row: usize, first: usize, machines: usize) -> Answer
-    requires { ⌜ (first < 20000) × (first ≡ machineAt (now case) row 0) × (machines ≤ 12) ⌝ }
-    ensures { λ r. ⌜ r ≡ firstNo (over (machineFields (now (case .entry)) row) 0 machines) ⌝ }
+fn machine_rows(case: &[i64], offset: usize, first: usize, machines: usize) -> Answer
+    requires { ⌜ (first < 20000) × (first ≡ machineAt (now case) offset 0) × (machines ≤ 12) ⌝ }
+    ensures { λ r. ⌜ r ≡ firstNo (over (machineFields (now (case .entry)) offset) 0 machines) ⌝ }
 {
     let mut m: usize = 0;
     while m < machines {
@@ -141,35 +141,35 @@ fn machine_rows(case: &[i64], row: usize, first: usize, machines: usize) -> Answ
 }
 
 // The directions, states and machines of a station whose counts are in range.
-fn part_rows(case: &[i64], row: usize) -> Answer
-    requires { ⌜ (row < 10000) × (StationCounted (now case) row) ⌝ }
-    ensures { λ r. ⌜ r ≡ firstNo (partFields (now (case .entry)) row) ⌝ }
+fn part_rows(case: &[i64], offset: usize) -> Answer
+    requires { ⌜ (offset < 10000) × (StationCounted (now case) offset) ⌝ }
+    ensures { λ r. ⌜ r ≡ firstNo (partFields (now (case .entry)) offset) ⌝ }
 {
-    let directions = count(case, row, 0);
-    let states = count(case, row, 1);
-    let machines = count(case, row, 2);
+    let directions = count(case, offset, 0);
+    let states = count(case, offset, 1);
+    let machines = count(case, offset, 2);
     or_else(
-        direction_rows(case, row, directions),
+        direction_rows(case, offset, directions),
         or_else(
-            state_rows(case, row, directions, states),
+            state_rows(case, offset, directions, states),
             machine_rows(
                 case,
-                row,
-                row + STATION + directions * DIRECTION + states * STATE,
+                offset,
+                offset + STATION + directions * DIRECTION + states * STATE,
                 machines,
             ),
         ),
     )
 }
 
-// All rows of the station whose rows begin at `row`.
-fn station_fields(case: &[i64], row: usize) -> Answer
-    requires { ⌜ row < 10000 ⌝ }
-    ensures { λ r. ⌜ r ≡ firstNo (rowFields (now (case .entry)) row) ⌝ }
+// All rows of the station whose rows begin at `offset`.
+fn station_fields(case: &[i64], offset: usize) -> Answer
+    requires { ⌜ offset < 10000 ⌝ }
+    ensures { λ r. ⌜ r ≡ firstNo (rowFields (now (case .entry)) offset) ⌝ }
 {
-    let a = station_head(case, row);
+    let a = station_head(case, offset);
     match a {
-        Answer::Yes => part_rows(case, row),
+        Answer::Yes => part_rows(case, offset),
         Answer::No {
             number: _,
             step: _,
@@ -179,14 +179,14 @@ fn station_fields(case: &[i64], row: usize) -> Answer
 }
 
 // The index past the station's last row.
-pub(crate) fn station_end(case: &[i64], row: usize) -> usize
-    requires { ⌜ (row < 10000) × (StationCounted (now case) row) ⌝ }
-    ensures { λ r. ⌜ r ≡ stationEnd (now (case .entry)) row ⌝ }
+pub(crate) fn station_end(case: &[i64], offset: usize) -> usize
+    requires { ⌜ (offset < 10000) × (StationCounted (now case) offset) ⌝ }
+    ensures { λ r. ⌜ r ≡ stationEnd (now (case .entry)) offset ⌝ }
 {
-    let directions = count(case, row, 0);
-    let states = count(case, row, 1);
-    let machines = count(case, row, 2);
-    row + STATION + directions * DIRECTION + states * STATE + machines * MACHINE
+    let directions = count(case, offset, 0);
+    let states = count(case, offset, 1);
+    let machines = count(case, offset, 2);
+    offset + STATION + directions * DIRECTION + states * STATE + machines * MACHINE
 }
 
 // All stations' rows, and then 12.
@@ -194,10 +194,10 @@ pub(crate) fn station_rows(case: &[i64], first: usize, stations: usize) -> Answe
     requires { ⌜ (first < 5000) × (first ≡ stationAt (now case) 0) × (stations ≤ 8) × (stations ≡ stationsOf (now case)) ⌝ }
     ensures { λ r. ⌜ r ≡ firstNo (allStationFields (now (case .entry)) ++ leftover (now (case .entry))) ⌝ }
 {
-    let mut row = first;
+    let mut offset = first;
     let mut s: usize = 0;
     while s < stations {
-        let a = station_fields(case, row);
+        let a = station_fields(case, offset);
         match a {
             Answer::Yes => {}
             Answer::No {
@@ -208,8 +208,8 @@ pub(crate) fn station_rows(case: &[i64], first: usize, stations: usize) -> Answe
                 return a;
             }
         }
-        row = station_end(case, row);
+        offset = station_end(case, offset);
         s += 1;
     }
-    ask(case.len() <= row, 12, 0, row)
+    ask(case.len() <= offset, 12, 0, offset)
 }

@@ -34,7 +34,7 @@ use Rattle.plan.specs.declared.setting.Setting.{Setting}
 use Rattle.plan.specs.declared.setting.Setting.the-variants.{Unknown, Off, Active}
 use Rattle.plan.specs.law.PlanRecords.{arcRow}
 use Rattle.plan.specs.law.Compared.{isZero}
-use Rattle.plan.specs.law.Setting.{settingOf, settingIn, activeOf, valveOf, directed, homeOf}
+use Rattle.plan.specs.law.Setting.{settingOf, settingIn, activeOf, valveOf, directed, stationOffset}
 use Rattle.plan.specs.law.ArcMachines.{settingMachines, machinesUsed}
 use Rattle.plan.specs.law.Machines.{machineGain, gainPart}
 use Rattle.plan.specs.law.Pipes.{duration, change, pipeImbalance, pressureBalance}
@@ -65,22 +65,22 @@ gain-sized {case} {first} set z =
 
 -- ---- the station of an artificial arc
 
-module _ {case row : List ℤ} {l : List ℕ} {i e : ℕ} (a : AtArc case row l i e) (k : 3 ≤ arcOf case e .kind) where
-  pub home-is : {x : Artificial} {r : ℕ} → x ≡ artificialOf case e → r ≡ getD l (x .station) 0 → r ≡ homeOf case e
-  home-is q h =
+module _ {case rows : List ℤ} {l : List ℕ} {i e : ℕ} (a : AtArc case rows l i e) (k : 3 ≤ arcOf case e .kind) where
+  pub offset-is : {x : Artificial} {r : ℕ} → x ≡ artificialOf case e → r ≡ getD l (x .station) 0 → r ≡ stationOffset case e
+  offset-is q h =
       h ∙ ap (λ (y : Artificial). getD l (y .station) 0) q
       ∙ a .at .laid .each (artificialOf case e .station) (station-in (a .at .accepted) e (a .arc) k)
 
-  pub home-machines : {r : ℕ} → r ≡ homeOf case e → MachinesSized case r
-  home-machines h = rw h (machines-sized (a .at .accepted) (artificialOf case e .station) (station-in (a .at .accepted) e (a .arc) k))
+  pub offset-machines : {r : ℕ} → r ≡ stationOffset case e → MachinesSized case r
+  offset-machines h = rw h (machines-sized (a .at .accepted) (artificialOf case e .station) (station-in (a .at .accepted) e (a .arc) k))
 
-  pub compresses : {r u w : ℕ} → r ≡ homeOf case e → u < nodesOf case → w < nodesOf case → Compresses case row r i e u w
+  pub compresses : {r u w : ℕ} → r ≡ stationOffset case e → u < nodesOf case → w < nodesOf case → Compresses case rows r i e u w
   compresses {r} {u} {w} h p q = record {
     accepted = a .at .accepted;
     step = a .at .step;
     arc = a .arc;
-    home = h;
-    machines = home-machines h;
+    offset-of = h;
+    machines = offset-machines h;
     in-node = p;
     out-node = q;
     out = a .pressures .each w q;
@@ -115,11 +115,11 @@ pub compressing-kind : (kind : ℕ) (z : ℤ) (way : Way) → settingOf kind z �
 compressing-kind kind z way e = omega (arith, compressing-five kind z way e)
 
 -- 27 of an arc that does not compress
-pub machines-none : (case row : List ℤ) (e : ℕ) → arcOf case e .kind ≤ 4 → machinesUsed case row e ≡ isZero (arcRow case row e .machines)
+pub machines-none : (case rows : List ℤ) (e : ℕ) → arcOf case e .kind ≤ 4 → machinesUsed case rows e ≡ isZero (arcRow case rows e .machines)
 unfolding machinesUsed
-machines-none case row e h = go (settingIn case row e) refl
+machines-none case rows e h = go (settingIn case rows e) refl
   where
-    go : (s : Setting) → settingIn case row e ≡ s → settingMachines case row e s ≡ isZero (arcRow case row e .machines)
+    go : (s : Setting) → settingIn case rows e ≡ s → settingMachines case rows e s ≡ isZero (arcRow case rows e .machines)
     go Unknown k = refl
     go Off k = refl
     go (Active way Open) k = refl
@@ -138,13 +138,13 @@ pub record SumRead (dt a b c x y z : ℤ) : Type 0 where
       × Bounded (toZ w64 (ofZ w64 y)) 400000
   pub total : Held (toZ w64 (ofZ w64 dt) *ℤ (toZ w64 (ofZ w64 a) -ℤ toZ w64 (ofZ w64 b)) -ℤ toZ w64 (ofZ w64 c) *ℤ (toZ w64 (ofZ w64 x) +ℤ toZ w64 (ofZ w64 y))) z 100000000000000
 
-module _ {case old row : List ℤ} {i e : ℕ} (p : AtPipe case old row i e) where
-  pub change-sized : (v : ℕ) → v < nodesOf case → Bounded (change (numberAt old) row v) 400000
+module _ {case old rows : List ℤ} {i e : ℕ} (p : AtPipe case old rows i e) where
+  pub change-sized : (v : ℕ) → v < nodesOf case → Bounded (change (numberAt old) rows v) 400000
   change-sized v q = record { bound = (sized (p .at .pressures .each v q) -ʳ sized (p .at .before .each v q)) .bound }
 
-  pub sum-read : {dt x y : ℤ} {r : ArcRow} {k : Pipe} {n : Arc} → dt ≡ duration case i → r ≡ arcRow case row e → k ≡ pipeOf case e → n ≡ arcOf case e
-      → x ≡ change (numberAt old) row (n .from) → y ≡ change (numberAt old) row (n .to)
-      → SumRead dt (r .a) (r .b) (k .c) x y (pipeImbalance case (numberAt old) row i e)
+  pub sum-read : {dt x y : ℤ} {r : ArcRow} {k : Pipe} {n : Arc} → dt ≡ duration case i → r ≡ arcRow case rows e → k ≡ pipeOf case e → n ≡ arcOf case e
+      → x ≡ change (numberAt old) rows (n .from) → y ≡ change (numberAt old) rows (n .to)
+      → SumRead dt (r .a) (r .b) (k .c) x y (pipeImbalance case (numberAt old) rows i e)
   unfolding pipeImbalance
   sum-read {dt} {x} {y} {r} {k} {n} et er ek en ex ey =
       let s = p .at in
@@ -153,14 +153,14 @@ module _ {case old row : List ℤ} {i e : ℕ} (p : AtPipe case old row i e) whe
       let a = read (ap (λ (u : ArcRow). u .a) er) (s .flows .a) tt in
       let b = read (ap (λ (u : ArcRow). u .b) er) (s .flows .b) tt in
       let c = read (ap (λ (u : Pipe). u .c) ek) (z .c) tt in
-      let f = read (ex ∙ ap (λ (u : Arc). change (numberAt old) row (u .from)) en) (change-sized (arcOf case e .from) (from-node (s .accepted) e (s .arc))) tt in
-      let t = read (ey ∙ ap (λ (u : Arc). change (numberAt old) row (u .to)) en) (change-sized (arcOf case e .to) (to-node (s .accepted) e (s .arc))) tt in
+      let f = read (ex ∙ ap (λ (u : Arc). change (numberAt old) rows (u .from)) en) (change-sized (arcOf case e .from) (from-node (s .accepted) e (s .arc))) tt in
+      let t = read (ey ∙ ap (λ (u : Arc). change (numberAt old) rows (u .to)) en) (change-sized (arcOf case e .to) (to-node (s .accepted) e (s .arc))) tt in
       record {
         sizes = (read-bounded d, read-bounded a, read-bounded b, read-bounded c, read-bounded f, read-bounded t);
         total = loosen 100000000000000 (omega arith) (d *ʳ (a -ʳ b) -ʳ c *ʳ (f +ʳ t));
       }
 
-  pub imbalance-sized : Bounded (pipeImbalance case (numberAt old) row i e) 100000000000000
+  pub imbalance-sized : Bounded (pipeImbalance case (numberAt old) rows i e) 100000000000000
   unfolding pipeImbalance
   imbalance-sized =
       let a = p .at in
@@ -171,7 +171,7 @@ module _ {case old row : List ℤ} {i e : ℕ} (p : AtPipe case old row i e) whe
       let h = sized (duration-sized (a .accepted) i (a .step)) *ʳ (sized (f .a) -ʳ sized (f .b)) -ʳ sized (z .c) *ʳ (sized x +ʳ sized y) in
       record { bound = omega (arith, h .bound) }
 
-  pub balance-sized : Bounded (pressureBalance case row e) 300000000000000
+  pub balance-sized : Bounded (pressureBalance case rows e) 300000000000000
   unfolding pressureBalance
   balance-sized =
       let a = p .at in

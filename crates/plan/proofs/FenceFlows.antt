@@ -52,7 +52,7 @@ module _ {case : List ℤ} (a : AcceptedCase case) (v : ℕ) (p : v < nodesOf ca
               let g : t < s = omega (arith, ltb-false s t y, d) in
               omega (arith, one, two (stationsOf case) (inStation case v) t s g l k h)
 
-  module _ (row : List ℤ) (s : ℕ) (l : s < stationsOf case) (h : memberOf (stationNodes case s) v ≡ true) where
+  module _ (rows : List ℤ) (s : ℕ) (l : s < stationsOf case) (h : memberOf (stationNodes case s) v ≡ true) where
     -- an artificial arc of another station does not end here
     away : (e : ℕ) → e < arcsOf case → leb 3 (arcOf case e .kind) ≡ true → eqb (artificialOf case e .station) s ≡ false → (arcOf case e .from ≡ v) ⊎ (arcOf case e .to ≡ v) → ⊥
     away e q k n d =
@@ -61,11 +61,11 @@ module _ {case : List ℤ} (a : AcceptedCase case) (v : ℕ) (p : v < nodesOf ca
         other s t l (station-in a e q (leb-true 3 (arcOf case e .kind) k)) (λ (z : s ≡ t). eqb-false t s n (sym z)) h
         (end-in-station case v t e q b (omega (arith, p, counted a .nodes)) d)
 
-    same-part : (e : ℕ) → e < arcsOf case → artificialPart case row v e ≡ stationPart case row s v e
+    same-part : (e : ℕ) → e < arcsOf case → artificialPart case rows v e ≡ stationPart case rows s v e
     unfolding artificialPart stationPart
     same-part e q = go (leb 3 (arcOf case e .kind)) refl (eqb (artificialOf case e .station) s) refl
       where
-        go : (b : Bool) → leb 3 (arcOf case e .kind) ≡ b → (d : Bool) → eqb (artificialOf case e .station) s ≡ d → artificialPart case row v e ≡ stationPart case row s v e
+        go : (b : Bool) → leb 3 (arcOf case e .kind) ≡ b → (d : Bool) → eqb (artificialOf case e .station) s ≡ d → artificialPart case rows v e ≡ stationPart case rows s v e
         go false x d y = rw x
         go true x true y = rw (x, y)
         go true x false y =
@@ -73,17 +73,17 @@ module _ {case : List ℤ} (a : AcceptedCase case) (v : ℕ) (p : v < nodesOf ca
             let to = ne-eqb (arcOf case e .to) v (λ z. away e q x y (inr z)) in
             rw (x, y, from, to)
 
-    pub same-flow : artificialFlow case row v ≡ stationFlow case row s v
+    pub same-flow : artificialFlow case rows v ≡ stationFlow case rows s v
     unfolding artificialFlow stationFlow
-    same-flow = sum-cong (arcsOf case) (artificialPart case row v) (stationPart case row s v) same-part
+    same-flow = sum-cong (arcsOf case) (artificialPart case rows v) (stationPart case rows s v) same-part
 
   -- 32 of the node by either flow: of a node that is not the station's it does not look at the flow
-  pub fence-passed : (row : List ℤ) (s : ℕ) → s < stationsOf case → (chosen : Direction)
-      → fenceNodeKept (fenceNode case s) chosen v (artificialFlow case row v) ≡ fenceNodeKept (fenceNode case s) chosen v (stationFlow case row s v)
+  pub fence-passed : (rows : List ℤ) (s : ℕ) → s < stationsOf case → (chosen : Direction)
+      → fenceNodeKept (fenceNode case s) chosen v (artificialFlow case rows v) ≡ fenceNodeKept (fenceNode case s) chosen v (stationFlow case rows s v)
   unfolding fenceNodeKept
-  fence-passed row s l chosen = go (memberOf (stationNodes case s) v) refl
+  fence-passed rows s l chosen = go (memberOf (stationNodes case s) v) refl
     where
       go : (b : Bool) → memberOf (stationNodes case s) v ≡ b
-          → fenceNodeKept (fenceNode case s) chosen v (artificialFlow case row v) ≡ fenceNodeKept (fenceNode case s) chosen v (stationFlow case row s v)
-      go true h = ap (fenceNodeKept (fenceNode case s) chosen v) (same-flow row s l h)
+          → fenceNodeKept (fenceNode case s) chosen v (artificialFlow case rows v) ≡ fenceNodeKept (fenceNode case s) chosen v (stationFlow case rows s v)
+      go true h = ap (fenceNodeKept (fenceNode case s) chosen v) (same-flow rows s l h)
       go false h = rw h

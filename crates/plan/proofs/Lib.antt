@@ -6,10 +6,10 @@ pub mod NetFlows
 pub mod NodeParts
 pub mod FenceFlows
 pub mod StationParts
-pub mod Taken
+pub mod MachinesTaken
 pub mod StationPasses
-pub mod Alike
-pub mod Going
+pub mod StepAlike
+pub mod StepsLoop
 pub mod StepGroups
 pub mod RegionSums
 pub mod RegionTests

@@ -34,53 +34,53 @@ end-sized false h k l = difference h k
 
 -- what arc e takes out of node i less what it brings
 unfoldable pub nodePart : List ℤ → List ℤ → ℕ → ℕ → ℤ
-nodePart case row i e = outPart case row i e -ℤ inPart case row i e
+nodePart case rows i e = outPart case rows i e -ℤ inPart case rows i e
 
-pub net-flow : (case row : List ℤ) (i : ℕ) → sum (arcsOf case) (nodePart case row i) ≡ netFlow case row i
+pub net-flow : (case rows : List ℤ) (i : ℕ) → sum (arcsOf case) (nodePart case rows i) ≡ netFlow case rows i
 unfolding nodePart outflow inflow netFlow
-net-flow case row i = sum-sub (arcsOf case) (outPart case row i) (inPart case row i)
+net-flow case rows i = sum-sub (arcsOf case) (outPart case rows i) (inPart case rows i)
 
-pub node-part : (case row : List ℤ) (e i : ℕ) {from to : ℕ} {out into : ℤ} → from ≡ arcOf case e .from → to ≡ arcOf case e .to → out ≡ flowAtFrom case row e → into ≡ flowAtTo case row e
-    → nodePart case row i e ≡ only (eqb from i) out -ℤ only (eqb to i) into
+pub node-part : (case rows : List ℤ) (e i : ℕ) {from to : ℕ} {out into : ℤ} → from ≡ arcOf case e .from → to ≡ arcOf case e .to → out ≡ flowAtFrom case rows e → into ≡ flowAtTo case rows e
+    → nodePart case rows i e ≡ only (eqb from i) out -ℤ only (eqb to i) into
 unfolding nodePart outPart inPart
-node-part case row e i p q r s = rw (p, q, r, s)
+node-part case rows e i p q r s = rw (p, q, r, s)
 
-module _ {case row : List ℤ} (z : FlowsSized case row) where
-  pub from-sized : (e : ℕ) → e < arcsOf case → Bounded (flowAtFrom case row e) 20000000
+module _ {case rows : List ℤ} (z : FlowsSized case rows) where
+  pub from-sized : (e : ℕ) → e < arcsOf case → Bounded (flowAtFrom case rows e) 20000000
   unfolding flowAtFrom
   from-sized e p = end-sized (isPipe case e) (z .each e p .a) (z .each e p .b) (z .each e p .a)
 
-  pub to-sized : (e : ℕ) → e < arcsOf case → Bounded (flowAtTo case row e) 20000000
+  pub to-sized : (e : ℕ) → e < arcsOf case → Bounded (flowAtTo case rows e) 20000000
   unfolding flowAtTo
   to-sized e p = end-sized (isPipe case e) (z .each e p .a) (z .each e p .b) (z .each e p .b)
 
-  pub part-sized : (i e : ℕ) → e < arcsOf case → natAbs (nodePart case row i e) ≤ 40000000
+  pub part-sized : (i e : ℕ) → e < arcsOf case → natAbs (nodePart case rows i e) ≤ 40000000
   unfolding nodePart outPart inPart
   part-sized i e p = put-sized (eqb (arcOf case e .from) i) (eqb (arcOf case e .to) i) (from-sized e p) (to-sized e p)
 
-  pub net-sized : AcceptedCase case → (i : ℕ) → Bounded (netFlow case row i) 4800000000
+  pub net-sized : AcceptedCase case → (i : ℕ) → Bounded (netFlow case rows i) 4800000000
   net-sized c i = record {
-    bound = rw (← net-flow case row i) (omega (arith, abs-sum-le (arcsOf case) 40000000 (nodePart case row i) (part-sized i), counted c .arcs));
+    bound = rw (← net-flow case rows i) (omega (arith, abs-sum-le (arcsOf case) 40000000 (nodePart case rows i) (part-sized i), counted c .arcs));
   }
 
 -- ---- 33 of one node
 
-module _ {case row : List ℤ} {i n : ℕ} {net : ℤ} (at : AtBalance case row i n net) where
-  imbalance-sized : natAbs (nodeImbalance case row n) ≤ 4810000000
+module _ {case rows : List ℤ} {i n : ℕ} {net : ℤ} (at : AtBalance case rows i n net) where
+  imbalance-sized : natAbs (nodeImbalance case rows n) ≤ 4810000000
   unfolding nodeImbalance
   imbalance-sized =
-      let d = nodeRow row n .d in
-      omega (arith, abs-add (netFlow case row n) (negℤ d), abs-neg d, net-sized (at .flows) (at .accepted) n .bound, at .rows .each n (at .node) .d .bound)
+      let d = nodeRow rows n .d in
+      omega (arith, abs-add (netFlow case rows n) (negℤ d), abs-neg d, net-sized (at .flows) (at .accepted) n .bound, at .node-rows .each n (at .node) .d .bound)
 
-  pub residual-sized : nodeResidual case row i n ≤ 415584000000000
+  pub residual-sized : nodeResidual case rows i n ≤ 415584000000000
   unfolding nodeResidual
   residual-sized = omega (arith, mul-le-mul (duration-sized (at .accepted) i (at .step) .bound) imbalance-sized)
 
 -- the answer by what was found of the residual
-pub balance-asked : (case row : List ℤ) (i n : ℕ) {x y : ℤ} {b w : Bool} → x ≡ pos (nodeResidual case row i n) → y ≡ massTolerance case → b ≡ leZ x y → b ≡ w
-    → answer w 33 (i + 1) n ≡ firstNo (balanceQuestions case row i n)
+pub balance-asked : (case rows : List ℤ) (i n : ℕ) {x y : ℤ} {b w : Bool} → x ≡ pos (nodeResidual case rows i n) → y ≡ massTolerance case → b ≡ leZ x y → b ≡ w
+    → answer w 33 (i + 1) n ≡ firstNo (balanceQuestions case rows i n)
 unfolding balanceQuestions balanceKept
-balance-asked case row i n {w = w} p q e k = rw (← p, ← q, sym e ∙ k) (single w)
+balance-asked case rows i n {w = w} p q e k = rw (← p, ← q, sym e ∙ k) (single w)
   where
     single : (w : Bool) → answer w 33 (i + 1) n ≡ firstNo (asked 33 i n w ∷ [])
     single true = refl

@@ -16,34 +16,34 @@ use Rattle.plan.specs.law.Step.{stepQuestions}
 use Rattle.plan.specs.declared.stepped.Stepped.{Stepped}
 use Rattle.plan.specs.inside.StepAnswer.{steppedBy}
 
-module _ (case : List ℤ) (old : ℕ → ℤ) (row : List ℤ) (i : ℕ) where
-  step-is : firstNo (stepQuestions case old row i)
-      ≡ orElse (firstNo (allNodeQuestions case row i)) (orElse (firstNo (allArcQuestions case old row i)) (orElse (firstNo (allStationQuestions case row i)) (firstNo (allBalanceQuestions case row i))))
+module _ (case : List ℤ) (old : ℕ → ℤ) (rows : List ℤ) (i : ℕ) where
+  step-is : firstNo (stepQuestions case old rows i)
+      ≡ orElse (firstNo (allNodeQuestions case rows i)) (orElse (firstNo (allArcQuestions case old rows i)) (orElse (firstNo (allStationQuestions case rows i)) (firstNo (allBalanceQuestions case rows i))))
   unfolding stepQuestions
   step-is =
-      let n = allNodeQuestions case row i in
-      let a = allArcQuestions case old row i in
-      let s = allStationQuestions case row i in
-      let b = allBalanceQuestions case row i in
+      let n = allNodeQuestions case rows i in
+      let a = allArcQuestions case old rows i in
+      let s = allStationQuestions case rows i in
+      let b = allBalanceQuestions case rows i in
       rw (firstNo-append n (a ++ (s ++ b)), firstNo-append a (s ++ b), firstNo-append s b)
 
   module _ (m : ℕ) {x : Answer} {n s p : ℕ} {r : Stepped} (h : x ≡ No n s p) (k : r ≡ steppedBy x 0) where
-    pub nodes-stop : x ≡ firstNo (allNodeQuestions case row i) → r ≡ steppedBy (firstNo (stepQuestions case old row i)) m
+    pub nodes-stop : x ≡ firstNo (allNodeQuestions case rows i) → r ≡ steppedBy (firstNo (stepQuestions case old rows i)) m
     nodes-stop e = k ∙ rw (h, step-is, sym e ∙ h)
 
-    pub arcs-stop : firstNo (allNodeQuestions case row i) ≡ Yes → x ≡ firstNo (allArcQuestions case old row i) → r ≡ steppedBy (firstNo (stepQuestions case old row i)) m
+    pub arcs-stop : firstNo (allNodeQuestions case rows i) ≡ Yes → x ≡ firstNo (allArcQuestions case old rows i) → r ≡ steppedBy (firstNo (stepQuestions case old rows i)) m
     arcs-stop y e = k ∙ rw (h, step-is, y, sym e ∙ h)
 
   module _ (m : ℕ) {r : Stepped} where
-    pub arcs-passed : firstNo (allNodeQuestions case row i) ≡ Yes → firstNo (allArcQuestions case old row i) ≡ Yes
-        → r ≡ steppedBy (firstNo (allStationQuestions case row i ++ allBalanceQuestions case row i)) m → r ≡ steppedBy (firstNo (stepQuestions case old row i)) m
-    arcs-passed n a e = e ∙ rw (step-is, n, a, firstNo-append (allStationQuestions case row i) (allBalanceQuestions case row i))
+    pub arcs-passed : firstNo (allNodeQuestions case rows i) ≡ Yes → firstNo (allArcQuestions case old rows i) ≡ Yes
+        → r ≡ steppedBy (firstNo (allStationQuestions case rows i ++ allBalanceQuestions case rows i)) m → r ≡ steppedBy (firstNo (stepQuestions case old rows i)) m
+    arcs-passed n a e = e ∙ rw (step-is, n, a, firstNo-append (allStationQuestions case rows i) (allBalanceQuestions case rows i))
 
 -- the stations, and then the balance
-module _ (case row : List ℤ) (i m : ℕ) {r : Stepped} where
-  pub stations-stop : {x : Answer} {n s p : ℕ} → x ≡ No n s p → r ≡ steppedBy x 0 → x ≡ firstNo (allStationQuestions case row i) → r ≡ steppedBy (firstNo (allStationQuestions case row i ++ allBalanceQuestions case row i)) m
-  stations-stop h k e = k ∙ rw (h, firstNo-append (allStationQuestions case row i) (allBalanceQuestions case row i), sym e ∙ h)
+module _ (case rows : List ℤ) (i m : ℕ) {r : Stepped} where
+  pub stations-stop : {x : Answer} {n s p : ℕ} → x ≡ No n s p → r ≡ steppedBy x 0 → x ≡ firstNo (allStationQuestions case rows i) → r ≡ steppedBy (firstNo (allStationQuestions case rows i ++ allBalanceQuestions case rows i)) m
+  stations-stop h k e = k ∙ rw (h, firstNo-append (allStationQuestions case rows i) (allBalanceQuestions case rows i), sym e ∙ h)
 
-  pub stations-passed : firstNo (allStationQuestions case row i) ≡ Yes → r ≡ steppedBy (firstNo (allBalanceQuestions case row i)) m
-      → r ≡ steppedBy (firstNo (allStationQuestions case row i ++ allBalanceQuestions case row i)) m
-  stations-passed y e = e ∙ rw (firstNo-append (allStationQuestions case row i) (allBalanceQuestions case row i), y)
+  pub stations-passed : firstNo (allStationQuestions case rows i) ≡ Yes → r ≡ steppedBy (firstNo (allBalanceQuestions case rows i)) m
+      → r ≡ steppedBy (firstNo (allStationQuestions case rows i ++ allBalanceQuestions case rows i)) m
+  stations-passed y e = e ∙ rw (firstNo-append (allStationQuestions case rows i) (allBalanceQuestions case rows i), y)

@@ -15,19 +15,19 @@ use case::records::Node;
 use case::records::Pipe;
 use numbers::compare::index;
 
-// The number `j` places into the row that begins at `row`.
-fn number(case: &[i64], row: usize, j: usize) -> i64
-    requires { ⌜ row + j < length (now case) ⌝ }
-    ensures { λ r. ⌜ r ≡ numberAt (now (case .entry)) (row + j) ⌝ }
+// The number `j` places into the row that begins at `offset`.
+fn number(case: &[i64], offset: usize, j: usize) -> i64
+    requires { ⌜ offset + j < length (now case) ⌝ }
+    ensures { λ r. ⌜ r ≡ numberAt (now (case .entry)) (offset + j) ⌝ }
 {
-    case[row + j]
+    case[offset + j]
 }
 
-fn count(case: &[i64], row: usize, j: usize) -> usize
-    requires { ⌜ row + j < length (now case) ⌝ }
-    ensures { λ r. ⌜ r ≡ countAt (now (case .entry)) (row + j) ⌝ }
+fn count(case: &[i64], offset: usize, j: usize) -> usize
+    requires { ⌜ offset + j < length (now case) ⌝ }
+    ensures { λ r. ⌜ r ≡ countAt (now (case .entry)) (offset + j) ⌝ }
 {
-    index(number(case, row, j))
+    index(number(case, offset, j))
 }
 
 fn node_at(case: &[i64], v: usize) -> usize
@@ -49,15 +49,15 @@ pub(crate) fn node(case: &[i64], v: usize, i: usize) -> Node
     requires { ⌜ (AcceptedCase (now case)) × (v < nodesOf (now case)) × (i < stepsOf (now case)) ⌝ }
     ensures { λ r. ⌜ r ≡ nodeOf (now (case .entry)) v i ⌝ }
 {
-    let row = node_at(case, v);
+    let offset = node_at(case, v);
     Node {
-        kind: count(case, row, 0),
-        p0: number(case, row, 1),
-        low: number(case, row, 2),
-        high: number(case, row, 3),
-        actlow: number(case, row, 4),
-        acthigh: number(case, row, 5),
-        demand: number(case, row, NODE + i),
+        kind: count(case, offset, 0),
+        p0: number(case, offset, 1),
+        low: number(case, offset, 2),
+        high: number(case, offset, 3),
+        actlow: number(case, offset, 4),
+        acthigh: number(case, offset, 5),
+        demand: number(case, offset, NODE + i),
     }
 }
 
@@ -65,12 +65,12 @@ pub(crate) fn arc(case: &[i64], e: usize) -> Arc
     requires { ⌜ (AcceptedCase (now case)) × (e < arcsOf (now case)) ⌝ }
     ensures { λ r. ⌜ r ≡ arcOf (now (case .entry)) e ⌝ }
 {
-    let row = arc_at(case, e);
+    let offset = arc_at(case, e);
     Arc {
-        kind: count(case, row, 0),
-        from: count(case, row, 1),
-        to: count(case, row, 2),
-        qmax: number(case, row, 3),
+        kind: count(case, offset, 0),
+        from: count(case, offset, 1),
+        to: count(case, offset, 2),
+        qmax: number(case, offset, 3),
     }
 }
 
@@ -78,12 +78,12 @@ pub(crate) fn pipe(case: &[i64], e: usize) -> Pipe
     requires { ⌜ (AcceptedCase (now case)) × (e < arcsOf (now case)) ⌝ }
     ensures { λ r. ⌜ r ≡ pipeOf (now (case .entry)) e ⌝ }
 {
-    let row = arc_at(case, e);
+    let offset = arc_at(case, e);
     Pipe {
-        c: number(case, row, 4),
-        f: number(case, row, 5),
-        g: number(case, row, 6),
-        h: number(case, row, 7),
+        c: number(case, offset, 4),
+        f: number(case, offset, 5),
+        g: number(case, offset, 6),
+        h: number(case, offset, 7),
     }
 }
 
@@ -91,15 +91,15 @@ pub(crate) fn artificial(case: &[i64], e: usize) -> Artificial
     requires { ⌜ (AcceptedCase (now case)) × (e < arcsOf (now case)) ⌝ }
     ensures { λ r. ⌜ r ≡ artificialOf (now (case .entry)) e ⌝ }
 {
-    let row = arc_at(case, e);
+    let offset = arc_at(case, e);
     Artificial {
-        station: count(case, row, 4),
-        bothways: count(case, row, 5),
-        weight: count(case, row, 6),
-        active: count(case, row, 7),
-        machines: number(case, row, 8),
-        most: count(case, row, 9),
-        outbound: number(case, row, 10),
+        station: count(case, offset, 4),
+        bothways: count(case, offset, 5),
+        weight: count(case, offset, 6),
+        active: count(case, offset, 7),
+        machines: number(case, offset, 8),
+        most: count(case, offset, 9),
+        outbound: number(case, offset, 10),
     }
 }
 

@@ -14,16 +14,23 @@ use numbers::answer::Answer;
 use numbers::answer::or_else;
 
 // 28 and 29 lean on 24, by which no product is too large.
-fn arc_answer(case: &[i64], old: &[i64], row: &[i64], rows: &[usize], i: usize, e: usize) -> Answer
-    requires { ⌜ (AtArc (now case) (now row) (now rows) i e) × (PressuresSized (numberAt (now old)) (nodesOf (now case))) ⌝ }
-    ensures { λ r. ⌜ r ≡ firstNo (arcQuestions (now (case .entry)) (numberAt (now (old .entry))) (now (row .entry)) i e) ⌝ }
+fn arc_answer(
+    case: &[i64],
+    old: &[i64],
+    rows: &[i64],
+    offsets: &[usize],
+    i: usize,
+    e: usize,
+) -> Answer
+    requires { ⌜ (AtArc (now case) (now rows) (now offsets) i e) × (PressuresSized (numberAt (now old)) (nodesOf (now case))) ⌝ }
+    ensures { λ r. ⌜ r ≡ firstNo (arcQuestions (now (case .entry)) (numberAt (now (old .entry))) (now (rows .entry)) i e) ⌝ }
 {
     let a = or_else(
-        flow_answer(case, row, i, e),
-        pressure_answer(case, row, rows, i, e),
+        flow_answer(case, rows, i, e),
+        pressure_answer(case, rows, offsets, i, e),
     );
     match a {
-        Answer::Yes => pipe_answer(case, old, row, i, e),
+        Answer::Yes => pipe_answer(case, old, rows, i, e),
         Answer::No {
             number: _,
             step: _,
@@ -35,18 +42,18 @@ fn arc_answer(case: &[i64], old: &[i64], row: &[i64], rows: &[usize], i: usize, 
 pub(crate) fn arc_answers(
     case: &[i64],
     old: &[i64],
-    row: &[i64],
+    rows: &[i64],
     layout: Layout,
     i: usize,
 ) -> Answer
-    requires { ⌜ (AtStep (now case) layout i) × (PressuresSized (numberAt (now old)) (nodesOf (now case))) × (PressuresSized (pressureIn (now row)) (nodesOf (now case))) ⌝ }
-    ensures { λ r. ⌜ r ≡ firstNo (allArcQuestions (now (case .entry)) (numberAt (now (old .entry))) (now (row .entry)) i) ⌝ }
+    requires { ⌜ (AtStep (now case) layout i) × (PressuresSized (numberAt (now old)) (nodesOf (now case))) × (PressuresSized (pressureIn (now rows)) (nodesOf (now case))) ⌝ }
+    ensures { λ r. ⌜ r ≡ firstNo (allArcQuestions (now (case .entry)) (numberAt (now (old .entry))) (now (rows .entry)) i) ⌝ }
 {
     let arcs = layout.arcs;
-    let rows = layout.rows;
+    let offsets = layout.offsets;
     let mut e: usize = 0;
     while e < arcs {
-        let a = arc_answer(case, old, row, &rows, i, e);
+        let a = arc_answer(case, old, rows, &offsets, i, e);
         match a {
             Answer::Yes => {}
             Answer::No {

@@ -40,11 +40,11 @@ pub struct Ends {
     pub to: i64,
 }
 
-pub(crate) fn end_flows(case: &[i64], row: &[i64], e: usize) -> Ends
-    requires { ⌜ (AcceptedCase (now case)) × (e < arcsOf (now case)) × (FlowsSized (now case) (now row)) ⌝ }
-    ensures { λ r. ⌜ (r .from ≡ flowAtFrom (now (case .entry)) (now (row .entry)) e) × (r .to ≡ flowAtTo (now (case .entry)) (now (row .entry)) e) ⌝ }
+pub(crate) fn end_flows(case: &[i64], rows: &[i64], e: usize) -> Ends
+    requires { ⌜ (AcceptedCase (now case)) × (e < arcsOf (now case)) × (FlowsSized (now case) (now rows)) ⌝ }
+    ensures { λ r. ⌜ (r .from ≡ flowAtFrom (now (case .entry)) (now (rows .entry)) e) × (r .to ≡ flowAtTo (now (case .entry)) (now (rows .entry)) e) ⌝ }
 {
-    let r = arc_row(case, row, e);
+    let r = arc_row(case, rows, e);
     let kind = arc(case, e).kind;
     match kind {
         2 => Ends { from: r.a, to: r.b },
@@ -59,15 +59,15 @@ pub(crate) fn end_flows(case: &[i64], row: &[i64], e: usize) -> Ends
 }
 
 // Each node's flow out less its flow in.
-pub(crate) fn net_flows(case: &[i64], row: &[i64], arcs: usize) -> [i64; 60]
-    requires { ⌜ (AcceptedCase (now case)) × (arcs ≡ arcsOf (now case)) × (FlowsSized (now case) (now row)) ⌝ }
-    ensures { λ r. ⌜ Holds (pos 0) r (netFlow (now (case .entry)) (now (row .entry))) (nodesOf (now (case .entry))) ⌝ }
+pub(crate) fn net_flows(case: &[i64], rows: &[i64], arcs: usize) -> [i64; 60]
+    requires { ⌜ (AcceptedCase (now case)) × (arcs ≡ arcsOf (now case)) × (FlowsSized (now case) (now rows)) ⌝ }
+    ensures { λ r. ⌜ Holds (pos 0) r (netFlow (now (case .entry)) (now (rows .entry))) (nodesOf (now (case .entry))) ⌝ }
 {
     let mut net = [0i64; 60];
     let mut e: usize = 0;
     while e < arcs {
         let c = arc(case, e);
-        let flow = end_flows(case, row, e);
+        let flow = end_flows(case, rows, e);
         moved(&mut net, c.from, c.to, flow.from, flow.to);
         e += 1;
     }
@@ -75,25 +75,25 @@ pub(crate) fn net_flows(case: &[i64], row: &[i64], arcs: usize) -> [i64; 60]
 }
 
 // The left side of 33, by the node's net flow.
-pub(crate) fn node_residual(case: &[i64], row: &[i64], i: usize, v: usize, net: i64) -> usize
-    requires { ⌜ AtBalance (now case) (now row) i v net ⌝ }
-    ensures { λ r. ⌜ r ≡ nodeResidual (now (case .entry)) (now (row .entry)) i v ⌝ }
+pub(crate) fn node_residual(case: &[i64], rows: &[i64], i: usize, v: usize, net: i64) -> usize
+    requires { ⌜ AtBalance (now case) (now rows) i v net ⌝ }
+    ensures { λ r. ⌜ r ≡ nodeResidual (now (case .entry)) (now (rows .entry)) i v ⌝ }
 {
-    size(duration(case, i)) * size(net - node_row(row, v).d)
+    size(duration(case, i)) * size(net - node_row(rows, v).d)
 }
 
 // 33 of every node, and the sum of its left sides.
-pub(crate) fn balance(case: &[i64], row: &[i64], layout: Layout, i: usize) -> Stepped
-    requires { ⌜ (AtStep (now case) layout i) × (FlowsSized (now case) (now row)) × (NodesSized (now case) (now row)) ⌝ }
-    ensures { λ r. ⌜ r ≡ steppedBy (firstNo (allBalanceQuestions (now (case .entry)) (now (row .entry)) i)) (nodeResiduals (now (case .entry)) (now (row .entry)) i) ⌝ }
+pub(crate) fn balance(case: &[i64], rows: &[i64], layout: Layout, i: usize) -> Stepped
+    requires { ⌜ (AtStep (now case) layout i) × (FlowsSized (now case) (now rows)) × (NodesSized (now case) (now rows)) ⌝ }
+    ensures { λ r. ⌜ r ≡ steppedBy (firstNo (allBalanceQuestions (now (case .entry)) (now (rows .entry)) i)) (nodeResiduals (now (case .entry)) (now (rows .entry)) i) ⌝ }
 {
     let nodes = layout.nodes;
     let most = at(case, 5);
-    let net = net_flows(case, row, layout.arcs);
+    let net = net_flows(case, rows, layout.arcs);
     let mut sum: usize = 0;
     let mut v: usize = 0;
     while v < nodes {
-        let residual = node_residual(case, row, i, v, net[v]);
+        let residual = node_residual(case, rows, i, v, net[v]);
         if !at_most(residual as i64, most) {
             return Stepped::No {
                 number: 33,

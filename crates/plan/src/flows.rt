@@ -115,13 +115,13 @@ fn flow_allowed(c: Arc, r: ArcRow) -> bool
     }
 }
 
-pub(crate) fn flow_answer(case: &[i64], row: &[i64], i: usize, e: usize) -> Answer
+pub(crate) fn flow_answer(case: &[i64], rows: &[i64], i: usize, e: usize) -> Answer
     requires { ⌜ (AcceptedCase (now case)) × (i < 1000000) × (e < arcsOf (now case)) ⌝ }
-    ensures { λ r. ⌜ r ≡ firstNo (flowQuestions (now (case .entry)) (now (row .entry)) i e) ⌝ }
+    ensures { λ r. ⌜ r ≡ firstNo (flowQuestions (now (case .entry)) (now (rows .entry)) i e) ⌝ }
 {
     let c = arc(case, e);
     let x = artificial(case, e);
-    let r = arc_row(case, row, e);
+    let r = arc_row(case, rows, e);
     or_else(
         ask(arc_numbers_kept(c, x, r), 24, i + 1, e),
         ask(flow_allowed(c, r), 25, i + 1, e),

@@ -4,7 +4,7 @@ ghost use lib.ListN.{length};
 ghost use Rattle.numbers.specs.law.Question.{firstNo};
 ghost use Rattle.numbers.specs.law.Told.{overlay};
 ghost use Rattle.numbers.specs.law.Reading.{readOf};
-ghost use Rattle.case.specs.law.LayoutOf.{Laid};
+ghost use Rattle.case.specs.law.LayoutOf.{LayoutOf};
 ghost use Rattle.plan.specs.law.PlanHead.{headKept};
 ghost use Rattle.plan.specs.law.Totals.{totalsOf};
 ghost use Rattle.plan.specs.law.Judged.{planQuestions, verdictOf, verdictTold, judgeOf};
@@ -24,7 +24,7 @@ use numbers::reader::read;
 
 // 20
 fn head_kept(case: &[i64], plan: &[i64], layout: Layout) -> bool
-    requires { ⌜ (AcceptedCase (now case)) × (Laid (now case) layout) ⌝ }
+    requires { ⌜ (AcceptedCase (now case)) × (LayoutOf (now case) layout) ⌝ }
     ensures { λ r. ⌜ r ≡ headKept (now (case .entry)) (now (plan .entry)) ⌝ }
 {
     if same(at(plan, 0), 1) {
@@ -38,7 +38,7 @@ fn head_kept(case: &[i64], plan: &[i64], layout: Layout) -> bool
 
 // The verdict on a plan for a case that has been accepted.
 fn judge_plan(case: &[i64], plan: &[i64], layout: Layout) -> Verdict
-    requires { ⌜ (AcceptedCase (now case)) × (Laid (now case) layout) ⌝ }
+    requires { ⌜ (AcceptedCase (now case)) × (LayoutOf (now case) layout) ⌝ }
     ensures { λ r. ⌜ r ≡ verdictOf (firstNo (planQuestions (now (case .entry)) (now (plan .entry)))) (totalsOf (now (case .entry)) (now (plan .entry))) ⌝ }
 {
     if head_kept(case, plan, layout) {
@@ -85,7 +85,7 @@ fn plan_number(number: usize) -> usize
 
 // The plan bytes, for a case that has been accepted.
 fn judge_plan_bytes(case: &[i64], layout: Layout, planbytes: &[u8], planlist: &mut [i64]) -> Verdict
-    requires { ⌜ (AcceptedCase (now case)) × (Laid (now case) layout) ⌝ }
+    requires { ⌜ (AcceptedCase (now case)) × (LayoutOf (now case) layout) ⌝ }
     ensures { λ r. ⌜ verdictTold r ≡ planBytesTold (now (case .entry)) (now (planbytes .entry)) (length (now (planlist .entry))) ⌝ }
     ensures { λ _. ⌜ now (planlist .exit) ≡ overlay (readOf (now (planbytes .entry)) (length (now (planlist .entry))) .stored) (now (planlist .entry)) ⌝ }
 {

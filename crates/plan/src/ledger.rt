@@ -119,10 +119,10 @@ fn pressures_at(case: &[i64], plan: &[i64], nodes: usize, width: usize, time: us
     if time == 0 {
         return start_pressures(case, nodes);
     }
-    let first = 2 + (time - 1) * width;
-    let row = &plan[first..first + width];
+    let offset = 2 + (time - 1) * width;
+    let rows = &plan[offset..offset + width];
     let none = [0i64; 60];
-    row_pressures(none, row, nodes)
+    row_pressures(none, rows, nodes)
 }
 
 // One pass over the steps s+1 to t, which have the indices s to t-1.
@@ -147,9 +147,9 @@ fn gather(
     };
     let mut i = s;
     while i < t {
-        let first = 2 + i * width;
-        let row = &plan[first..first + width];
-        g = with_step(g, case, set, row, nodes, arcs, i);
+        let offset = 2 + i * width;
+        let rows = &plan[offset..offset + width];
+        g = with_step(g, case, set, rows, nodes, arcs, i);
         i += 1;
     }
     g

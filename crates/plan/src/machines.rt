@@ -1,4 +1,4 @@
-// Sums over the machines of a station that a set names. The station's rows begin at `first`.
+// Sums over the machines of a station that a set names. The station's rows begin at `offset`.
 ghost use mathlib.Core.Path.{_≡_};
 ghost use Prim.Native.Nat.{_<_};
 ghost use Rattle.case.specs.law.Layout.{machinesAt};
@@ -14,53 +14,53 @@ pub struct Sum {
 }
 
 // A machine's flow, if the set names it.
-fn flow_part(case: &[i64], first: usize, set: i64, m: usize) -> i64
-    ensures { λ r. ⌜ r ≡ flowPart (now (case .entry)) first set m ⌝ }
+fn flow_part(case: &[i64], offset: usize, set: i64, m: usize) -> i64
+    ensures { λ r. ⌜ r ≡ flowPart (now (case .entry)) offset set m ⌝ }
 {
     if member(set, m) {
-        machine(case, first, m).flow
+        machine(case, offset, m).flow
     } else {
         0
     }
 }
 
 // The sum of their flows.
-pub(crate) fn machine_flow(case: &[i64], first: usize, set: i64) -> i64
-    requires { ⌜ MachinesSized (now case) first ⌝ }
-    ensures { λ r. ⌜ r ≡ machineFlow (now (case .entry)) first set ⌝ }
+pub(crate) fn machine_flow(case: &[i64], offset: usize, set: i64) -> i64
+    requires { ⌜ MachinesSized (now case) offset ⌝ }
+    ensures { λ r. ⌜ r ≡ machineFlow (now (case .entry)) offset set ⌝ }
 {
-    let machines = station(case, first).machines;
+    let machines = station(case, offset).machines;
     let mut sum = Sum { value: 0 };
     let mut m: usize = 0;
     while m < machines {
-        sum.value = sum.value + flow_part(case, first, set, m);
+        sum.value = sum.value + flow_part(case, offset, set, m);
         m += 1;
     }
     sum.value
 }
 
 // What a machine's ratio is above 1,000, if the set names it.
-fn gain_part(case: &[i64], first: usize, set: i64, m: usize) -> i64
-    requires { ⌜ (MachinesSized (now case) first) × (m < machinesAt (now case) first) ⌝ }
-    ensures { λ r. ⌜ r ≡ gainPart (now (case .entry)) first set m ⌝ }
+fn gain_part(case: &[i64], offset: usize, set: i64, m: usize) -> i64
+    requires { ⌜ (MachinesSized (now case) offset) × (m < machinesAt (now case) offset) ⌝ }
+    ensures { λ r. ⌜ r ≡ gainPart (now (case .entry)) offset set m ⌝ }
 {
     if member(set, m) {
-        machine(case, first, m).ratio - 1000
+        machine(case, offset, m).ratio - 1000
     } else {
         0
     }
 }
 
 // The sum of what their ratios are above 1,000.
-pub(crate) fn machine_gain(case: &[i64], first: usize, set: i64) -> i64
-    requires { ⌜ MachinesSized (now case) first ⌝ }
-    ensures { λ r. ⌜ r ≡ machineGain (now (case .entry)) first set ⌝ }
+pub(crate) fn machine_gain(case: &[i64], offset: usize, set: i64) -> i64
+    requires { ⌜ MachinesSized (now case) offset ⌝ }
+    ensures { λ r. ⌜ r ≡ machineGain (now (case .entry)) offset set ⌝ }
 {
-    let machines = station(case, first).machines;
+    let machines = station(case, offset).machines;
     let mut sum = Sum { value: 0 };
     let mut m: usize = 0;
     while m < machines {
-        sum.value = sum.value + gain_part(case, first, set, m);
+        sum.value = sum.value + gain_part(case, offset, set, m);
         m += 1;
     }
     sum.value

@@ -90,12 +90,12 @@ fn active_bounds_kept(n: Node, r: NodeRow) -> bool
     }
 }
 
-fn node_answer(case: &[i64], row: &[i64], i: usize, v: usize) -> Answer
+fn node_answer(case: &[i64], rows: &[i64], i: usize, v: usize) -> Answer
     requires { ⌜ (AcceptedCase (now case)) × (i < stepsOf (now case)) × (v < nodesOf (now case)) ⌝ }
-    ensures { λ r. ⌜ r ≡ firstNo (nodeQuestions (now (case .entry)) (now (row .entry)) i v) ⌝ }
+    ensures { λ r. ⌜ r ≡ firstNo (nodeQuestions (now (case .entry)) (now (rows .entry)) i v) ⌝ }
 {
     let n = node(case, v, i);
-    let r = node_row(row, v);
+    let r = node_row(rows, v);
     if numbers_kept(n, r) {
         or_else(
             ask(demand_met(n, r), 22, i + 1, v),
@@ -110,13 +110,13 @@ fn node_answer(case: &[i64], row: &[i64], i: usize, v: usize) -> Answer
     }
 }
 
-pub(crate) fn node_answers(case: &[i64], row: &[i64], i: usize, nodes: usize) -> Answer
+pub(crate) fn node_answers(case: &[i64], rows: &[i64], i: usize, nodes: usize) -> Answer
     requires { ⌜ (AcceptedCase (now case)) × (i < stepsOf (now case)) × (nodes ≡ nodesOf (now case)) ⌝ }
-    ensures { λ r. ⌜ r ≡ firstNo (allNodeQuestions (now (case .entry)) (now (row .entry)) i) ⌝ }
+    ensures { λ r. ⌜ r ≡ firstNo (allNodeQuestions (now (case .entry)) (now (rows .entry)) i) ⌝ }
 {
     let mut v: usize = 0;
     while v < nodes {
-        let a = node_answer(case, row, i, v);
+        let a = node_answer(case, rows, i, v);
         match a {
             Answer::Yes => {}
             Answer::No {

@@ -46,45 +46,45 @@ fn imbalance(dt: i64, a: i64, b: i64, c: i64, x: i64, y: i64) -> i64
 }
 
 // The change of the pressure at node `v`.
-fn change(old: &[i64], row: &[i64], v: usize) -> i64
-    requires { ⌜ (v < 1000000) × (Bounded (numberAt (now old) v) 200000) × (Bounded (pressureIn (now row) v) 200000) ⌝ }
-    ensures { λ r. ⌜ r ≡ change (numberAt (now (old .entry))) (now (row .entry)) v ⌝ }
+fn change(old: &[i64], rows: &[i64], v: usize) -> i64
+    requires { ⌜ (v < 1000000) × (Bounded (numberAt (now old) v) 200000) × (Bounded (pressureIn (now rows) v) 200000) ⌝ }
+    ensures { λ r. ⌜ r ≡ change (numberAt (now (old .entry))) (now (rows .entry)) v ⌝ }
 {
-    pressure(row, v) - at(old, v)
+    pressure(rows, v) - at(old, v)
 }
 
 // The left side of 28.
-pub(crate) fn pipe_residual(case: &[i64], old: &[i64], row: &[i64], i: usize, e: usize) -> usize
-    requires { ⌜ AtPipe (now case) (now old) (now row) i e ⌝ }
-    ensures { λ r. ⌜ r ≡ pipeResidual (now (case .entry)) (numberAt (now (old .entry))) (now (row .entry)) i e ⌝ }
+pub(crate) fn pipe_residual(case: &[i64], old: &[i64], rows: &[i64], i: usize, e: usize) -> usize
+    requires { ⌜ AtPipe (now case) (now old) (now rows) i e ⌝ }
+    ensures { λ r. ⌜ r ≡ pipeResidual (now (case .entry)) (numberAt (now (old .entry))) (now (rows .entry)) i e ⌝ }
 {
     let c = arc(case, e);
-    let r = arc_row(case, row, e);
-    let x = change(old, row, c.from);
-    let y = change(old, row, c.to);
+    let r = arc_row(case, rows, e);
+    let x = change(old, rows, c.from);
+    let y = change(old, rows, c.to);
     size(imbalance(duration(case, i), r.a, r.b, pipe(case, e).c, x, y))
 }
 
 // The inner side of 29.
-fn pressure_balance(case: &[i64], old: &[i64], row: &[i64], i: usize, e: usize) -> i64
-    requires { ⌜ AtPipe (now case) (now old) (now row) i e ⌝ }
-    ensures { λ r. ⌜ r ≡ pressureBalance (now (case .entry)) (now (row .entry)) e ⌝ }
+fn pressure_balance(case: &[i64], old: &[i64], rows: &[i64], i: usize, e: usize) -> i64
+    requires { ⌜ AtPipe (now case) (now old) (now rows) i e ⌝ }
+    ensures { λ r. ⌜ r ≡ pressureBalance (now (case .entry)) (now (rows .entry)) e ⌝ }
 {
     let c = arc(case, e);
     let x = pipe(case, e);
-    let r = arc_row(case, row, e);
-    let from = pressure(row, c.from);
-    let to = pressure(row, c.to);
+    let r = arc_row(case, rows, e);
+    let from = pressure(rows, c.from);
+    let to = pressure(rows, c.to);
     1000000 * (to - from) + x.f * r.a + x.g * r.b + x.h * (from + to)
 }
 
 // 28 and 29 of a pipe.
-fn pipe_kept(case: &[i64], old: &[i64], row: &[i64], i: usize, e: usize) -> Answer
-    requires { ⌜ AtPipe (now case) (now old) (now row) i e ⌝ }
-    ensures { λ r. ⌜ r ≡ firstNo (pipeQuestions (now (case .entry)) (numberAt (now (old .entry))) (now (row .entry)) i e) ⌝ }
+fn pipe_kept(case: &[i64], old: &[i64], rows: &[i64], i: usize, e: usize) -> Answer
+    requires { ⌜ AtPipe (now case) (now old) (now rows) i e ⌝ }
+    ensures { λ r. ⌜ r ≡ firstNo (pipeQuestions (now (case .entry)) (numberAt (now (old .entry))) (now (rows .entry)) i e) ⌝ }
 {
-    let mass = pipe_residual(case, old, row, i, e) as i64;
-    let ends = size(pressure_balance(case, old, row, i, e)) as i64;
+    let mass = pipe_residual(case, old, rows, i, e) as i64;
+    let ends = size(pressure_balance(case, old, rows, i, e)) as i64;
     let most = 1000000 * at(case, 6);
     or_else(
         ask(at_most(mass, at(case, 5)), 28, i + 1, e),
@@ -92,13 +92,13 @@ fn pipe_kept(case: &[i64], old: &[i64], row: &[i64], i: usize, e: usize) -> Answ
     )
 }
 
-pub(crate) fn pipe_answer(case: &[i64], old: &[i64], row: &[i64], i: usize, e: usize) -> Answer
-    requires { ⌜ AtFlow (now case) (now old) (now row) i e ⌝ }
-    ensures { λ r. ⌜ r ≡ firstNo (pipeQuestions (now (case .entry)) (numberAt (now (old .entry))) (now (row .entry)) i e) ⌝ }
+pub(crate) fn pipe_answer(case: &[i64], old: &[i64], rows: &[i64], i: usize, e: usize) -> Answer
+    requires { ⌜ AtFlow (now case) (now old) (now rows) i e ⌝ }
+    ensures { λ r. ⌜ r ≡ firstNo (pipeQuestions (now (case .entry)) (numberAt (now (old .entry))) (now (rows .entry)) i e) ⌝ }
 {
     let kind = arc(case, e).kind;
     match kind {
-        2 => pipe_kept(case, old, row, i, e),
+        2 => pipe_kept(case, old, rows, i, e),
         _ => Answer::Yes,
     }
 }

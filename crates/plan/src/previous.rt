@@ -6,7 +6,7 @@ ghost use lib.IntN.{pos};
 ghost use Rattle.case.specs.law.Layout.{arcsOf, stationsOf};
 ghost use Rattle.case.specs.law.States.{activeAtStart};
 ghost use Rattle.case.specs.inside.Counts.{Counted};
-ghost use Rattle.case.specs.law.LayoutOf.{Holds, Laid};
+ghost use Rattle.case.specs.law.LayoutOf.{Holds, LayoutOf};
 ghost use Rattle.plan.specs.law.PlanRecords.{pressureIn, activeIn, directionIn, stateIn};
 ghost use Rattle.plan.specs.law.BeforeStep.{startPressure, startDirection, startState};
 ghost use Rattle.plan.specs.inside.PreviousHolds.{Carried};
@@ -55,28 +55,28 @@ fn start_active(case: &[i64], arcs: usize) -> [bool; 120]
 }
 
 fn start_directions(case: &[i64], layout: Layout) -> [usize; 8]
-    requires { ⌜ (Counted (now case)) × (Laid (now case) layout) ⌝ }
+    requires { ⌜ (Counted (now case)) × (LayoutOf (now case) layout) ⌝ }
     ensures { λ r. ⌜ Holds 0 r (startDirection (now (case .entry))) (stationsOf (now (case .entry))) ⌝ }
 {
     let mut directions = [0usize; 8];
     let stations = layout.stations;
     let mut s: usize = 0;
     while s < stations {
-        directions[s] = station(case, layout.rows[s]).direction;
+        directions[s] = station(case, layout.offsets[s]).direction;
         s += 1;
     }
     directions
 }
 
 fn start_states(case: &[i64], layout: Layout) -> [usize; 8]
-    requires { ⌜ (Counted (now case)) × (Laid (now case) layout) ⌝ }
+    requires { ⌜ (Counted (now case)) × (LayoutOf (now case) layout) ⌝ }
     ensures { λ r. ⌜ Holds 0 r (startState (now (case .entry))) (stationsOf (now (case .entry))) ⌝ }
 {
     let mut states = [0usize; 8];
     let stations = layout.stations;
     let mut s: usize = 0;
     while s < stations {
-        states[s] = station(case, layout.rows[s]).state;
+        states[s] = station(case, layout.offsets[s]).state;
         s += 1;
     }
     states
@@ -84,7 +84,7 @@ fn start_states(case: &[i64], layout: Layout) -> [usize; 8]
 
 // Before step 1.
 pub(crate) fn start(case: &[i64], layout: Layout) -> Previous
-    requires { ⌜ (Counted (now case)) × (Laid (now case) layout) ⌝ }
+    requires { ⌜ (Counted (now case)) × (LayoutOf (now case) layout) ⌝ }
     ensures { λ r. ⌜ Carried (now (case .entry)) r (startPressure (now (case .entry))) (activeAtStart (now (case .entry))) (startDirection (now (case .entry))) (startState (now (case .entry))) ⌝ }
 {
     let pressures = start_pressures(case, layout.nodes);
@@ -99,71 +99,71 @@ pub(crate) fn start(case: &[i64], layout: Layout) -> Previous
     }
 }
 
-pub(crate) fn row_pressures(old: [i64; 60], row: &[i64], nodes: usize) -> [i64; 60]
+pub(crate) fn row_pressures(old: [i64; 60], rows: &[i64], nodes: usize) -> [i64; 60]
     requires { ⌜ nodes ≤ 60 ⌝ }
-    ensures { λ r. ⌜ Holds (pos 0) r (pressureIn (now (row .entry))) nodes ⌝ }
+    ensures { λ r. ⌜ Holds (pos 0) r (pressureIn (now (rows .entry))) nodes ⌝ }
 {
     let mut pressures = old;
     let mut v: usize = 0;
     while v < nodes {
-        pressures[v] = pressure(row, v);
+        pressures[v] = pressure(rows, v);
         v += 1;
     }
     pressures
 }
 
-fn row_active(old: [bool; 120], case: &[i64], row: &[i64], arcs: usize) -> [bool; 120]
+fn row_active(old: [bool; 120], case: &[i64], rows: &[i64], arcs: usize) -> [bool; 120]
     requires { ⌜ (Counted (now case)) × (arcs ≡ arcsOf (now case)) ⌝ }
-    ensures { λ r. ⌜ Holds false r (activeIn (now (case .entry)) (now (row .entry))) arcs ⌝ }
+    ensures { λ r. ⌜ Holds false r (activeIn (now (case .entry)) (now (rows .entry))) arcs ⌝ }
 {
     let mut on = old;
     let mut e: usize = 0;
     while e < arcs {
-        on[e] = at_most(1, arc_row(case, row, e).setting);
+        on[e] = at_most(1, arc_row(case, rows, e).setting);
         e += 1;
     }
     on
 }
 
-fn row_directions(old: [usize; 8], case: &[i64], row: &[i64], stations: usize) -> [usize; 8]
+fn row_directions(old: [usize; 8], case: &[i64], rows: &[i64], stations: usize) -> [usize; 8]
     requires { ⌜ (Counted (now case)) × (stations ≡ stationsOf (now case)) ⌝ }
-    ensures { λ r. ⌜ Holds 0 r (directionIn (now (case .entry)) (now (row .entry))) stations ⌝ }
+    ensures { λ r. ⌜ Holds 0 r (directionIn (now (case .entry)) (now (rows .entry))) stations ⌝ }
 {
     let mut directions = old;
     let mut s: usize = 0;
     while s < stations {
-        directions[s] = index(choice_of(case, row, s).direction);
+        directions[s] = index(choice_of(case, rows, s).direction);
         s += 1;
     }
     directions
 }
 
-fn row_states(old: [usize; 8], case: &[i64], row: &[i64], stations: usize) -> [usize; 8]
+fn row_states(old: [usize; 8], case: &[i64], rows: &[i64], stations: usize) -> [usize; 8]
     requires { ⌜ (Counted (now case)) × (stations ≡ stationsOf (now case)) ⌝ }
-    ensures { λ r. ⌜ Holds 0 r (stateIn (now (case .entry)) (now (row .entry))) stations ⌝ }
+    ensures { λ r. ⌜ Holds 0 r (stateIn (now (case .entry)) (now (rows .entry))) stations ⌝ }
 {
     let mut states = old;
     let mut s: usize = 0;
     while s < stations {
-        states[s] = index(choice_of(case, row, s).state);
+        states[s] = index(choice_of(case, rows, s).state);
         s += 1;
     }
     states
 }
 
-// Past a step, whose part of the plan is `row`.
-pub(crate) fn after(previous: Previous, case: &[i64], row: &[i64], layout: Layout) -> Previous
-    requires { ⌜ (Counted (now case)) × (Laid (now case) layout) ⌝ }
-    ensures { λ r. ⌜ Carried (now (case .entry)) r (pressureIn (now (row .entry))) (activeIn (now (case .entry)) (now (row .entry))) (directionIn (now (case .entry)) (now (row .entry))) (stateIn (now (case .entry)) (now (row .entry))) ⌝ }
+// Past a step, whose part of the plan is `rows`.
+pub(crate) fn after(previous: Previous, case: &[i64], rows: &[i64], layout: Layout) -> Previous
+    requires { ⌜ (Counted (now case)) × (LayoutOf (now case) layout) ⌝ }
+    ensures { λ r. ⌜ Carried (now (case .entry)) r (pressureIn (now (rows .entry))) (activeIn (now (case .entry)) (now (rows .entry))) (directionIn (now (case .entry)) (now (rows .entry))) (stateIn (now (case .entry)) (now (rows .entry))) ⌝ }
 {
     let old_pressures = previous.pressures;
     let old_active = previous.active;
     let old_directions = previous.directions;
     let old_states = previous.states;
-    let pressures = row_pressures(old_pressures, row, layout.nodes);
-    let active = row_active(old_active, case, row, layout.arcs);
-    let directions = row_directions(old_directions, case, row, layout.stations);
-    let states = row_states(old_states, case, row, layout.stations);
+    let pressures = row_pressures(old_pressures, rows, layout.nodes);
+    let active = row_active(old_active, case, rows, layout.arcs);
+    let directions = row_directions(old_directions, case, rows, layout.stations);
+    let states = row_states(old_states, case, rows, layout.stations);
     Previous {
         pressures: pressures,
         active: active,

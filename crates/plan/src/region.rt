@@ -91,50 +91,50 @@ fn inward(begins: bool, ends: bool, from: i64, to: i64) -> i64
     }
 }
 
-fn edge_flow(case: &[i64], set: i64, row: &[i64], e: usize) -> i64
-    requires { ⌜ (RegionFlows (now case) (now row)) × (e < arcsOf (now case)) ⌝ }
-    ensures { λ r. ⌜ r ≡ edgeFlow (now (case .entry)) set (now (row .entry)) e ⌝ }
+fn edge_flow(case: &[i64], set: i64, rows: &[i64], e: usize) -> i64
+    requires { ⌜ (RegionFlows (now case) (now rows)) × (e < arcsOf (now case)) ⌝ }
+    ensures { λ r. ⌜ r ≡ edgeFlow (now (case .entry)) set (now (rows .entry)) e ⌝ }
 {
     let c = arc(case, e);
-    let flow = end_flows(case, row, e);
+    let flow = end_flows(case, rows, e);
     let begins = member(set, c.from);
     let ends = member(set, c.to);
     inward(begins, ends, flow.from, flow.to)
 }
 
-fn edge_flows(case: &[i64], set: i64, row: &[i64], arcs: usize) -> i64
-    requires { ⌜ (RegionFlows (now case) (now row)) × (arcs ≡ arcsOf (now case)) ⌝ }
-    ensures { λ r. ⌜ r ≡ edgeFlows (now (case .entry)) set (now (row .entry)) ⌝ }
+fn edge_flows(case: &[i64], set: i64, rows: &[i64], arcs: usize) -> i64
+    requires { ⌜ (RegionFlows (now case) (now rows)) × (arcs ≡ arcsOf (now case)) ⌝ }
+    ensures { λ r. ⌜ r ≡ edgeFlows (now (case .entry)) set (now (rows .entry)) ⌝ }
 {
     let mut sum = Sum { value: 0 };
     let mut e: usize = 0;
     while e < arcs {
-        sum.value = sum.value + edge_flow(case, set, row, e);
+        sum.value = sum.value + edge_flow(case, set, rows, e);
         e += 1;
     }
     sum.value
 }
 
 // d at a node, if the set has it.
-fn supply(set: i64, row: &[i64], v: usize) -> i64
+fn supply(set: i64, rows: &[i64], v: usize) -> i64
     requires { ⌜ v < 60 ⌝ }
-    ensures { λ r. ⌜ r ≡ regionSupply set (now (row .entry)) v ⌝ }
+    ensures { λ r. ⌜ r ≡ regionSupply set (now (rows .entry)) v ⌝ }
 {
     if member(set, v) {
-        node_row(row, v).d
+        node_row(rows, v).d
     } else {
         0
     }
 }
 
-fn supplies(case: &[i64], set: i64, row: &[i64], nodes: usize) -> i64
-    requires { ⌜ (nodes ≡ nodesOf (now case)) × (nodes ≤ 60) × (NodesSized (now case) (now row)) ⌝ }
-    ensures { λ r. ⌜ r ≡ suppliesIn (now (case .entry)) set (now (row .entry)) ⌝ }
+fn supplies(case: &[i64], set: i64, rows: &[i64], nodes: usize) -> i64
+    requires { ⌜ (nodes ≡ nodesOf (now case)) × (nodes ≤ 60) × (NodesSized (now case) (now rows)) ⌝ }
+    ensures { λ r. ⌜ r ≡ suppliesIn (now (case .entry)) set (now (rows .entry)) ⌝ }
 {
     let mut sum = Sum { value: 0 };
     let mut v: usize = 0;
     while v < nodes {
-        sum.value = sum.value + supply(set, row, v);
+        sum.value = sum.value + supply(set, rows, v);
         v += 1;
     }
     sum.value
@@ -144,26 +144,26 @@ fn brought_in(
     case: &[i64],
     set: i64,
     old: &[i64],
-    row: &[i64],
+    rows: &[i64],
     nodes: usize,
     arcs: usize,
     i: usize,
 ) -> i64
-    requires { ⌜ (nodes ≡ nodesOf (now case)) × (arcs ≡ arcsOf (now case)) × (RegionStep (now case) (now old) (now row) i) ⌝ }
-    ensures { λ r. ⌜ r ≡ broughtIn (now (case .entry)) set (now (row .entry)) i ⌝ }
+    requires { ⌜ (nodes ≡ nodesOf (now case)) × (arcs ≡ arcsOf (now case)) × (RegionStep (now case) (now old) (now rows) i) ⌝ }
+    ensures { λ r. ⌜ r ≡ broughtIn (now (case .entry)) set (now (rows .entry)) i ⌝ }
 {
-    let supplied = supplies(case, set, row, nodes);
-    let flowed = edge_flows(case, set, row, arcs);
+    let supplied = supplies(case, set, rows, nodes);
+    let flowed = edge_flows(case, set, rows, arcs);
     duration(case, i) * (supplied + flowed)
 }
 
 // The left side of 33 at a node with the net flow `net`, if the set has the node.
-fn own_node(case: &[i64], set: i64, row: &[i64], i: usize, v: usize, net: i64) -> usize
-    requires { ⌜ AtBalance (now case) (now row) i v net ⌝ }
-    ensures { λ r. ⌜ r ≡ ownNode (now (case .entry)) set (now (row .entry)) i v ⌝ }
+fn own_node(case: &[i64], set: i64, rows: &[i64], i: usize, v: usize, net: i64) -> usize
+    requires { ⌜ AtBalance (now case) (now rows) i v net ⌝ }
+    ensures { λ r. ⌜ r ≡ ownNode (now (case .entry)) set (now (rows .entry)) i v ⌝ }
 {
     if member(set, v) {
-        node_residual(case, row, i, v, net)
+        node_residual(case, rows, i, v, net)
     } else {
         0
     }
@@ -173,44 +173,44 @@ fn own_nodes(
     case: &[i64],
     set: i64,
     old: &[i64],
-    row: &[i64],
+    rows: &[i64],
     nodes: usize,
     arcs: usize,
     i: usize,
 ) -> usize
-    requires { ⌜ (nodes ≡ nodesOf (now case)) × (arcs ≡ arcsOf (now case)) × (RegionStep (now case) (now old) (now row) i) ⌝ }
-    ensures { λ r. ⌜ r ≡ ownNodes (now (case .entry)) set (now (row .entry)) i ⌝ }
+    requires { ⌜ (nodes ≡ nodesOf (now case)) × (arcs ≡ arcsOf (now case)) × (RegionStep (now case) (now old) (now rows) i) ⌝ }
+    ensures { λ r. ⌜ r ≡ ownNodes (now (case .entry)) set (now (rows .entry)) i ⌝ }
 {
-    let net = net_flows(case, row, arcs);
+    let net = net_flows(case, rows, arcs);
     let mut sum: usize = 0;
     let mut v: usize = 0;
     while v < nodes {
-        sum += own_node(case, set, row, i, v, net[v]);
+        sum += own_node(case, set, rows, i, v, net[v]);
         v += 1;
     }
     sum
 }
 
 // The left side of 28 at an inner pipe.
-fn own_pipe(case: &[i64], set: i64, old: &[i64], row: &[i64], i: usize, e: usize) -> usize
-    requires { ⌜ (RegionStep (now case) (now old) (now row) i) × (e < arcsOf (now case)) ⌝ }
-    ensures { λ r. ⌜ r ≡ ownPipe (now (case .entry)) set (numberAt (now (old .entry))) (now (row .entry)) i e ⌝ }
+fn own_pipe(case: &[i64], set: i64, old: &[i64], rows: &[i64], i: usize, e: usize) -> usize
+    requires { ⌜ (RegionStep (now case) (now old) (now rows) i) × (e < arcsOf (now case)) ⌝ }
+    ensures { λ r. ⌜ r ≡ ownPipe (now (case .entry)) set (numberAt (now (old .entry))) (now (rows .entry)) i e ⌝ }
 {
     if inner_pipe(case, set, e) {
-        pipe_residual(case, old, row, i, e)
+        pipe_residual(case, old, rows, i, e)
     } else {
         0
     }
 }
 
-fn own_pipes(case: &[i64], set: i64, old: &[i64], row: &[i64], arcs: usize, i: usize) -> usize
-    requires { ⌜ (arcs ≡ arcsOf (now case)) × (RegionStep (now case) (now old) (now row) i) ⌝ }
-    ensures { λ r. ⌜ r ≡ ownPipes (now (case .entry)) set (numberAt (now (old .entry))) (now (row .entry)) i ⌝ }
+fn own_pipes(case: &[i64], set: i64, old: &[i64], rows: &[i64], arcs: usize, i: usize) -> usize
+    requires { ⌜ (arcs ≡ arcsOf (now case)) × (RegionStep (now case) (now old) (now rows) i) ⌝ }
+    ensures { λ r. ⌜ r ≡ ownPipes (now (case .entry)) set (numberAt (now (old .entry))) (now (rows .entry)) i ⌝ }
 {
     let mut sum: usize = 0;
     let mut e: usize = 0;
     while e < arcs {
-        sum += own_pipe(case, set, old, row, i, e);
+        sum += own_pipe(case, set, old, rows, i, e);
         e += 1;
     }
     sum
@@ -231,26 +231,26 @@ pub struct Gathered {
     pub residual: usize,
 }
 
-// With one step more, whose part of the plan is `row`.
+// With one step more, whose part of the plan is `rows`.
 pub(crate) fn with_step(
     g: Gathered,
     case: &[i64],
     set: i64,
-    row: &[i64],
+    rows: &[i64],
     nodes: usize,
     arcs: usize,
     i: usize,
 ) -> Gathered
-    requires { ⌜ (nodes ≡ nodesOf (now case)) × (arcs ≡ arcsOf (now case)) × (RegionStep (now case) (g .pressures) (now row) i) × (RegionRoom g) ⌝ }
-    ensures { λ r. ⌜ RegionAdded (now (case .entry)) set (now (row .entry)) i g r ⌝ }
+    requires { ⌜ (nodes ≡ nodesOf (now case)) × (arcs ≡ arcsOf (now case)) × (RegionStep (now case) (g .pressures) (now rows) i) × (RegionRoom g) ⌝ }
+    ensures { λ r. ⌜ RegionAdded (now (case .entry)) set (now (rows .entry)) i g r ⌝ }
 {
     let old = g.pressures;
-    let brought = brought_in(case, set, &old, row, nodes, arcs, i);
-    let at_nodes = own_nodes(case, set, &old, row, nodes, arcs, i);
-    let at_pipes = own_pipes(case, set, &old, row, arcs, i);
+    let brought = brought_in(case, set, &old, rows, nodes, arcs, i);
+    let at_nodes = own_nodes(case, set, &old, rows, nodes, arcs, i);
+    let at_pipes = own_pipes(case, set, &old, rows, arcs, i);
     let left = together(at_nodes, at_pipes);
     let kept = g.pressures;
-    let next = row_pressures(kept, row, nodes);
+    let next = row_pressures(kept, rows, nodes);
     Gathered {
         pressures: next,
         brought: g.brought + brought,

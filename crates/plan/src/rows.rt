@@ -29,52 +29,52 @@ pub struct Choice {
     pub state: i64,
 }
 
-pub(crate) fn node_row(row: &[i64], v: usize) -> NodeRow
+pub(crate) fn node_row(rows: &[i64], v: usize) -> NodeRow
     requires { ⌜ v < 1000000 ⌝ }
-    ensures { λ r. ⌜ r ≡ nodeRow (now (row .entry)) v ⌝ }
+    ensures { λ r. ⌜ r ≡ nodeRow (now (rows .entry)) v ⌝ }
 {
-    let first = v * 6;
+    let offset = v * 6;
     NodeRow {
-        p: at(row, first),
-        d: at(row, first + 1),
-        splus: at(row, first + 2),
-        sminus: at(row, first + 3),
-        uplus: at(row, first + 4),
-        uminus: at(row, first + 5),
+        p: at(rows, offset),
+        d: at(rows, offset + 1),
+        splus: at(rows, offset + 2),
+        sminus: at(rows, offset + 3),
+        uplus: at(rows, offset + 4),
+        uminus: at(rows, offset + 5),
     }
 }
 
 // A node's pressure alone.
-pub(crate) fn pressure(row: &[i64], v: usize) -> i64
+pub(crate) fn pressure(rows: &[i64], v: usize) -> i64
     requires { ⌜ v < 1000000 ⌝ }
-    ensures { λ r. ⌜ r ≡ pressureIn (now (row .entry)) v ⌝ }
+    ensures { λ r. ⌜ r ≡ pressureIn (now (rows .entry)) v ⌝ }
 {
-    at(row, v * 6)
+    at(rows, v * 6)
 }
 
-pub(crate) fn arc_row(case: &[i64], row: &[i64], e: usize) -> ArcRow
+pub(crate) fn arc_row(case: &[i64], rows: &[i64], e: usize) -> ArcRow
     requires { ⌜ (Counted (now case)) × (e < arcsOf (now case)) ⌝ }
-    ensures { λ r. ⌜ r ≡ arcRow (now (case .entry)) (now (row .entry)) e ⌝ }
+    ensures { λ r. ⌜ r ≡ arcRow (now (case .entry)) (now (rows .entry)) e ⌝ }
 {
     let nodes = index(at(case, 1));
-    let first = nodes * 6 + e * 4;
+    let offset = nodes * 6 + e * 4;
     ArcRow {
-        a: at(row, first),
-        b: at(row, first + 1),
-        setting: at(row, first + 2),
-        machines: at(row, first + 3),
+        a: at(rows, offset),
+        b: at(rows, offset + 1),
+        setting: at(rows, offset + 2),
+        machines: at(rows, offset + 3),
     }
 }
 
-pub(crate) fn choice_of(case: &[i64], row: &[i64], s: usize) -> Choice
+pub(crate) fn choice_of(case: &[i64], rows: &[i64], s: usize) -> Choice
     requires { ⌜ (Counted (now case)) × (s < stationsOf (now case)) ⌝ }
-    ensures { λ r. ⌜ r ≡ choiceOf (now (case .entry)) (now (row .entry)) s ⌝ }
+    ensures { λ r. ⌜ r ≡ choiceOf (now (case .entry)) (now (rows .entry)) s ⌝ }
 {
     let nodes = index(at(case, 1));
     let arcs = index(at(case, 2));
-    let first = nodes * 6 + arcs * 4 + s * 2;
+    let offset = nodes * 6 + arcs * 4 + s * 2;
     Choice {
-        direction: at(row, first),
-        state: at(row, first + 1),
+        direction: at(rows, offset),
+        state: at(rows, offset + 1),
     }
 }

@@ -33,11 +33,11 @@ fn one_of(x: i64, n: usize) -> bool
     if at_most(0, x) { index(x) < n } else { false }
 }
 
-// Does the state support the direction, and do the active arcs obey it? The station's rows begin at `first`.
-fn state_obeyed(case: &[i64], first: usize, active: i64, f: usize, z: usize) -> bool
-    ensures { λ r. ⌜ r ≡ obeyed (stateRow (now (case .entry)) first z) f active ⌝ }
+// Does the state support the direction, and do the active arcs obey it? The station's rows begin at `offset`.
+fn state_obeyed(case: &[i64], offset: usize, active: i64, f: usize, z: usize) -> bool
+    ensures { λ r. ⌜ r ≡ obeyed (stateRow (now (case .entry)) offset z) f active ⌝ }
 {
-    let x = state(case, first, z);
+    let x = state(case, offset, z);
     if member(x.directions, f) {
         if subset(x.on, active) {
             return disjoint(x.off, active);
@@ -47,18 +47,25 @@ fn state_obeyed(case: &[i64], first: usize, active: i64, f: usize, z: usize) -> 
 }
 
 // 30
-fn choice_kept(case: &[i64], row: &[i64], layout: Layout, i: usize, s: usize, active: usize) -> bool
-    requires { ⌜ (AtStation (now case) (now row) layout i s) × (active ≡ activeBits (now case) (now row) s) ⌝ }
-    ensures { λ r. ⌜ r ≡ choiceKept (now (case .entry)) (now (row .entry)) s ⌝ }
+fn choice_kept(
+    case: &[i64],
+    rows: &[i64],
+    layout: Layout,
+    i: usize,
+    s: usize,
+    active: usize,
+) -> bool
+    requires { ⌜ (AtStation (now case) (now rows) layout i s) × (active ≡ activeBits (now case) (now rows) s) ⌝ }
+    ensures { λ r. ⌜ r ≡ choiceKept (now (case .entry)) (now (rows .entry)) s ⌝ }
 {
-    let first = layout.rows[s];
-    let has = station(case, first);
-    let chosen = choice_of(case, row, s);
+    let offset = layout.offsets[s];
+    let has = station(case, offset);
+    let chosen = choice_of(case, rows, s);
     if one_of(chosen.direction, has.directions) {
         if one_of(chosen.state, has.states) {
             return state_obeyed(
                 case,
-                first,
+                offset,
                 active as i64,
                 index(chosen.direction),
                 index(chosen.state),
@@ -96,19 +103,19 @@ fn fence_kept(chosen: Direction, inside: i64, plain: i64, v: usize, flow: i64) -
 // 32
 fn fence_flows_kept(
     case: &[i64],
-    row: &[i64],
+    rows: &[i64],
     layout: Layout,
     i: usize,
     s: usize,
     flows: &[i64],
 ) -> bool
-    requires { ⌜ (AtStation (now case) (now row) layout i s) × (FlowsPassed (now case) (now row) (now flows)) ⌝ }
-    ensures { λ r. ⌜ r ≡ fenceFlowsKept (now (case .entry)) (now (row .entry)) s ⌝ }
+    requires { ⌜ (AtStation (now case) (now rows) layout i s) × (FlowsPassed (now case) (now rows) (now flows)) ⌝ }
+    ensures { λ r. ⌜ r ≡ fenceFlowsKept (now (case .entry)) (now (rows .entry)) s ⌝ }
 {
     let chosen = direction(
         case,
-        layout.rows[s],
-        index(choice_of(case, row, s).direction),
+        layout.offsets[s],
+        index(choice_of(case, rows, s).direction),
     );
     let inside = layout.inside[s];
     let plain = layout.plain;
@@ -126,7 +133,7 @@ fn fence_flows_kept(
 // `active` are the station's active arcs, `once` is the answer to 31, `flows` are the net flows into artificial arcs.
 fn station_answer(
     case: &[i64],
-    row: &[i64],
+    rows: &[i64],
     layout: Layout,
     i: usize,
     s: usize,
@@ -134,15 +141,15 @@ fn station_answer(
     once: bool,
     flows: &[i64],
 ) -> Answer
-    requires { ⌜ (AtStation (now case) (now row) layout i s) × (active ≡ activeBits (now case) (now row) s) × (once ≡ machinesOnce (now case) (now row) s) × (FlowsPassed (now case) (now row) (now flows)) ⌝ }
-    ensures { λ r. ⌜ r ≡ firstNo (stationQuestions (now (case .entry)) (now (row .entry)) i s) ⌝ }
+    requires { ⌜ (AtStation (now case) (now rows) layout i s) × (active ≡ activeBits (now case) (now rows) s) × (once ≡ machinesOnce (now case) (now rows) s) × (FlowsPassed (now case) (now rows) (now flows)) ⌝ }
+    ensures { λ r. ⌜ r ≡ firstNo (stationQuestions (now (case .entry)) (now (rows .entry)) i s) ⌝ }
 {
     or_else(
-        ask(choice_kept(case, row, layout, i, s, active), 30, i + 1, s),
+        ask(choice_kept(case, rows, layout, i, s, active), 30, i + 1, s),
         or_else(
             ask(once, 31, i + 1, s),
             ask(
-                fence_flows_kept(case, row, layout, i, s, flows),
+                fence_flows_kept(case, rows, layout, i, s, flows),
                 32,
                 i + 1,
                 s,
@@ -151,17 +158,17 @@ fn station_answer(
     )
 }
 
-pub(crate) fn station_answers(case: &[i64], row: &[i64], layout: Layout, i: usize) -> Answer
-    requires { ⌜ (AtStep (now case) layout i) × (FlowsSized (now case) (now row)) × (MachinesKept (now case) (now row)) ⌝ }
-    ensures { λ r. ⌜ r ≡ firstNo (allStationQuestions (now (case .entry)) (now (row .entry)) i) ⌝ }
+pub(crate) fn station_answers(case: &[i64], rows: &[i64], layout: Layout, i: usize) -> Answer
+    requires { ⌜ (AtStep (now case) layout i) × (FlowsSized (now case) (now rows)) × (MachinesKept (now case) (now rows)) ⌝ }
+    ensures { λ r. ⌜ r ≡ firstNo (allStationQuestions (now (case .entry)) (now (rows .entry)) i) ⌝ }
 {
     let stations = layout.stations;
-    let active = active_sets(case, row, layout.arcs);
-    let once = machines_once(case, row, layout.arcs);
-    let flows = artificial_flows(case, row, layout.arcs);
+    let active = active_sets(case, rows, layout.arcs);
+    let once = machines_once(case, rows, layout.arcs);
+    let flows = artificial_flows(case, rows, layout.arcs);
     let mut s: usize = 0;
     while s < stations {
-        let a = station_answer(case, row, layout, i, s, active[s], once[s], &flows);
+        let a = station_answer(case, rows, layout, i, s, active[s], once[s], &flows);
         match a {
             Answer::Yes => {}
             Answer::No {

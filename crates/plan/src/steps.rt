@@ -6,7 +6,7 @@ ghost use lib.ListN.{length, take, drop};
 ghost use Rattle.numbers.specs.law.Question.{firstNo};
 ghost use Rattle.numbers.specs.law.Items.{over};
 ghost use Rattle.case.specs.law.Layout.{numberAt, nodesOf, arcsOf, stepsOf};
-ghost use Rattle.case.specs.law.LayoutOf.{Laid};
+ghost use Rattle.case.specs.law.LayoutOf.{LayoutOf};
 ghost use Rattle.plan.specs.law.StationRules.{allStationQuestions};
 ghost use Rattle.plan.specs.law.Balance.{allBalanceQuestions};
 ghost use Rattle.plan.specs.law.Step.{stepQuestions};
@@ -33,13 +33,13 @@ use case::records::Layout;
 use numbers::answer::Answer;
 
 // Past the arcs: every station, and then the balance of every node.
-fn past_arcs(case: &[i64], row: &[i64], layout: Layout, i: usize) -> Stepped
-    requires { ⌜ (AtStep (now case) layout i) × (FlowsSized (now case) (now row)) × (NodesSized (now case) (now row)) × (MachinesKept (now case) (now row)) ⌝ }
-    ensures { λ r. ⌜ r ≡ steppedBy (firstNo (allStationQuestions (now (case .entry)) (now (row .entry)) i ++ allBalanceQuestions (now (case .entry)) (now (row .entry)) i)) (nodeResiduals (now (case .entry)) (now (row .entry)) i) ⌝ }
+fn past_arcs(case: &[i64], rows: &[i64], layout: Layout, i: usize) -> Stepped
+    requires { ⌜ (AtStep (now case) layout i) × (FlowsSized (now case) (now rows)) × (NodesSized (now case) (now rows)) × (MachinesKept (now case) (now rows)) ⌝ }
+    ensures { λ r. ⌜ r ≡ steppedBy (firstNo (allStationQuestions (now (case .entry)) (now (rows .entry)) i ++ allBalanceQuestions (now (case .entry)) (now (rows .entry)) i)) (nodeResiduals (now (case .entry)) (now (rows .entry)) i) ⌝ }
 {
-    let stations = station_answers(case, row, layout, i);
+    let stations = station_answers(case, rows, layout, i);
     match stations {
-        Answer::Yes => balance(case, row, layout, i),
+        Answer::Yes => balance(case, rows, layout, i),
         Answer::No {
             number: _,
             step: _,
@@ -48,13 +48,13 @@ fn past_arcs(case: &[i64], row: &[i64], layout: Layout, i: usize) -> Stepped
     }
 }
 
-// Every question of a step, whose part of the plan is `row`.
-fn step(case: &[i64], row: &[i64], previous: Previous, layout: Layout, i: usize) -> Stepped
+// Every question of a step, whose part of the plan is `rows`.
+fn step(case: &[i64], rows: &[i64], previous: Previous, layout: Layout, i: usize) -> Stepped
     requires { ⌜ (AtStep (now case) layout i) × (PressuresSized (numberAt (previous .pressures)) (nodesOf (now case))) ⌝ }
-    ensures { λ r. ⌜ r ≡ steppedBy (firstNo (stepQuestions (now (case .entry)) (numberAt (previous .pressures)) (now (row .entry)) i)) (nodeResiduals (now (case .entry)) (now (row .entry)) i) ⌝ }
+    ensures { λ r. ⌜ r ≡ steppedBy (firstNo (stepQuestions (now (case .entry)) (numberAt (previous .pressures)) (now (rows .entry)) i)) (nodeResiduals (now (case .entry)) (now (rows .entry)) i) ⌝ }
 {
     let old = previous.pressures;
-    let nodes = node_answers(case, row, i, layout.nodes);
+    let nodes = node_answers(case, rows, i, layout.nodes);
     match nodes {
         Answer::Yes => {}
         Answer::No {
@@ -65,9 +65,9 @@ fn step(case: &[i64], row: &[i64], previous: Previous, layout: Layout, i: usize)
             return stopped(nodes);
         }
     }
-    let arcs = arc_answers(case, &old, row, layout, i);
+    let arcs = arc_answers(case, &old, rows, layout, i);
     match arcs {
-        Answer::Yes => past_arcs(case, row, layout, i),
+        Answer::Yes => past_arcs(case, rows, layout, i),
         Answer::No {
             number: _,
             step: _,
@@ -121,14 +121,14 @@ fn part_of(plan: &[i64], i: usize, width: usize) -> &[i64]
     requires { ⌜ (i ≤ 48) × (width ≤ 1000) × (2 + i * width + width ≤ length (now plan)) ⌝ }
     ensures { λ r. ⌜ now r ≡ take width (drop (2 + i * width) (now (plan .entry))) ⌝ }
 {
-    let first = 2 + i * width;
-    let end = first + width;
-    &plan[first..end]
+    let offset = 2 + i * width;
+    let end = offset + width;
+    &plan[offset..end]
 }
 
 // A step judge that waves a step through falls to the promise, as does one that looks at the first step's part alone.
 pub(crate) fn steps(case: &[i64], plan: &[i64], layout: Layout) -> Verdict
-    requires { ⌜ (AcceptedCase (now case)) × (Laid (now case) layout) × (PlanLaid (now case) (now plan)) ⌝ }
+    requires { ⌜ (AcceptedCase (now case)) × (LayoutOf (now case) layout) × (PlanLaid (now case) (now plan)) ⌝ }
     ensures { λ r. ⌜ r ≡ verdictOf (firstNo (over (planStep (now (case .entry)) (now (plan .entry))) 0 (stepsOf (now (case .entry))))) (totalsOf (now (case .entry)) (now (plan .entry))) ⌝ }
 {
     let count = layout.steps;
@@ -138,12 +138,12 @@ pub(crate) fn steps(case: &[i64], plan: &[i64], layout: Layout) -> Verdict
     let mut totals = opened(case, previous, arcs);
     let mut i: usize = 0;
     while i < count {
-        let row = part_of(plan, i, width);
-        let a = step(case, row, previous, layout, i);
+        let rows = part_of(plan, i, width);
+        let a = step(case, rows, previous, layout, i);
         match a {
             Stepped::Kept { residual } => {
-                totals = added(totals, case, row, previous, layout, i, residual);
-                previous = after(previous, case, row, layout);
+                totals = added(totals, case, rows, previous, layout, i, residual);
+                previous = after(previous, case, rows, layout);
             }
             Stepped::No {
                 number,

@@ -2,7 +2,7 @@
 ghost use mathlib.Core.Path.{_≡_};
 ghost use Prim.Native.Nat.{_<_};
 ghost use Rattle.case.specs.law.Layout.{numberAt, nodesOf, arcsOf, stationsOf, stationAt, stepsOf};
-ghost use Rattle.case.specs.law.LayoutOf.{Laid};
+ghost use Rattle.case.specs.law.LayoutOf.{LayoutOf};
 ghost use Rattle.plan.specs.law.Totals.{changed, directionCost, stateCost, activityCost, choiceCosts, activityCosts, pipePart, pipeResiduals, nodeResiduals, gasPart, gasAt};
 ghost use Rattle.plan.specs.inside.PreviousHolds.{activeOf, indexOf};
 ghost use Rattle.plan.specs.inside.Sizes.{NodesSized, PressuresSized};
@@ -39,9 +39,9 @@ pub struct Slacks {
     pub demand: i64,
 }
 
-pub(crate) fn slacks_of(case: &[i64], row: &[i64], nodes: usize) -> Slacks
-    requires { ⌜ (AcceptedCase (now case)) × (nodes ≡ nodesOf (now case)) × (NodesSized (now case) (now row)) ⌝ }
-    ensures { λ r. ⌜ Slacked (now (case .entry)) (now (row .entry)) r ⌝ }
+pub(crate) fn slacks_of(case: &[i64], rows: &[i64], nodes: usize) -> Slacks
+    requires { ⌜ (AcceptedCase (now case)) × (nodes ≡ nodesOf (now case)) × (NodesSized (now case) (now rows)) ⌝ }
+    ensures { λ r. ⌜ Slacked (now (case .entry)) (now (rows .entry)) r ⌝ }
 {
     let mut sum = Slacks {
         pressure: 0,
@@ -49,7 +49,7 @@ pub(crate) fn slacks_of(case: &[i64], row: &[i64], nodes: usize) -> Slacks
     };
     let mut v: usize = 0;
     while v < nodes {
-        let r = node_row(row, v);
+        let r = node_row(rows, v);
         sum.pressure = sum.pressure + (r.uplus + r.uminus);
         sum.demand = sum.demand + (r.splus + r.sminus);
         v += 1;
@@ -57,29 +57,29 @@ pub(crate) fn slacks_of(case: &[i64], row: &[i64], nodes: usize) -> Slacks
     sum
 }
 
-// The weight of the direction, if it is newly chosen. The station's rows begin at `first`.
-fn direction_cost(case: &[i64], row: &[i64], first: usize, s: usize, was: usize) -> usize
-    requires { ⌜ (AcceptedCase (now case)) × (s < stationsOf (now case)) × (first ≡ stationAt (now case) s) ⌝ }
-    ensures { λ r. ⌜ r ≡ directionCost (now (case .entry)) was (now (row .entry)) s ⌝ }
+// The weight of the direction, if it is newly chosen. The station's rows begin at `offset`.
+fn direction_cost(case: &[i64], rows: &[i64], offset: usize, s: usize, was: usize) -> usize
+    requires { ⌜ (AcceptedCase (now case)) × (s < stationsOf (now case)) × (offset ≡ stationAt (now case) s) ⌝ }
+    ensures { λ r. ⌜ r ≡ directionCost (now (case .entry)) was (now (rows .entry)) s ⌝ }
 {
-    let f = index(choice_of(case, row, s).direction);
+    let f = index(choice_of(case, rows, s).direction);
     if f == was {
         0
     } else {
-        direction(case, first, f).weight
+        direction(case, offset, f).weight
     }
 }
 
 // The weight of the state, if it is newly chosen.
-fn state_cost(case: &[i64], row: &[i64], first: usize, s: usize, was: usize) -> usize
-    requires { ⌜ (AcceptedCase (now case)) × (s < stationsOf (now case)) × (first ≡ stationAt (now case) s) ⌝ }
-    ensures { λ r. ⌜ r ≡ stateCost (now (case .entry)) was (now (row .entry)) s ⌝ }
+fn state_cost(case: &[i64], rows: &[i64], offset: usize, s: usize, was: usize) -> usize
+    requires { ⌜ (AcceptedCase (now case)) × (s < stationsOf (now case)) × (offset ≡ stationAt (now case) s) ⌝ }
+    ensures { λ r. ⌜ r ≡ stateCost (now (case .entry)) was (now (rows .entry)) s ⌝ }
 {
-    let z = index(choice_of(case, row, s).state);
+    let z = index(choice_of(case, rows, s).state);
     if z == was {
         0
     } else {
-        state(case, first, z).weight
+        state(case, offset, z).weight
     }
 }
 
@@ -87,19 +87,19 @@ pub(crate) fn choice_costs(
     case: &[i64],
     directions: [usize; 8],
     states: [usize; 8],
-    row: &[i64],
+    rows: &[i64],
     layout: Layout,
 ) -> usize
-    requires { ⌜ (AcceptedCase (now case)) × (Laid (now case) layout) × (ChoicesKept (now case) (now row)) ⌝ }
-    ensures { λ r. ⌜ r ≡ choiceCosts (now (case .entry)) (indexOf directions) (indexOf states) (now (row .entry)) ⌝ }
+    requires { ⌜ (AcceptedCase (now case)) × (LayoutOf (now case) layout) × (ChoicesKept (now case) (now rows)) ⌝ }
+    ensures { λ r. ⌜ r ≡ choiceCosts (now (case .entry)) (indexOf directions) (indexOf states) (now (rows .entry)) ⌝ }
 {
     let stations = layout.stations;
     let mut sum: usize = 0;
     let mut s: usize = 0;
     while s < stations {
-        let first = layout.rows[s];
-        let f = direction_cost(case, row, first, s, directions[s]);
-        let z = state_cost(case, row, first, s, states[s]);
+        let offset = layout.offsets[s];
+        let f = direction_cost(case, rows, offset, s, directions[s]);
+        let z = state_cost(case, rows, offset, s, states[s]);
         sum += f + z;
         s += 1;
     }
@@ -113,51 +113,57 @@ fn changed(was: bool, is: bool) -> bool
 }
 
 // The weight of an artificial arc whose activity changed.
-fn activity_cost(case: &[i64], row: &[i64], e: usize, was: bool) -> usize
+fn activity_cost(case: &[i64], rows: &[i64], e: usize, was: bool) -> usize
     requires { ⌜ (AcceptedCase (now case)) × (e < arcsOf (now case)) ⌝ }
-    ensures { λ r. ⌜ r ≡ activityCost (now (case .entry)) was (now (row .entry)) e ⌝ }
+    ensures { λ r. ⌜ r ≡ activityCost (now (case .entry)) was (now (rows .entry)) e ⌝ }
 {
     if 3 <= arc(case, e).kind {
-        if changed(was, at_most(1, arc_row(case, row, e).setting)) {
+        if changed(was, at_most(1, arc_row(case, rows, e).setting)) {
             return artificial(case, e).weight;
         }
     }
     0
 }
 
-pub(crate) fn activity_costs(case: &[i64], active: [bool; 120], row: &[i64], arcs: usize) -> usize
+pub(crate) fn activity_costs(case: &[i64], active: [bool; 120], rows: &[i64], arcs: usize) -> usize
     requires { ⌜ (AcceptedCase (now case)) × (arcs ≡ arcsOf (now case)) ⌝ }
-    ensures { λ r. ⌜ r ≡ activityCosts (now (case .entry)) (activeOf active) (now (row .entry)) ⌝ }
+    ensures { λ r. ⌜ r ≡ activityCosts (now (case .entry)) (activeOf active) (now (rows .entry)) ⌝ }
 {
     let mut sum: usize = 0;
     let mut e: usize = 0;
     while e < arcs {
-        sum += activity_cost(case, row, e, active[e]);
+        sum += activity_cost(case, rows, e, active[e]);
         e += 1;
     }
     sum
 }
 
 // The left side of 28, of a pipe.
-fn pipe_part(case: &[i64], old: &[i64], row: &[i64], i: usize, e: usize) -> usize
-    requires { ⌜ (AcceptedCase (now case)) × (i < stepsOf (now case)) × (e < arcsOf (now case)) × (StepKept (now case) (now old) (now row) i) ⌝ }
-    ensures { λ r. ⌜ r ≡ pipePart (now (case .entry)) (numberAt (now (old .entry))) (now (row .entry)) i e ⌝ }
+fn pipe_part(case: &[i64], old: &[i64], rows: &[i64], i: usize, e: usize) -> usize
+    requires { ⌜ (AcceptedCase (now case)) × (i < stepsOf (now case)) × (e < arcsOf (now case)) × (StepKept (now case) (now old) (now rows) i) ⌝ }
+    ensures { λ r. ⌜ r ≡ pipePart (now (case .entry)) (numberAt (now (old .entry))) (now (rows .entry)) i e ⌝ }
 {
     if arc(case, e).kind == 2 {
-        pipe_residual(case, old, row, i, e)
+        pipe_residual(case, old, rows, i, e)
     } else {
         0
     }
 }
 
-pub(crate) fn pipe_residuals(case: &[i64], old: &[i64], row: &[i64], i: usize, arcs: usize) -> usize
-    requires { ⌜ (AcceptedCase (now case)) × (i < stepsOf (now case)) × (arcs ≡ arcsOf (now case)) × (StepKept (now case) (now old) (now row) i) ⌝ }
-    ensures { λ r. ⌜ r ≡ pipeResiduals (now (case .entry)) (numberAt (now (old .entry))) (now (row .entry)) i ⌝ }
+pub(crate) fn pipe_residuals(
+    case: &[i64],
+    old: &[i64],
+    rows: &[i64],
+    i: usize,
+    arcs: usize,
+) -> usize
+    requires { ⌜ (AcceptedCase (now case)) × (i < stepsOf (now case)) × (arcs ≡ arcsOf (now case)) × (StepKept (now case) (now old) (now rows) i) ⌝ }
+    ensures { λ r. ⌜ r ≡ pipeResiduals (now (case .entry)) (numberAt (now (old .entry))) (now (rows .entry)) i ⌝ }
 {
     let mut sum: usize = 0;
     let mut e: usize = 0;
     while e < arcs {
-        sum += pipe_part(case, old, row, i, e);
+        sum += pipe_part(case, old, rows, i, e);
         e += 1;
     }
     sum
@@ -194,23 +200,23 @@ pub(crate) fn gas(case: &[i64], pressures: &[i64], arcs: usize) -> i64
 pub(crate) fn added(
     totals: Totals,
     case: &[i64],
-    row: &[i64],
+    rows: &[i64],
     previous: Previous,
     layout: Layout,
     i: usize,
     nodes: usize,
 ) -> Totals
-    requires { ⌜ (AtStep (now case) layout i) × (StepKept (now case) (previous .pressures) (now row) i) × (TotalsSized totals) × (nodes ≡ nodeResiduals (now case) (now row) i) ⌝ }
-    ensures { λ r. ⌜ Added (now (case .entry)) (now (row .entry)) previous i totals r ⌝ }
+    requires { ⌜ (AtStep (now case) layout i) × (StepKept (now case) (previous .pressures) (now rows) i) × (TotalsSized totals) × (nodes ≡ nodeResiduals (now case) (now rows) i) ⌝ }
+    ensures { λ r. ⌜ Added (now (case .entry)) (now (rows .entry)) previous i totals r ⌝ }
 {
     let old = previous.pressures;
-    let slack = slacks_of(case, row, layout.nodes);
+    let slack = slacks_of(case, rows, layout.nodes);
     let directions = previous.directions;
     let states = previous.states;
     let active = previous.active;
-    let choices = choice_costs(case, directions, states, row, layout);
-    let activity = activity_costs(case, active, row, layout.arcs);
-    let pipes = pipe_residuals(case, &old, row, i, layout.arcs);
+    let choices = choice_costs(case, directions, states, rows, layout);
+    let activity = activity_costs(case, active, rows, layout.arcs);
+    let pipes = pipe_residuals(case, &old, rows, i, layout.arcs);
     Totals {
         pressure: totals.pressure + slack.pressure,
         demand: totals.demand + slack.demand,

@@ -164,16 +164,16 @@ module _ (case : List ℤ) (e : Accepted case) where
   pub node-ranges : (v i : ℕ) → v < nodesOf case → i < stepsOf case → NodeRanges (nodeOf case v i)
   unfolding allNodeFields nodeFields boundFields demandFields
   node-ranges v i p q =
-      let row = nodeAt case v in
+      let offset = nodeAt case v in
       let y = item-yes (nodeFields case) (nodesOf case) (nodes-yes case list-yes) v p in
-      let k = field-then case row (pos 0) (pos 2) _ (first-yes (boundFields case row) (demandFields case row) y) in
-      let f = fields-then case (row + 1) 3 (pos 0) mostPressure _ (k .1) in
-      let al = field-then case (row + 4) (numberAt case (row + 2)) mostPressure _ (f .1) in
-      let ah = field-yes case (row + 5) (numberAt case (row + 4)) (numberAt case (row + 3)) (al .1) in
-      let d = fields-yes case (row + 6) (stepsOf case) (leastDemand (countAt case row)) (mostDemand (countAt case row)) (second-yes (boundFields case row) (demandFields case row) y) i q in
-      let p0 = at (row + 1) (f .0 0 (omega arith)) (omega arith) in
-      let low = at (row + 2) (f .0 1 (omega arith)) (omega arith) in
-      let high = at (row + 3) (f .0 2 (omega arith)) (omega arith) in
+      let k = field-then case offset (pos 0) (pos 2) _ (first-yes (boundFields case offset) (demandFields case offset) y) in
+      let f = fields-then case (offset + 1) 3 (pos 0) mostPressure _ (k .1) in
+      let al = field-then case (offset + 4) (numberAt case (offset + 2)) mostPressure _ (f .1) in
+      let ah = field-yes case (offset + 5) (numberAt case (offset + 4)) (numberAt case (offset + 3)) (al .1) in
+      let d = fields-yes case (offset + 6) (stepsOf case) (leastDemand (countAt case offset)) (mostDemand (countAt case offset)) (second-yes (boundFields case offset) (demandFields case offset) y) i q in
+      let p0 = at (offset + 1) (f .0 0 (omega arith)) (omega arith) in
+      let low = at (offset + 2) (f .0 1 (omega arith)) (omega arith) in
+      let high = at (offset + 3) (f .0 2 (omega arith)) (omega arith) in
       record {
         kind = count-most (k .0);
         p0 = between p0;
@@ -191,19 +191,19 @@ module _ (case : List ℤ) (e : Accepted case) where
   pub node-there : (v i : ℕ) → v < nodesOf case → i < stepsOf case → demandsAt (nodeAt case v) + i < length case
   unfolding allNodeFields nodeFields demandFields
   node-there v i p q =
-      let row = nodeAt case v in
+      let offset = nodeAt case v in
       let y = item-yes (nodeFields case) (nodesOf case) (nodes-yes case list-yes) v p in
-      let z = second-yes (boundFields case row) (demandFields case row) y in
-      fields-yes case (demandsAt row) (stepsOf case) (leastDemand (countAt case row)) (mostDemand (countAt case row)) z i q .there
+      let z = second-yes (boundFields case offset) (demandFields case offset) y in
+      fields-yes case (demandsAt offset) (stepsOf case) (leastDemand (countAt case offset)) (mostDemand (countAt case offset)) z i q .there
 
   -- ---- arcs
 
   arc-yes : (a : ℕ) → a < arcsOf case → (firstNo (endFields case (arcAt case a)) ≡ Yes) × (firstNo (kindFields case (arcAt case a)) ≡ Yes)
   unfolding allArcFields arcFields
   arc-yes a p =
-      let row = arcAt case a in
+      let offset = arcAt case a in
       let y = item-yes (arcFields case) (arcsOf case) (arcs-yes case list-yes) a p in
-      (first-yes (endFields case row) (kindFields case row) y, second-yes (endFields case row) (kindFields case row) y)
+      (first-yes (endFields case offset) (kindFields case offset) y, second-yes (endFields case offset) (kindFields case offset) y)
 
   -- 13
   pub ends-differ : (a : ℕ) → a < arcsOf case → arcOf case a .from ≡ arcOf case a .to → ⊥
@@ -215,28 +215,28 @@ module _ (case : List ℤ) (e : Accepted case) where
   pub arc-ranges : (a : ℕ) → a < arcsOf case → ArcRanges (nodesOf case) (arcOf case a)
   unfolding endFields
   arc-ranges a p =
-      let row = arcAt case a in
-      let k = field-then case row (pos 0) (pos 6) _ (arc-yes a p .0) in
-      let f = fields-then case (row + 1) 2 (pos 0) (lastOf (nodesOf case)) _ (k .1) in
+      let offset = arcAt case a in
+      let k = field-then case offset (pos 0) (pos 6) _ (arc-yes a p .0) in
+      let f = fields-then case (offset + 1) 2 (pos 0) (lastOf (nodesOf case)) _ (k .1) in
       record {
         kind = count-most (k .0);
-        from = below (at (row + 1) (f .0 0 (omega arith)) (omega arith));
-        to = below (at (row + 2) (f .0 1 (omega arith)) (omega arith));
+        from = below (at (offset + 1) (f .0 0 (omega arith)) (omega arith));
+        to = below (at (offset + 2) (f .0 1 (omega arith)) (omega arith));
         differ = ends-differ a p;
-        qmax = between (field-yes case (row + 3) (pos 0) mostFlow (f .1));
+        qmax = between (field-yes case (offset + 3) (pos 0) mostFlow (f .1));
       }
 
   pub pipe-ranges : (a : ℕ) → a < arcsOf case → arcOf case a .kind ≡ 2 → PipeRanges (pipeOf case a)
   unfolding kindFields pipeFields
   pipe-ranges a p h =
-      let row = arcAt case a in
-      let c = field-then case (row + 4) (pos 1) (pos 100000000) _ (rw h at (arc-yes a p .1)) in
-      let f = fields-then case (row + 5) 2 (pos 0) (pos 10000000) _ (c .1) in
-      let s = field-then case (row + 7) (negsuc 199999) (pos 200000) _ (f .1) in
+      let offset = arcAt case a in
+      let c = field-then case (offset + 4) (pos 1) (pos 100000000) _ (rw h at (arc-yes a p .1)) in
+      let f = fields-then case (offset + 5) 2 (pos 0) (pos 10000000) _ (c .1) in
+      let s = field-then case (offset + 7) (negsuc 199999) (pos 200000) _ (f .1) in
       record {
         c = between (c .0);
-        f = between (at (row + 5) (f .0 0 (omega arith)) (omega arith));
-        g = between (at (row + 6) (f .0 1 (omega arith)) (omega arith));
+        f = between (at (offset + 5) (f .0 0 (omega arith)) (omega arith));
+        g = between (at (offset + 6) (f .0 1 (omega arith)) (omega arith));
         h = between (s .0);
       }
 
@@ -245,26 +245,26 @@ module _ (case : List ℤ) (e : Accepted case) where
       × (firstNo (cond (leb (countAt case (arcAt case a)) 4) (zeros case (arcAt case a + 8) 3) (compressorFields case (arcAt case a))) ≡ Yes)
   unfolding kindFields
   artificial-yes a p h =
-      let row = arcAt case a in
-      let g : 1 < countAt case row = omega arith in
-      let l : leb (countAt case row) 1 ≡ false = lt-leb _ _ g in
-      let n : eqb (countAt case row) 2 ≡ false = ne-eqb (countAt case row) 2 (λ z. omega arith) in
+      let offset = arcAt case a in
+      let g : 1 < countAt case offset = omega arith in
+      let l : leb (countAt case offset) 1 ≡ false = lt-leb _ _ g in
+      let n : eqb (countAt case offset) 2 ≡ false = ne-eqb (countAt case offset) 2 (λ z. omega arith) in
       let y = rw (l, n) at (arc-yes a p .1) in
-      (first-yes (memberFields case row) _ y, second-yes (memberFields case row) _ y)
+      (first-yes (memberFields case offset) _ y, second-yes (memberFields case offset) _ y)
 
   pub artificial-ranges : (a : ℕ) → a < arcsOf case → 3 ≤ arcOf case a .kind → ArtificialRanges (stationsOf case) (artificialOf case a)
   unfolding memberFields compressorFields
   artificial-ranges a p h =
-      let row = arcAt case a in
+      let offset = arcAt case a in
       let y = artificial-yes a p h in
-      let s = field-then case (row + 4) (pos 0) (lastOf (stationsOf case)) _ (y .0) in
-      let b = field-then case (row + 5) (leastBothWays (countAt case row)) (pos 1) _ (s .1) in
-      let w = field-then case (row + 6) (pos 0) mostWeight _ (b .1) in
-      let v = field-yes case (row + 7) (pos 0) (pos 1) (w .1) in
-      let t = three (leb (countAt case row) 4) (y .1) in
+      let s = field-then case (offset + 4) (pos 0) (lastOf (stationsOf case)) _ (y .0) in
+      let b = field-then case (offset + 5) (leastBothWays (countAt case offset)) (pos 1) _ (s .1) in
+      let w = field-then case (offset + 6) (pos 0) mostWeight _ (b .1) in
+      let v = field-yes case (offset + 7) (pos 0) (pos 1) (w .1) in
+      let t = three (leb (countAt case offset) 4) (y .1) in
       record {
         station = below (s .0);
-        bothways = omega (ints, b .0 .most, size (numberAt case (row + 5)));
+        bothways = omega (ints, b .0 .most, size (numberAt case (offset + 5)));
         weight = count-most (w .0);
         active = count-most v;
         machines = t .0;
@@ -275,17 +275,17 @@ module _ (case : List ℤ) (e : Accepted case) where
       three : (b : Bool) → firstNo (cond b (zeros case (arcAt case a + 8) 3) (compressorFields case (arcAt case a))) ≡ Yes
           → Between (pos 0) (numberAt case (arcAt case a + 8)) (pos 4095) × (countAt case (arcAt case a + 9) ≤ 12) × Between (pos 0) (numberAt case (arcAt case a + 10)) mostPressure
       three true y =
-          let row = arcAt case a in
-          let f = fields-yes case (row + 8) 3 (pos 0) (pos 0) y in
-          let m = at (row + 8) (f 0 (omega arith)) (omega arith) in
-          let n = at (row + 9) (f 1 (omega arith)) (omega arith) in
-          let o = at (row + 10) (f 2 (omega arith)) (omega arith) in
+          let offset = arcAt case a in
+          let f = fields-yes case (offset + 8) 3 (pos 0) (pos 0) y in
+          let m = at (offset + 8) (f 0 (omega arith)) (omega arith) in
+          let n = at (offset + 9) (f 1 (omega arith)) (omega arith) in
+          let o = at (offset + 10) (f 2 (omega arith)) (omega arith) in
           (record { least = m .least; most = omega (ints, m .most) }, omega (arith, count-most n), record { least = o .least; most = omega (ints, o .most) })
       three false y =
-          let row = arcAt case a in
-          let m = field-then case (row + 8) (pos 0) (pos 4095) _ y in
-          let n = field-then case (row + 9) (pos 0) (pos 12) _ (m .1) in
-          (between (m .0), count-most (n .0), between (field-yes case (row + 10) (pos 0) mostPressure (n .1)))
+          let offset = arcAt case a in
+          let m = field-then case (offset + 8) (pos 0) (pos 4095) _ y in
+          let n = field-then case (offset + 9) (pos 0) (pos 12) _ (m .1) in
+          (between (m .0), count-most (n .0), between (field-yes case (offset + 10) (pos 0) mostPressure (n .1)))
 
   -- the row's last number is there, whatever the kind
   pub arc-there : (a : ℕ) → a < arcsOf case → arcAt case a + 10 < length case
@@ -300,24 +300,24 @@ module _ (case : List ℤ) (e : Accepted case) where
           → arcAt case a + 10 < length case
       go true y z e = at (arcAt case a + 10) (fields-yes case (arcAt case a + 4) 7 (pos 0) (pos 0) e 6 (omega arith)) (omega arith) .there
       go false true z e =
-          let row = arcAt case a in
-          let c = field-then case (row + 4) (pos 1) (pos 100000000) _ e in
-          let f = fields-then case (row + 5) 2 (pos 0) (pos 10000000) _ (c .1) in
-          last-zero (field-then case (row + 7) (negsuc 199999) (pos 200000) _ (f .1) .1)
+          let offset = arcAt case a in
+          let c = field-then case (offset + 4) (pos 1) (pos 100000000) _ e in
+          let f = fields-then case (offset + 5) 2 (pos 0) (pos 10000000) _ (c .1) in
+          last-zero (field-then case (offset + 7) (negsuc 199999) (pos 200000) _ (f .1) .1)
       go false false true e = last-zero (second-yes (memberFields case (arcAt case a)) _ e)
       go false false false e =
-          let row = arcAt case a in
-          let m = field-then case (row + 8) (pos 0) (pos 4095) _ (second-yes (memberFields case row) _ e) in
-          let n = field-then case (row + 9) (pos 0) (pos 12) _ (m .1) in
-          field-yes case (row + 10) (pos 0) mostPressure (n .1) .there
+          let offset = arcAt case a in
+          let m = field-then case (offset + 8) (pos 0) (pos 4095) _ (second-yes (memberFields case offset) _ e) in
+          let n = field-then case (offset + 9) (pos 0) (pos 12) _ (m .1) in
+          field-yes case (offset + 10) (pos 0) mostPressure (n .1) .there
 
   -- "shortcut: 1"
   pub shortcut-both-ways : (a : ℕ) → a < arcsOf case → arcOf case a .kind ≡ 3 → artificialOf case a .bothways ≡ 1
   unfolding memberFields
   shortcut-both-ways a p h =
-      let row = arcAt case a in
-      let s = field-then case (row + 4) (pos 0) (lastOf (stationsOf case)) _ (artificial-yes a p (omega arith) .0) in
-      let b = field-then case (row + 5) (pos 1) (pos 1) _ (rw h at (s .1)) in
+      let offset = arcAt case a in
+      let s = field-then case (offset + 4) (pos 0) (lastOf (stationsOf case)) _ (artificial-yes a p (omega arith) .0) in
+      let b = field-then case (offset + 5) (pos 1) (pos 1) _ (rw h at (s .1)) in
       omega (arith, count-most (b .0), count-least (b .0))
 
   -- ---- stations
@@ -325,12 +325,12 @@ module _ (case : List ℤ) (e : Accepted case) where
   pub station-ranges : (s : ℕ) → s < stationsOf case → StationRanges (stationOf case s)
   unfolding rowFields stationHead
   station-ranges s p =
-      let row = stationAt case s in
-      let f = field-then case row (pos 1) (pos 8) _ (first-yes (stationHead case row) (partFields case row) (station-yes case list-yes s p)) in
-      let z = field-then case (row + 1) (pos 1) (pos 16) _ (f .1) in
-      let m = field-then case (row + 2) (pos 0) (pos 12) _ (z .1) in
-      let d = field-then case (row + 3) (pos 0) (lastOf (directionsAt case row)) _ (m .1) in
-      let t = field-yes case (row + 4) (pos 0) (lastOf (statesAt case row)) (d .1) in
+      let offset = stationAt case s in
+      let f = field-then case offset (pos 1) (pos 8) _ (first-yes (stationHead case offset) (partFields case offset) (station-yes case list-yes s p)) in
+      let z = field-then case (offset + 1) (pos 1) (pos 16) _ (f .1) in
+      let m = field-then case (offset + 2) (pos 0) (pos 12) _ (z .1) in
+      let d = field-then case (offset + 3) (pos 0) (lastOf (directionsAt case offset)) _ (m .1) in
+      let t = field-yes case (offset + 4) (pos 0) (lastOf (statesAt case offset)) (d .1) in
       record {
         directions = count-most (f .0);
         some-direction = count-least (f .0);
@@ -347,11 +347,11 @@ module _ (case : List ℤ) (e : Accepted case) where
   pub state-ranges : (s z : ℕ) → s < stationsOf case → z < stationOf case s .states → StateRanges (stationOf case s .directions) (stateOf case s z)
   unfolding partFields stateFields stateRowFields
   state-ranges s z p q =
-      let row = stationAt case s in
-      let i = stateAt case row z in
-      let r = second-yes (over (directionFields case row) 0 (directionsAt case row)) _ (parts-yes case list-yes s p) in
-      let y = item-yes (stateFields case row) (statesAt case row) (first-yes (over (stateFields case row) 0 (statesAt case row)) _ r) z q in
-      let d = field-then case i (pos 0) (firstItems (directionsAt case row)) _ y in
+      let offset = stationAt case s in
+      let i = stateAt case offset z in
+      let r = second-yes (over (directionFields case offset) 0 (directionsAt case offset)) _ (parts-yes case list-yes s p) in
+      let y = item-yes (stateFields case offset) (statesAt case offset) (first-yes (over (stateFields case offset) 0 (statesAt case offset)) _ r) z q in
+      let d = field-then case i (pos 0) (firstItems (directionsAt case offset)) _ y in
       let t = fields-then case (i + 1) 2 (pos 0) (firstItems 30) _ (d .1) in
       record {
         directions-of = between (d .0);
@@ -363,10 +363,10 @@ module _ (case : List ℤ) (e : Accepted case) where
   pub machine-ranges : (s m : ℕ) → s < stationsOf case → m < stationOf case s .machines → MachineRanges (machineOf case s m)
   unfolding partFields machineFields
   machine-ranges s m p q =
-      let row = stationAt case s in
-      let i = machineAt case row m in
-      let r = second-yes (over (directionFields case row) 0 (directionsAt case row)) _ (parts-yes case list-yes s p) in
-      let y = item-yes (machineFields case row) (machinesAt case row) (second-yes (over (stateFields case row) 0 (statesAt case row)) _ r) m q in
+      let offset = stationAt case s in
+      let i = machineAt case offset m in
+      let r = second-yes (over (directionFields case offset) 0 (directionsAt case offset)) _ (parts-yes case list-yes s p) in
+      let y = item-yes (machineFields case offset) (machinesAt case offset) (second-yes (over (stateFields case offset) 0 (statesAt case offset)) _ r) m q in
       let f = field-then case i (pos 0) mostFlow _ y in
       record { flow = between (f .0); ratio = between (field-yes case (i + 1) (pos 1001) (pos 10000) (f .1)) }
 

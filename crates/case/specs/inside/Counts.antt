@@ -23,20 +23,20 @@ pub record Counted (case : List ℤ) : Type 0 where
   pub steps : stepsOf case ≤ 48
   pub some-step : 1 ≤ stepsOf case
 
--- the counts of the station whose rows begin at `row`
-pub record StationCounted (case : List ℤ) (row : ℕ) : Type 0 where
-  pub directions : directionsAt case row ≤ 8
-  pub some-direction : 1 ≤ directionsAt case row
-  pub states : statesAt case row ≤ 16
-  pub some-state : 1 ≤ statesAt case row
-  pub machines : machinesAt case row ≤ 12
+-- the counts of the station whose rows begin at `offset`
+pub record StationCounted (case : List ℤ) (offset : ℕ) : Type 0 where
+  pub directions : directionsAt case offset ≤ 8
+  pub some-direction : 1 ≤ directionsAt case offset
+  pub states : statesAt case offset ≤ 16
+  pub some-state : 1 ≤ statesAt case offset
+  pub machines : machinesAt case offset ≤ 12
 
 pub record StationsCounted (case : List ℤ) : Type 0 where
   pub each : (s : ℕ) → s < stationsOf case → StationCounted case (stationAt case s)
 
--- the directions of the station whose rows begin at `row`, and of every station
-pub record DirectionsRanged (case : List ℤ) (row : ℕ) : Type 0 where
-  pub each : (f : ℕ) → f < directionsAt case row → DirectionRanges (directionRow case row f)
+-- the directions of the station whose rows begin at `offset`, and of every station
+pub record DirectionsRanged (case : List ℤ) (offset : ℕ) : Type 0 where
+  pub each : (f : ℕ) → f < directionsAt case offset → DirectionRanges (directionRow case offset f)
 
 pub record StationsRanged (case : List ℤ) : Type 0 where
   pub each : (s : ℕ) → s < stationsOf case → DirectionsRanged case (stationAt case s)

@@ -58,12 +58,12 @@ module _ (case : List ℤ) where
 
   -- ---- a station's first row
 
-  pub station-counted : (row : ℕ) → firstNo (stationHead case row) ≡ Yes → StationCounted case row
+  pub station-counted : (offset : ℕ) → firstNo (stationHead case offset) ≡ Yes → StationCounted case offset
   unfolding stationHead
-  station-counted row e =
-      let f = field-then case row (pos 1) (pos 8) _ e in
-      let z = field-then case (row + 1) (pos 1) (pos 16) _ (f .1) in
-      let m = field-then case (row + 2) (pos 0) (pos 12) _ (z .1) in
+  station-counted offset e =
+      let f = field-then case offset (pos 1) (pos 8) _ e in
+      let z = field-then case (offset + 1) (pos 1) (pos 16) _ (f .1) in
+      let m = field-then case (offset + 2) (pos 0) (pos 12) _ (z .1) in
       record {
         directions = count-most (f .0);
         some-direction = count-least (f .0);
@@ -72,18 +72,18 @@ module _ (case : List ℤ) where
         machines = count-most (m .0);
       }
 
-  pub row-counted : (row : ℕ) → firstNo (rowFields case row) ≡ Yes → StationCounted case row
+  pub row-counted : (offset : ℕ) → firstNo (rowFields case offset) ≡ Yes → StationCounted case offset
   unfolding rowFields
-  row-counted row e = station-counted row (first-yes (stationHead case row) (partFields case row) e)
+  row-counted offset e = station-counted offset (first-yes (stationHead case offset) (partFields case offset) e)
 
   -- ---- a station's directions
 
-  pub directions-ranged : (row : ℕ) → firstNo (partFields case row) ≡ Yes → DirectionsRanged case row
+  pub directions-ranged : (offset : ℕ) → firstNo (partFields case offset) ≡ Yes → DirectionsRanged case offset
   unfolding partFields directionFields
-  directions-ranged row e = record {
+  directions-ranged offset e = record {
     each = λ f q.
-        let i = directionAt row f in
-        let y = item-yes (directionFields case row) (directionsAt case row) (first-yes (over (directionFields case row) 0 (directionsAt case row)) _ e) f q in
+        let i = directionAt offset f in
+        let y = item-yes (directionFields case offset) (directionsAt case offset) (first-yes (over (directionFields case offset) 0 (directionsAt case offset)) _ e) f q in
         let t = fields-then case i 2 (pos 0) (firstItems 60) _ y in
         record {
           entry = between (at i (t .0 0 (omega arith)) (omega arith));
@@ -178,13 +178,13 @@ module _ (case : List ℤ) where
   station-next s = rw (add-one s)
 
   -- a station has at most 117 numbers
-  pub end-most : (row : ℕ) → StationCounted case row → stationEnd case row ≤ row + 117
+  pub end-most : (offset : ℕ) → StationCounted case offset → stationEnd case offset ≤ offset + 117
   unfolding machineAt stateAt directionAt
-  end-most row c = omega (arith, c .directions, c .states, c .machines)
+  end-most offset c = omega (arith, c .directions, c .states, c .machines)
 
-  pub end-least : (row : ℕ) → row + 5 ≤ stationEnd case row
+  pub end-least : (offset : ℕ) → offset + 5 ≤ stationEnd case offset
   unfolding machineAt stateAt directionAt
-  end-least row = omega arith
+  end-least offset = omega arith
 
   -- the first arc's row, and the first station's
   pub arcs-begin : Counted case → arcAt case 0 ≤ 3295

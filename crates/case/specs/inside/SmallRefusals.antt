@@ -53,62 +53,62 @@ module _ (case : List ℤ) where
   unfolding timeField field
   time-small i h = search needs
 
-  bounds-small : (row : ℕ) → row < 10000 → AllSmall limit (boundFields case row)
+  bounds-small : (offset : ℕ) → offset < 10000 → AllSmall limit (boundFields case offset)
   unfolding boundFields fields field
-  bounds-small row h = search needs
+  bounds-small offset h = search needs
 
-  pipe-small : (row : ℕ) → row < 20000 → AllSmall limit (pipeFields case row)
+  pipe-small : (offset : ℕ) → offset < 20000 → AllSmall limit (pipeFields case offset)
   unfolding pipeFields fields field
-  pipe-small row h = search needs
+  pipe-small offset h = search needs
 
-  member-small : (row : ℕ) → row < 20000 → AllSmall limit (memberFields case row)
+  member-small : (offset : ℕ) → offset < 20000 → AllSmall limit (memberFields case offset)
   unfolding memberFields field
-  member-small row h = search needs
+  member-small offset h = search needs
 
-  compressor-small : (row : ℕ) → row < 20000 → AllSmall limit (compressorFields case row)
+  compressor-small : (offset : ℕ) → offset < 20000 → AllSmall limit (compressorFields case offset)
   unfolding compressorFields field
-  compressor-small row h = search needs
+  compressor-small offset h = search needs
 
-  ends-small : (row : ℕ) → row < 20000 → AllSmall limit (endFields case row)
+  ends-small : (offset : ℕ) → offset < 20000 → AllSmall limit (endFields case offset)
   unfolding endFields fields field
-  ends-small row h = search needs
+  ends-small offset h = search needs
 
-  kind-small : (row : ℕ) → row < 20000 → AllSmall limit (kindFields case row)
+  kind-small : (offset : ℕ) → offset < 20000 → AllSmall limit (kindFields case offset)
   unfolding kindFields
-  kind-small row h = go (leb (countAt case row) 1) (eqb (countAt case row) 2) (leb (countAt case row) 4)
+  kind-small offset h = go (leb (countAt case offset) 1) (eqb (countAt case offset) 2) (leb (countAt case offset) 4)
     where
-      last : (c : Bool) → AllSmall limit (cond c (fields case (row + 8) 3 (pos 0) (pos 0)) (compressorFields case row))
-      last true = some-fields (row + 8) 3 (pos 0) (pos 0) (omega arith)
-      last false = compressor-small row h
+      last : (c : Bool) → AllSmall limit (cond c (fields case (offset + 8) 3 (pos 0) (pos 0)) (compressorFields case offset))
+      last true = some-fields (offset + 8) 3 (pos 0) (pos 0) (omega arith)
+      last false = compressor-small offset h
 
-      go : (a b c : Bool) → AllSmall limit (cond a (fields case (row + 4) 7 (pos 0) (pos 0)) (cond b (pipeFields case row) (memberFields case row ++ cond c (fields case (row + 8) 3 (pos 0) (pos 0)) (compressorFields case row))))
-      go true b c = some-fields (row + 4) 7 (pos 0) (pos 0) (omega arith)
-      go false true c = pipe-small row h
-      go false false c = all-append limit (memberFields case row) (cond c (fields case (row + 8) 3 (pos 0) (pos 0)) (compressorFields case row)) (member-small row h) (last c)
+      go : (a b c : Bool) → AllSmall limit (cond a (fields case (offset + 4) 7 (pos 0) (pos 0)) (cond b (pipeFields case offset) (memberFields case offset ++ cond c (fields case (offset + 8) 3 (pos 0) (pos 0)) (compressorFields case offset))))
+      go true b c = some-fields (offset + 4) 7 (pos 0) (pos 0) (omega arith)
+      go false true c = pipe-small offset h
+      go false false c = all-append limit (memberFields case offset) (cond c (fields case (offset + 8) 3 (pos 0) (pos 0)) (compressorFields case offset)) (member-small offset h) (last c)
 
-  station-head-small : (row : ℕ) → row < 20000 → AllSmall limit (stationHead case row)
+  station-head-small : (offset : ℕ) → offset < 20000 → AllSmall limit (stationHead case offset)
   unfolding stationHead field
-  station-head-small row h = search needs
+  station-head-small offset h = search needs
 
-  direction-small : (row f : ℕ) → row < 20000 → f < 8 → AllSmall limit (directionFields case row f)
+  direction-small : (offset f : ℕ) → offset < 20000 → f < 8 → AllSmall limit (directionFields case offset f)
   unfolding directionFields fields field directionAt
-  direction-small row f h k = search needs
+  direction-small offset f h k = search needs
 
-  state-small : (row z : ℕ) → row < 20000 → directionsAt case row ≤ 8 → z < 16 → AllSmall limit (stateFields case row z)
+  state-small : (offset z : ℕ) → offset < 20000 → directionsAt case offset ≤ 8 → z < 16 → AllSmall limit (stateFields case offset z)
   unfolding stateFields stateRowFields fields field stateAt directionAt
-  state-small row z h d k = search needs
+  state-small offset z h d k = search needs
 
-  machine-small : (row m : ℕ) → row < 20000 → directionsAt case row ≤ 8 → statesAt case row ≤ 16 → m < 12 → AllSmall limit (machineFields case row m)
+  machine-small : (offset m : ℕ) → offset < 20000 → directionsAt case offset ≤ 8 → statesAt case offset ≤ 16 → m < 12 → AllSmall limit (machineFields case offset m)
   unfolding machineFields field machineAt stateAt directionAt
-  machine-small row m h d z k = search needs
+  machine-small offset m h d z k = search needs
 
 -- ---- where rows begin, once the counts before have passed
 
 module _ (case : List ℤ) where
   -- the rows of a station end at most 117 numbers past its first
-  station-long : (row : ℕ) → StationCounted case row → stationEnd case row ≤ row + 117
+  station-long : (offset : ℕ) → StationCounted case offset → stationEnd case offset ≤ offset + 117
   unfolding machineAt stateAt directionAt
-  station-long row c = omega (arith, c .directions, c .states, c .machines)
+  station-long offset c = omega (arith, c .directions, c .states, c .machines)
 
   module _ (c : Counted case) where
     node-row : (v : ℕ) → v ≤ 60 → nodeAt case v ≤ 3295
@@ -147,25 +147,25 @@ module _ (case : List ℤ) where
     unfolding timeFields
     times-small = all-over limit (timeField case) 0 (stepsOf case) (λ i l. time-small case (0 + i) (omega (arith, c .steps, l)))
 
-    parts-small : (row : ℕ) → row < 10000 → StationCounted case row → AllSmall limit (partFields case row)
+    parts-small : (offset : ℕ) → offset < 10000 → StationCounted case offset → AllSmall limit (partFields case offset)
     unfolding partFields
-    parts-small row h d =
-        all-append limit (over (directionFields case row) 0 (directionsAt case row)) (over (stateFields case row) 0 (statesAt case row) ++ over (machineFields case row) 0 (machinesAt case row))
-        (all-over limit (directionFields case row) 0 (directionsAt case row) (λ f l. direction-small case row (0 + f) (omega arith) (omega (arith, d .directions))))
-        (all-append limit (over (stateFields case row) 0 (statesAt case row)) (over (machineFields case row) 0 (machinesAt case row))
-        (all-over limit (stateFields case row) 0 (statesAt case row) (λ z l. state-small case row (0 + z) (omega arith) (d .directions) (omega (arith, d .states))))
-        (all-over limit (machineFields case row) 0 (machinesAt case row) (λ m l. machine-small case row (0 + m) (omega arith) (d .directions) (d .states) (omega (arith, d .machines)))))
+    parts-small offset h d =
+        all-append limit (over (directionFields case offset) 0 (directionsAt case offset)) (over (stateFields case offset) 0 (statesAt case offset) ++ over (machineFields case offset) 0 (machinesAt case offset))
+        (all-over limit (directionFields case offset) 0 (directionsAt case offset) (λ f l. direction-small case offset (0 + f) (omega arith) (omega (arith, d .directions))))
+        (all-append limit (over (stateFields case offset) 0 (statesAt case offset)) (over (machineFields case offset) 0 (machinesAt case offset))
+        (all-over limit (stateFields case offset) 0 (statesAt case offset) (λ z l. state-small case offset (0 + z) (omega arith) (d .directions) (omega (arith, d .states))))
+        (all-over limit (machineFields case offset) 0 (machinesAt case offset) (λ m l. machine-small case offset (0 + m) (omega arith) (d .directions) (d .states) (omega (arith, d .machines)))))
 
     -- a station's rows, where those before it have no "no"
     station-small : (s : ℕ) → s < stationsOf case → ((m : ℕ) → m < s → firstNo (stationFields case m) ≡ Yes) → Small limit (firstNo (stationFields case s))
     unfolding stationFields rowFields
     station-small s h before =
-        let row = stationAt case s in
+        let offset = stationAt case s in
         let r = station-row s (λ m l. station-counted case (stationAt case m) (first-yes (stationHead case (stationAt case m)) (partFields case (stationAt case m)) (before m l))) in
-        let low : row < 10000 = omega (arith, r, h, c .stations) in
-        small-append limit (stationHead case row) (partFields case row)
-        (all-small limit (stationHead case row) (station-head-small case row (omega arith)))
-        (λ e. all-small limit (partFields case row) (parts-small row low (station-counted case row e)))
+        let low : offset < 10000 = omega (arith, r, h, c .stations) in
+        small-append limit (stationHead case offset) (partFields case offset)
+        (all-small limit (stationHead case offset) (station-head-small case offset (omega arith)))
+        (λ e. all-small limit (partFields case offset) (parts-small offset low (station-counted case offset e)))
 
     stations-small : Small limit (firstNo (allStationFields case))
     unfolding allStationFields

@@ -17,18 +17,18 @@ zeros case i n = fields case i n (pos 0) (pos 0)
 
 -- kind, from and to, qmax
 unfoldable pub endFields : List ℤ → ℕ → List Question
-endFields case row =
-    field case (arcKindAt row) (pos 0) (pos 6)
-    ++ (fields case (fromAt row) 2 (pos 0) (lastOf (nodesOf case))
-    ++ field case (qmaxAt row) (pos 0) mostFlow)
+endFields case offset =
+    field case (arcKindAt offset) (pos 0) (pos 6)
+    ++ (fields case (fromAt offset) 2 (pos 0) (lastOf (nodesOf case))
+    ++ field case (qmaxAt offset) (pos 0) mostFlow)
 
 -- "2: c 1..100,000,000; f and g 0..10,000,000; h -200,000..200,000; three zeros"
 unfoldable pub pipeFields : List ℤ → ℕ → List Question
-pipeFields case row =
-    field case (cAt row) (pos 1) (pos 100000000)
-    ++ (fields case (fAt row) 2 (pos 0) (pos 10000000)
-    ++ (field case (hAt row) (negsuc 199999) (pos 200000)
-    ++ zeros case (pipeZerosAt row) 3))
+pipeFields case offset =
+    field case (cAt offset) (pos 1) (pos 100000000)
+    ++ (fields case (fAt offset) 2 (pos 0) (pos 10000000)
+    ++ (field case (hAt offset) (negsuc 199999) (pos 200000)
+    ++ zeros case (pipeZerosAt offset) 3))
 
 -- "shortcut: 1"
 abbrev pub leastBothWays : ℕ → ℤ
@@ -36,25 +36,25 @@ leastBothWays kind = cond (eqb kind 3) (pos 1) (pos 0)
 
 -- "3, 4: station 0..S-1; both-ways 0 or 1; weight 0..1,000,000; active at step 0, 0 or 1"
 unfoldable pub memberFields : List ℤ → ℕ → List Question
-memberFields case row =
-    field case (arcStationAt row) (pos 0) (lastOf (stationsOf case))
-    ++ (field case (bothwaysAt row) (leastBothWays (countAt case (arcKindAt row))) (pos 1)
-    ++ (field case (arcWeightAt row) (pos 0) mostWeight
-    ++ field case (startActivityAt row) (pos 0) (pos 1)))
+memberFields case offset =
+    field case (arcStationAt offset) (pos 0) (lastOf (stationsOf case))
+    ++ (field case (bothwaysAt offset) (leastBothWays (countAt case (arcKindAt offset))) (pos 1)
+    ++ (field case (arcWeightAt offset) (pos 0) mostWeight
+    ++ field case (startActivityAt offset) (pos 0) (pos 1)))
 
 -- "5, 6: machine set 0..4,095; most machines 0..12; out bound 0..200,000"
 unfoldable pub compressorFields : List ℤ → ℕ → List Question
-compressorFields case row =
-    field case (machineSetAt row) (pos 0) (pos 4095)
-    ++ (field case (mostMachinesAt row) (pos 0) (pos 12)
-    ++ field case (outboundAt row) (pos 0) mostPressure)
+compressorFields case offset =
+    field case (machineSetAt offset) (pos 0) (pos 4095)
+    ++ (field case (mostMachinesAt offset) (pos 0) (pos 12)
+    ++ field case (outboundAt offset) (pos 0) mostPressure)
 
 -- the seven, by the kind
 unfoldable pub kindFields : List ℤ → ℕ → List Question
-kindFields case row =
-    cond (leb (countAt case (arcKindAt row)) 1) (zeros case (sevenAt row) 7)
-    (cond (eqb (countAt case (arcKindAt row)) 2) (pipeFields case row)
-    (memberFields case row ++ cond (leb (countAt case (arcKindAt row)) 4) (zeros case (machineSetAt row) 3) (compressorFields case row)))
+kindFields case offset =
+    cond (leb (countAt case (arcKindAt offset)) 1) (zeros case (sevenAt offset) 7)
+    (cond (eqb (countAt case (arcKindAt offset)) 2) (pipeFields case offset)
+    (memberFields case offset ++ cond (leb (countAt case (arcKindAt offset)) 4) (zeros case (machineSetAt offset) 3) (compressorFields case offset)))
 
 unfoldable pub arcFields : List ℤ → ℕ → List Question
 arcFields case e = endFields case (arcAt case e) ++ kindFields case (arcAt case e)

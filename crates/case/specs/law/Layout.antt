@@ -64,31 +64,31 @@ pressureTolerance case = numberAt case pressureToleranceAt
 abbrev pub timeAt : ℕ → ℕ
 timeAt i = headWidth + i
 
--- ---- node rows: kind, p0, low, high, actlow, acthigh, and a demand for each step. The fields of the row that begins at `row`:
+-- ---- node rows: kind, p0, low, high, actlow, acthigh, and a demand for each step. The fields of the row that begins at `offset`:
 
 abbrev pub nodeHeadWidth : ℕ
 nodeHeadWidth = 6
 
 abbrev pub nodeKindAt : ℕ → ℕ
-nodeKindAt row = row
+nodeKindAt offset = offset
 
 abbrev pub p0At : ℕ → ℕ
-p0At row = row + 1
+p0At offset = offset + 1
 
 abbrev pub lowAt : ℕ → ℕ
-lowAt row = row + 2
+lowAt offset = offset + 2
 
 abbrev pub highAt : ℕ → ℕ
-highAt row = row + 3
+highAt offset = offset + 3
 
 abbrev pub actlowAt : ℕ → ℕ
-actlowAt row = row + 4
+actlowAt offset = offset + 4
 
 abbrev pub acthighAt : ℕ → ℕ
-acthighAt row = row + 5
+acthighAt offset = offset + 5
 
 abbrev pub demandsAt : ℕ → ℕ
-demandsAt row = row + nodeHeadWidth
+demandsAt offset = offset + nodeHeadWidth
 
 unfoldable pub nodeAt : List ℤ → ℕ → ℕ
 nodeAt case v = headWidth + stepsOf case + v * (nodeHeadWidth + stepsOf case)
@@ -99,89 +99,89 @@ abbrev pub arcWidth : ℕ
 arcWidth = 11
 
 abbrev pub arcKindAt : ℕ → ℕ
-arcKindAt row = row
+arcKindAt offset = offset
 
 abbrev pub fromAt : ℕ → ℕ
-fromAt row = row + 1
+fromAt offset = offset + 1
 
 abbrev pub toAt : ℕ → ℕ
-toAt row = row + 2
+toAt offset = offset + 2
 
 abbrev pub qmaxAt : ℕ → ℕ
-qmaxAt row = row + 3
+qmaxAt offset = offset + 3
 
 abbrev pub sevenAt : ℕ → ℕ
-sevenAt row = row + 4
+sevenAt offset = offset + 4
 
 -- of a pipe: c, f, g, h and three zeros
 abbrev pub cAt : ℕ → ℕ
-cAt row = row + 4
+cAt offset = offset + 4
 
 abbrev pub fAt : ℕ → ℕ
-fAt row = row + 5
+fAt offset = offset + 5
 
 abbrev pub gAt : ℕ → ℕ
-gAt row = row + 6
+gAt offset = offset + 6
 
 abbrev pub hAt : ℕ → ℕ
-hAt row = row + 7
+hAt offset = offset + 7
 
 abbrev pub pipeZerosAt : ℕ → ℕ
-pipeZerosAt row = row + 8
+pipeZerosAt offset = offset + 8
 
 -- of an artificial arc: station, both-ways, weight, active at step 0; machine set, most machines, out bound
 abbrev pub arcStationAt : ℕ → ℕ
-arcStationAt row = row + 4
+arcStationAt offset = offset + 4
 
 abbrev pub bothwaysAt : ℕ → ℕ
-bothwaysAt row = row + 5
+bothwaysAt offset = offset + 5
 
 abbrev pub arcWeightAt : ℕ → ℕ
-arcWeightAt row = row + 6
+arcWeightAt offset = offset + 6
 
 abbrev pub startActivityAt : ℕ → ℕ
-startActivityAt row = row + 7
+startActivityAt offset = offset + 7
 
 abbrev pub machineSetAt : ℕ → ℕ
-machineSetAt row = row + 8
+machineSetAt offset = offset + 8
 
 abbrev pub mostMachinesAt : ℕ → ℕ
-mostMachinesAt row = row + 9
+mostMachinesAt offset = offset + 9
 
 abbrev pub outboundAt : ℕ → ℕ
-outboundAt row = row + 10
+outboundAt offset = offset + 10
 
 unfoldable pub arcAt : List ℤ → ℕ → ℕ
 arcAt case e = nodeAt case (nodesOf case) + e * arcWidth
 
--- ---- a station's rows. Its first, which begins at `row`: F, Z, M, direction and state at step 0
+-- ---- a station's rows. Its first, which begins at `offset`: F, Z, M, direction and state at step 0
 
 abbrev pub stationHeadWidth : ℕ
 stationHeadWidth = 5
 
 abbrev pub directionCountAt : ℕ → ℕ
-directionCountAt row = row
+directionCountAt offset = offset
 
 abbrev pub stateCountAt : ℕ → ℕ
-stateCountAt row = row + 1
+stateCountAt offset = offset + 1
 
 abbrev pub machineCountAt : ℕ → ℕ
-machineCountAt row = row + 2
+machineCountAt offset = offset + 2
 
 abbrev pub startDirectionAt : ℕ → ℕ
-startDirectionAt row = row + 3
+startDirectionAt offset = offset + 3
 
 abbrev pub startStateAt : ℕ → ℕ
-startStateAt row = row + 4
+startStateAt offset = offset + 4
 
 abbrev pub directionsAt : List ℤ → ℕ → ℕ
-directionsAt case row = countAt case (directionCountAt row)
+directionsAt case offset = countAt case (directionCountAt offset)
 
 abbrev pub statesAt : List ℤ → ℕ → ℕ
-statesAt case row = countAt case (stateCountAt row)
+statesAt case offset = countAt case (stateCountAt offset)
 
 abbrev pub machinesAt : List ℤ → ℕ → ℕ
-machinesAt case row = countAt case (machineCountAt row)
+machinesAt case offset = countAt case (machineCountAt offset)
 
 -- a direction's row, which begins at `at`: entry set, exit set, weight
 abbrev pub directionWidth : ℕ
@@ -222,20 +222,20 @@ machineFlowAt at = at
 abbrev pub ratioAt : ℕ → ℕ
 ratioAt at = at + 1
 
--- where the rows of directions, states and machines begin, by the index `row` of the station's first number
+-- where the rows of directions, states and machines begin, by the index `offset` of the station's first number
 
 unfoldable pub directionAt : ℕ → ℕ → ℕ
-directionAt row f = row + stationHeadWidth + f * directionWidth
+directionAt offset f = offset + stationHeadWidth + f * directionWidth
 
 unfoldable pub stateAt : List ℤ → ℕ → ℕ → ℕ
-stateAt case row z = directionAt row (directionsAt case row) + z * stateWidth
+stateAt case offset z = directionAt offset (directionsAt case offset) + z * stateWidth
 
 unfoldable pub machineAt : List ℤ → ℕ → ℕ → ℕ
-machineAt case row m = stateAt case row (statesAt case row) + m * machineWidth
+machineAt case offset m = stateAt case offset (statesAt case offset) + m * machineWidth
 
 -- the index past the station's last row
 abbrev pub stationEnd : List ℤ → ℕ → ℕ
-stationEnd case row = machineAt case row (machinesAt case row)
+stationEnd case offset = machineAt case offset (machinesAt case offset)
 
 -- "Station (each with all its rows before the following one)"
 unfoldable pub stationAt : List ℤ → ℕ → ℕ

@@ -23,14 +23,14 @@ pub record Clear {A : Type 0} (none : A) (xs : List A) (n : ℕ) : Type 0 where
   pub each : (i : ℕ) → n ≤ i → getD xs i none ≡ none
 
 -- the layout's arrays have a place for each of 8 stations, with 0 past the case's own
-pub record Laid (case : List ℤ) (l : Layout) : Type 0 where
+pub record LayoutOf (case : List ℤ) (l : Layout) : Type 0 where
   pub steps : l .steps ≡ stepsOf case
   pub nodes : l .nodes ≡ nodesOf case
   pub arcs : l .arcs ≡ arcsOf case
   pub stations : l .stations ≡ stationsOf case
   -- where each station's rows begin
-  pub rows : Holds 0 (l .rows) (stationAt case) (stationsOf case)
-  pub rows-past : Clear 0 (l .rows) (stationsOf case)
+  pub offsets : Holds 0 (l .offsets) (stationAt case) (stationsOf case)
+  pub offsets-past : Clear 0 (l .offsets) (stationsOf case)
   -- each station's nodes
   pub inside : Holds (pos 0) (l .inside) (stationNodes case) (stationsOf case)
   pub inside-past : Clear (pos 0) (l .inside) (stationsOf case)
@@ -43,12 +43,12 @@ noLayout = record {
   nodes = 0;
   arcs = 0;
   stations = 0;
-  rows = replicate 8 0;
+  offsets = replicate 8 0;
   inside = replicate 8 (pos 0);
   plain = pos 0;
 }
 
-pub record LaidOut (case : List ℤ) (l : Laying) : Type 0 where
+pub record LayingOf (case : List ℤ) (l : Laying) : Type 0 where
   pub told-is : told (l .answer) ≡ judgedCase case
-  pub passed : firstNo (listQuestions case) ≡ Yes → Laid case (l .layout)
+  pub passed : firstNo (listQuestions case) ≡ Yes → LayoutOf case (l .layout)
   pub refused : (number step place : ℕ) → firstNo (listQuestions case) ≡ No number step place → l .layout ≡ noLayout

@@ -11,14 +11,14 @@ use Rattle.numbers.specs.law.Items.{over}
 use Rattle.case.specs.law.Layout.{numberAt, countAt, nodesOf, stepsOf, nodeAt, nodeKindAt, p0At, lowAt, highAt, actlowAt, acthighAt, demandsAt}
 use Rattle.case.specs.law.Field.{field, fields, mostPressure, mostFlow}
 
--- The six fields of the row that begins at index `row`; p0, low and high share their range.
+-- The six fields of the row that begins at index `offset`; p0, low and high share their range.
 -- In list order low ≤ actlow counts for actlow, actlow ≤ acthigh and acthigh ≤ high for acthigh.
 unfoldable pub boundFields : List ℤ → ℕ → List Question
-boundFields case row =
-    field case (nodeKindAt row) (pos 0) (pos 2)
-    ++ (fields case (p0At row) 3 (pos 0) mostPressure
-    ++ (field case (actlowAt row) (numberAt case (lowAt row)) mostPressure
-    ++ field case (acthighAt row) (numberAt case (actlowAt row)) (numberAt case (highAt row))))
+boundFields case offset =
+    field case (nodeKindAt offset) (pos 0) (pos 2)
+    ++ (fields case (p0At offset) 3 (pos 0) mostPressure
+    ++ (field case (actlowAt offset) (numberAt case (lowAt offset)) mostPressure
+    ++ field case (acthighAt offset) (numberAt case (actlowAt offset)) (numberAt case (highAt offset))))
 
 -- the range of a demand, by the node's kind: -10,000,000 is `negsuc 9999999`
 abbrev pub leastDemand : ℕ → ℤ
@@ -28,8 +28,8 @@ abbrev pub mostDemand : ℕ → ℤ
 mostDemand kind = cond (eqb kind 1) mostFlow (pos 0)
 
 unfoldable pub demandFields : List ℤ → ℕ → List Question
-demandFields case row =
-    fields case (demandsAt row) (stepsOf case) (leastDemand (countAt case (nodeKindAt row))) (mostDemand (countAt case (nodeKindAt row)))
+demandFields case offset =
+    fields case (demandsAt offset) (stepsOf case) (leastDemand (countAt case (nodeKindAt offset))) (mostDemand (countAt case (nodeKindAt offset)))
 
 unfoldable pub nodeFields : List ℤ → ℕ → List Question
 nodeFields case v = boundFields case (nodeAt case v) ++ demandFields case (nodeAt case v)

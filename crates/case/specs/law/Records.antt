@@ -64,36 +64,36 @@ artificialOf case e = record {
   outbound = numberAt case (outboundAt (arcAt case e));
 }
 
--- ---- a station's records, by the index `row` of its first number; the station s has `stationAt case s`
+-- ---- a station's records, by the index `offset` of its first number; the station s has `stationAt case s`
 
 abbrev pub stationRow : List ℤ → ℕ → Station
-stationRow case row = record {
-  directions = countAt case (directionCountAt row);
-  states = countAt case (stateCountAt row);
-  machines = countAt case (machineCountAt row);
-  direction = countAt case (startDirectionAt row);
-  state = countAt case (startStateAt row);
+stationRow case offset = record {
+  directions = countAt case (directionCountAt offset);
+  states = countAt case (stateCountAt offset);
+  machines = countAt case (machineCountAt offset);
+  direction = countAt case (startDirectionAt offset);
+  state = countAt case (startStateAt offset);
 }
 
 abbrev pub directionRow : List ℤ → ℕ → ℕ → Direction
-directionRow case row f = record {
-  entry = numberAt case (entryAt (directionAt row f));
-  exit = numberAt case (exitAt (directionAt row f));
-  weight = countAt case (directionWeightAt (directionAt row f));
+directionRow case offset f = record {
+  entry = numberAt case (entryAt (directionAt offset f));
+  exit = numberAt case (exitAt (directionAt offset f));
+  weight = countAt case (directionWeightAt (directionAt offset f));
 }
 
 abbrev pub stateRow : List ℤ → ℕ → ℕ → State
-stateRow case row z = record {
-  directions = numberAt case (directionSetAt (stateAt case row z));
-  on = numberAt case (onAt (stateAt case row z));
-  off = numberAt case (offAt (stateAt case row z));
-  weight = countAt case (stateWeightAt (stateAt case row z));
+stateRow case offset z = record {
+  directions = numberAt case (directionSetAt (stateAt case offset z));
+  on = numberAt case (onAt (stateAt case offset z));
+  off = numberAt case (offAt (stateAt case offset z));
+  weight = countAt case (stateWeightAt (stateAt case offset z));
 }
 
 abbrev pub machineRow : List ℤ → ℕ → ℕ → Machine
-machineRow case row m = record {
-  flow = numberAt case (machineFlowAt (machineAt case row m));
-  ratio = numberAt case (ratioAt (machineAt case row m));
+machineRow case offset m = record {
+  flow = numberAt case (machineFlowAt (machineAt case offset m));
+  ratio = numberAt case (ratioAt (machineAt case offset m));
 }
 
 abbrev pub stationOf : List ℤ → ℕ → Station

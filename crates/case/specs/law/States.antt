@@ -15,12 +15,12 @@ use Rattle.case.specs.law.StationArcs.{belongs, stationArcs, arcSet, eve
 use Rattle.case.specs.law.StationFields.{firstItems}
 use Rattle.case.specs.law.Field.{asks}
 
--- the on and off set of state z of the station whose rows begin at `row` and whose arcs are the set `own`
+-- the on and off set of state z of the station whose rows begin at `offset` and whose arcs are the set `own`
 unfoldable pub stateKept : List ℤ → ℕ → ℤ → ℕ → Bool
-stateKept case row own z =
-    disjointOf (stateRow case row z .on) (stateRow case row z .off)
-    && (subsetOf (stateRow case row z .on) own
-    && subsetOf (stateRow case row z .off) own)
+stateKept case offset own z =
+    disjointOf (stateRow case offset z .on) (stateRow case offset z .off)
+    && (subsetOf (stateRow case offset z .on) own
+    && subsetOf (stateRow case offset z .off) own)
 
 -- the machine set of arc e, if the arc is the station's, whose machines are the set `own`
 unfoldable pub machinesKept : List ℤ → ℕ → ℤ → ℕ → Bool
@@ -36,9 +36,9 @@ startSet case s = pos (arcSet case s (activeAtStart case) (arcsOf case))
 
 -- every arc of the step-0 state's on set is active at step 0, and none of its off set
 unfoldable pub startKept : List ℤ → ℕ → ℤ → Bool
-startKept case row active =
-    subsetOf (stateRow case row (stationRow case row .state) .on) active
-    && disjointOf (stateRow case row (stationRow case row .state) .off) active
+startKept case offset active =
+    subsetOf (stateRow case offset (stationRow case offset .state) .on) active
+    && disjointOf (stateRow case offset (stationRow case offset .state) .off) active
 
 unfoldable pub stationKept : List ℤ → ℕ → Bool
 stationKept case s =

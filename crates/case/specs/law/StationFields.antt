@@ -15,18 +15,18 @@ abbrev pub firstItems : ℕ → ℤ
 firstItems n = pos (2 ^ n - 1)
 
 unfoldable pub stationHead : List ℤ → ℕ → List Question
-stationHead case row =
-    field case (directionCountAt row) (pos 1) (pos 8)
-    ++ (field case (stateCountAt row) (pos 1) (pos 16)
-    ++ (field case (machineCountAt row) (pos 0) (pos 12)
-    ++ (field case (startDirectionAt row) (pos 0) (lastOf (directionsAt case row))
-    ++ field case (startStateAt row) (pos 0) (lastOf (statesAt case row)))))
+stationHead case offset =
+    field case (directionCountAt offset) (pos 1) (pos 8)
+    ++ (field case (stateCountAt offset) (pos 1) (pos 16)
+    ++ (field case (machineCountAt offset) (pos 0) (pos 12)
+    ++ (field case (startDirectionAt offset) (pos 0) (lastOf (directionsAt case offset))
+    ++ field case (startStateAt offset) (pos 0) (lastOf (statesAt case offset)))))
 
 -- entry set, exit set, weight
 unfoldable pub directionFields : List ℤ → ℕ → ℕ → List Question
-directionFields case row f =
-    fields case (entryAt (directionAt row f)) 2 (pos 0) (firstItems 60)
-    ++ field case (directionWeightAt (directionAt row f)) (pos 0) mostWeight
+directionFields case offset f =
+    fields case (entryAt (directionAt offset f)) 2 (pos 0) (firstItems 60)
+    ++ field case (directionWeightAt (directionAt offset f)) (pos 0) mostWeight
 
 -- direction set, on set, off set, weight, from index `at` on
 unfoldable pub stateRowFields : List ℤ → ℕ → ℤ → List Question
@@ -36,24 +36,24 @@ stateRowFields case at sets =
     ++ field case (stateWeightAt at) (pos 0) mostWeight)
 
 unfoldable pub stateFields : List ℤ → ℕ → ℕ → List Question
-stateFields case row z = stateRowFields case (stateAt case row z) (firstItems (directionsAt case row))
+stateFields case offset z = stateRowFields case (stateAt case offset z) (firstItems (directionsAt case offset))
 
 -- Q and R
 unfoldable pub machineFields : List ℤ → ℕ → ℕ → List Question
-machineFields case row m =
-    field case (machineFlowAt (machineAt case row m)) (pos 0) mostFlow
-    ++ field case (ratioAt (machineAt case row m)) (pos 1001) (pos 10000)
+machineFields case offset m =
+    field case (machineFlowAt (machineAt case offset m)) (pos 0) mostFlow
+    ++ field case (ratioAt (machineAt case offset m)) (pos 1001) (pos 10000)
 
 -- the rows past the station's first
 unfoldable pub partFields : List ℤ → ℕ → List Question
-partFields case row =
-    over (directionFields case row) 0 (directionsAt case row)
-    ++ (over (stateFields case row) 0 (statesAt case row)
-    ++ over (machineFields case row) 0 (machinesAt case row))
+partFields case offset =
+    over (directionFields case offset) 0 (directionsAt case offset)
+    ++ (over (stateFields case offset) 0 (statesAt case offset)
+    ++ over (machineFields case offset) 0 (machinesAt case offset))
 
--- all rows of the station whose first number has the index `row`
+-- all rows of the station whose first number has the index `offset`
 unfoldable pub rowFields : List ℤ → ℕ → List Question
-rowFields case row = stationHead case row ++ partFields case row
+rowFields case offset = stationHead case offset ++ partFields case offset
 
 unfoldable pub stationFields : List ℤ → ℕ → List Question
 stationFields case s = rowFields case (stationAt case s)

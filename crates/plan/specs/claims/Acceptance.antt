@@ -39,30 +39,30 @@ use Rattle.plan.specs.law.Judged.{planStep, planQuestions, questions, ve
 
 -- ---- the rules of one item in one step; `old v` is the pressure of node v before the step
 
-pub record NodeRules (case row : List ℤ) (i v : ℕ) : Type 0 where
-  pub rule21 : nodeNumbersKept (nodeOf case v i) (nodeRow row v) ≡ true
-  pub rule22 : demandMet (nodeOf case v i) (nodeRow row v) ≡ true
-  pub rule23 : activeBoundsKept (nodeOf case v i) (nodeRow row v) ≡ true
+pub record NodeRules (case rows : List ℤ) (i v : ℕ) : Type 0 where
+  pub rule21 : nodeNumbersKept (nodeOf case v i) (nodeRow rows v) ≡ true
+  pub rule22 : demandMet (nodeOf case v i) (nodeRow rows v) ≡ true
+  pub rule23 : activeBoundsKept (nodeOf case v i) (nodeRow rows v) ≡ true
 
-pub record ArcRules (case : List ℤ) (old : ℕ → ℤ) (row : List ℤ) (i e : ℕ) : Type 0 where
-  pub rule24 : arcNumbersKept (arcOf case e) (artificialOf case e) (arcRow case row e) ≡ true
-  pub rule25 : flowAllowed (arcOf case e) (arcRow case row e) ≡ true
-  pub rule26 : pressuresKept case row i e ≡ true
-  pub rule27 : machinesUsed case row e ≡ true
-  pub rule28 : pipeMassKept case old row i e ≡ true
-  pub rule29 : pipePressuresKept case row e ≡ true
+pub record ArcRules (case : List ℤ) (old : ℕ → ℤ) (rows : List ℤ) (i e : ℕ) : Type 0 where
+  pub rule24 : arcNumbersKept (arcOf case e) (artificialOf case e) (arcRow case rows e) ≡ true
+  pub rule25 : flowAllowed (arcOf case e) (arcRow case rows e) ≡ true
+  pub rule26 : pressuresKept case rows i e ≡ true
+  pub rule27 : machinesUsed case rows e ≡ true
+  pub rule28 : pipeMassKept case old rows i e ≡ true
+  pub rule29 : pipePressuresKept case rows e ≡ true
 
-pub record StationRules (case row : List ℤ) (s : ℕ) : Type 0 where
-  pub rule30 : choiceKept case row s ≡ true
-  pub rule31 : machinesOnce case row s ≡ true
-  pub rule32 : fenceFlowsKept case row s ≡ true
+pub record StationRules (case rows : List ℤ) (s : ℕ) : Type 0 where
+  pub rule30 : choiceKept case rows s ≡ true
+  pub rule31 : machinesOnce case rows s ≡ true
+  pub rule32 : fenceFlowsKept case rows s ≡ true
 
 -- every rule of a step
-pub record StepRules (case : List ℤ) (old : ℕ → ℤ) (row : List ℤ) (i : ℕ) : Type 0 where
-  pub nodes : (v : ℕ) → v < nodesOf case → NodeRules case row i v
-  pub arcs : (e : ℕ) → e < arcsOf case → ArcRules case old row i e
-  pub stations : (s : ℕ) → s < stationsOf case → StationRules case row s
-  pub rule33 : (v : ℕ) → v < nodesOf case → balanceKept case row i v ≡ true
+pub record StepRules (case : List ℤ) (old : ℕ → ℤ) (rows : List ℤ) (i : ℕ) : Type 0 where
+  pub nodes : (v : ℕ) → v < nodesOf case → NodeRules case rows i v
+  pub arcs : (e : ℕ) → e < arcsOf case → ArcRules case old rows i e
+  pub stations : (s : ℕ) → s < stationsOf case → StationRules case rows s
+  pub rule33 : (v : ℕ) → v < nodesOf case → balanceKept case rows i v ≡ true
 
 -- every rule of a plan
 pub record PlanRules (case plan : List ℤ) : Type 0 where
@@ -72,28 +72,28 @@ pub record PlanRules (case plan : List ℤ) : Type 0 where
 
 -- ---- one step
 
-module _ (case : List ℤ) (old : ℕ → ℤ) (row : List ℤ) (i : ℕ) where
-  arc-rules : (e : ℕ) → firstNo (arcQuestions case old row i e) ≡ Yes → ArcRules case old row i e
+module _ (case : List ℤ) (old : ℕ → ℤ) (rows : List ℤ) (i : ℕ) where
+  arc-rules : (e : ℕ) → firstNo (arcQuestions case old rows i e) ≡ Yes → ArcRules case old rows i e
   unfolding arcQuestions flowQuestions pressureQuestions pipeQuestions
   arc-rules e y =
-      let a = all-yes (arcQuestions case old row i e) y in
+      let a = all-yes (arcQuestions case old rows i e) y in
       record { rule24 = a .0; rule25 = a .1 .0; rule26 = a .1 .1 .0; rule27 = a .1 .1 .1 .0; rule28 = a .1 .1 .1 .1 .0; rule29 = a .1 .1 .1 .1 .1 .0 }
 
-  rules-arc : (e : ℕ) → ArcRules case old row i e → firstNo (arcQuestions case old row i e) ≡ Yes
+  rules-arc : (e : ℕ) → ArcRules case old rows i e → firstNo (arcQuestions case old rows i e) ≡ Yes
   unfolding arcQuestions flowQuestions pressureQuestions pipeQuestions
   rules-arc e r = rw (r .rule24, r .rule25, r .rule26, r .rule27, r .rule28, r .rule29)
 
-  pub step-rules : firstNo (stepQuestions case old row i) ≡ Yes → StepRules case old row i
+  pub step-rules : firstNo (stepQuestions case old rows i) ≡ Yes → StepRules case old rows i
   unfolding allNodeQuestions nodeQuestions allArcQuestions allStationQuestions stationQuestions allBalanceQuestions balanceQuestions
   step-rules y = record {
     nodes = λ v q.
-        let a = all-yes (nodeQuestions case row i v) (item-yes (nodeQuestions case row i) (nodesOf case) (nodes-yes case old row i y) v q) in
+        let a = all-yes (nodeQuestions case rows i v) (item-yes (nodeQuestions case rows i) (nodesOf case) (nodes-yes case old rows i y) v q) in
         record { rule21 = a .0; rule22 = a .1 .0; rule23 = a .1 .1 .0 };
-    arcs = λ e q. arc-rules e (item-yes (arcQuestions case old row i) (arcsOf case) (arcs-yes case old row i y) e q);
+    arcs = λ e q. arc-rules e (item-yes (arcQuestions case old rows i) (arcsOf case) (arcs-yes case old rows i y) e q);
     stations = λ s q.
-        let a = all-yes (stationQuestions case row i s) (item-yes (stationQuestions case row i) (stationsOf case) (stations-yes case old row i y) s q) in
+        let a = all-yes (stationQuestions case rows i s) (item-yes (stationQuestions case rows i) (stationsOf case) (stations-yes case old rows i y) s q) in
         record { rule30 = a .0; rule31 = a .1 .0; rule32 = a .1 .1 .0 };
-    rule33 = λ v q. all-yes (balanceQuestions case row i v) (item-yes (balanceQuestions case row i) (nodesOf case) (balances-yes case old row i y) v q) .0;
+    rule33 = λ v q. all-yes (balanceQuestions case rows i v) (item-yes (balanceQuestions case rows i) (nodesOf case) (balances-yes case old rows i y) v q) .0;
   }
 
   zero-add : (n : ℕ) → 0 + n ≡ n
@@ -102,17 +102,17 @@ module _ (case : List ℤ) (old : ℕ → ℤ) (row : List ℤ) (i : ℕ) where
   all-of : (f : ℕ → List Question) (n : ℕ) → ((j : ℕ) → j < n → firstNo (f j) ≡ Yes) → firstNo (over f 0 n) ≡ Yes
   all-of f n h = over-all f 0 n (λ j p. rw (zero-add j) (h j p))
 
-  pub rules-step : StepRules case old row i → firstNo (stepQuestions case old row i) ≡ Yes
+  pub rules-step : StepRules case old rows i → firstNo (stepQuestions case old rows i) ≡ Yes
   unfolding stepQuestions allNodeQuestions nodeQuestions allArcQuestions allStationQuestions stationQuestions allBalanceQuestions balanceQuestions
   rules-step r =
       rw (
         firstNo-append,
-        all-of (nodeQuestions case row i) (nodesOf case) (λ v q. let n = r .nodes v q in rw (n .rule21, n .rule22, n .rule23)),
+        all-of (nodeQuestions case rows i) (nodesOf case) (λ v q. let n = r .nodes v q in rw (n .rule21, n .rule22, n .rule23)),
         firstNo-append,
-        all-of (arcQuestions case old row i) (arcsOf case) (λ e q. rules-arc e (r .arcs e q)),
+        all-of (arcQuestions case old rows i) (arcsOf case) (λ e q. rules-arc e (r .arcs e q)),
         firstNo-append,
-        all-of (stationQuestions case row i) (stationsOf case) (λ s q. let n = r .stations s q in rw (n .rule30, n .rule31, n .rule32)),
-        all-of (balanceQuestions case row i) (nodesOf case) (λ v q. let n = r .rule33 v q in rw n),
+        all-of (stationQuestions case rows i) (stationsOf case) (λ s q. let n = r .stations s q in rw (n .rule30, n .rule31, n .rule32)),
+        all-of (balanceQuestions case rows i) (nodesOf case) (λ v q. let n = r .rule33 v q in rw n),
       )
 
 -- ---- the whole plan

@@ -28,7 +28,7 @@ use Rattle.plan.specs.declared.setting.Setting.{Setting}
 use Rattle.plan.specs.declared.setting.Setting.the-variants.{Unknown, Off, Active}
 use Rattle.plan.specs.law.Compared.{within, isZero}
 use Rattle.plan.specs.law.PlanRecords.{pressureIn, arcRow}
-use Rattle.plan.specs.law.Setting.{directed, combinedOf, valveOf, activeOf, settingOf, settingIn, inEnd, outEnd, homeOf}
+use Rattle.plan.specs.law.Setting.{directed, combinedOf, valveOf, activeOf, settingOf, settingIn, inEnd, outEnd, stationOffset}
 use Rattle.plan.specs.law.ArcFlows.{mostBackward, flowsKept, machinesWithin, settingAllowed, arcNumbersKept, noFlowAgainst, flowAllowed}
 use Rattle.plan.specs.law.Machines.{machineFlow, machineGain}
 use Rattle.plan.specs.law.ArcPressures.{compressionKept, modePressures, settingPressures, pressuresKept}
@@ -176,53 +176,53 @@ rule25-says c r =
 -- 26: "Pressures: open valve or active shortcut equal; regulator always from ≥ to; regulating in ≥ out; compressing in ≤ out, out ≤ out bound, and
 -- 1,000 × out ≤ p0 of the in end × (1,000 + the sum of (R - 1,000) over its machines)?" An active arc has its in end at u and its out end at w; "out bound
 -- 0..200,000, where 0 means 200,000".
-pub record Compression (case row : List ℤ) (i e u w : ℕ) : Type 0 where
-  pub raises : (pressureIn row u) ≤ℤ (pressureIn row w)
-  pub bound : artificialOf case e .outbound ≢ pos 0 → (pressureIn row w) ≤ℤ (artificialOf case e .outbound)
-  pub unbound : artificialOf case e .outbound ≡ pos 0 → (pressureIn row w) ≤ℤ (pos 200000)
-  pub reach : (pos 1000 *ℤ pressureIn row w) ≤ℤ (nodeOf case u i .p0 *ℤ (pos 1000 +ℤ machineGain case (homeOf case e) (arcRow case row e .machines)))
+pub record Compression (case rows : List ℤ) (i e u w : ℕ) : Type 0 where
+  pub raises : (pressureIn rows u) ≤ℤ (pressureIn rows w)
+  pub bound : artificialOf case e .outbound ≢ pos 0 → (pressureIn rows w) ≤ℤ (artificialOf case e .outbound)
+  pub unbound : artificialOf case e .outbound ≡ pos 0 → (pressureIn rows w) ≤ℤ (pos 200000)
+  pub reach : (pos 1000 *ℤ pressureIn rows w) ≤ℤ (nodeOf case u i .p0 *ℤ (pos 1000 +ℤ machineGain case (stationOffset case e) (arcRow case rows e .machines)))
 
 abbrev pub PressuresBy : List ℤ → List ℤ → ℕ → ℕ → Mode → ℕ → ℕ → Type 0
-PressuresBy case row i e Open u w = pressureIn row u ≡ pressureIn row w
-PressuresBy case row i e Regulating u w = (pressureIn row w) ≤ℤ (pressureIn row u)
-PressuresBy case row i e Compressing u w = Compression case row i e u w
+PressuresBy case rows i e Open u w = pressureIn rows u ≡ pressureIn rows w
+PressuresBy case rows i e Regulating u w = (pressureIn rows w) ≤ℤ (pressureIn rows u)
+PressuresBy case rows i e Compressing u w = Compression case rows i e u w
 
-pub record Rule26 (case row : List ℤ) (i e : ℕ) : Type 0 where
-  pub regulator : arcOf case e .kind ≡ 1 → (pressureIn row (arcOf case e .to)) ≤ℤ (pressureIn row (arcOf case e .from))
-  pub active : arcOf case e .kind ≢ 1 → (way : Way) (mode : Mode) → settingIn case row e ≡ Active way mode
-      → PressuresBy case row i e mode (inEnd way (arcOf case e)) (outEnd way (arcOf case e))
+pub record Rule26 (case rows : List ℤ) (i e : ℕ) : Type 0 where
+  pub regulator : arcOf case e .kind ≡ 1 → (pressureIn rows (arcOf case e .to)) ≤ℤ (pressureIn rows (arcOf case e .from))
+  pub active : arcOf case e .kind ≢ 1 → (way : Way) (mode : Mode) → settingIn case rows e ≡ Active way mode
+      → PressuresBy case rows i e mode (inEnd way (arcOf case e)) (outEnd way (arcOf case e))
 
-mode-says : (case row : List ℤ) (i e : ℕ) (mode : Mode) (u w : ℕ) → Says (modePressures case row i e mode u w) (PressuresBy case row i e mode u w)
+mode-says : (case rows : List ℤ) (i e : ℕ) (mode : Mode) (u w : ℕ) → Says (modePressures case rows i e mode u w) (PressuresBy case rows i e mode u w)
 unfolding compressionKept
-mode-says case row i e Open u w = same-says _ _
-mode-says case row i e Regulating u w = le-says _ _
-mode-says case row i e Compressing u w =
-    means (both (le-says _ _) (both (pick (leZ (pressureIn row w)) (zero-says (artificialOf case e .outbound)) (le-says _ _) (le-says _ _)) (le-says _ _)))
+mode-says case rows i e Open u w = same-says _ _
+mode-says case rows i e Regulating u w = le-says _ _
+mode-says case rows i e Compressing u w =
+    means (both (le-says _ _) (both (pick (leZ (pressureIn rows w)) (zero-says (artificialOf case e .outbound)) (le-says _ _) (le-says _ _)) (le-says _ _)))
     (λ t. record { raises = t .0; bound = t .1 .0 .1; unbound = t .1 .0 .0; reach = t .1 .1 })
     (λ f. (f .raises, ((f .unbound, f .bound), f .reach)))
 
-pub rule26-says : (case row : List ℤ) (i e : ℕ) → Says (pressuresKept case row i e) (Rule26 case row i e)
+pub rule26-says : (case rows : List ℤ) (i e : ℕ) → Says (pressuresKept case rows i e) (Rule26 case rows i e)
 unfolding pressuresKept
-rule26-says case row i e =
-    means (choose (eqb-says (arcOf case e .kind) 1) (le-says _ _) (by-setting (settingPressures case row i e) (settingIn case row e) refl always
-    (λ way mode. mode-says case row i e mode (inEnd way (arcOf case e)) (outEnd way (arcOf case e)))))
+rule26-says case rows i e =
+    means (choose (eqb-says (arcOf case e .kind) 1) (le-says _ _) (by-setting (settingPressures case rows i e) (settingIn case rows e) refl always
+    (λ way mode. mode-says case rows i e mode (inEnd way (arcOf case e)) (outEnd way (arcOf case e)))))
     (λ t. record { regulator = t .0; active = λ n. t .1 n .1 })
     (λ f. (f .regulator, λ n. (λ q. tt, f .active n)))
 
 -- 27: "Not compressing: machines 0? Compressing: at most "most machines", and flow ≤ the sum of their Q?"
-pub record Rule27 (case row : List ℤ) (e : ℕ) : Type 0 where
-  pub idle : ((way : Way) → settingIn case row e ≢ Active way Compressing) → arcRow case row e .machines ≡ pos 0
-  pub compressing : (way : Way) → settingIn case row e ≡ Active way Compressing → (countOf (arcRow case row e .machines) ≤ artificialOf case e .most)
-      × ((flowAlong way (arcRow case row e)) ≤ℤ (machineFlow case (homeOf case e) (arcRow case row e .machines)))
+pub record Rule27 (case rows : List ℤ) (e : ℕ) : Type 0 where
+  pub idle : ((way : Way) → settingIn case rows e ≢ Active way Compressing) → arcRow case rows e .machines ≡ pos 0
+  pub compressing : (way : Way) → settingIn case rows e ≡ Active way Compressing → (countOf (arcRow case rows e .machines) ≤ artificialOf case e .most)
+      × ((flowAlong way (arcRow case rows e)) ≤ℤ (machineFlow case (stationOffset case e) (arcRow case rows e .machines)))
 
-pub rule27-says : (case row : List ℤ) (e : ℕ) → Says (machinesUsed case row e) (Rule27 case row e)
+pub rule27-says : (case rows : List ℤ) (e : ℕ) → Says (machinesUsed case rows e) (Rule27 case rows e)
 unfolding machinesUsed machinesCarry
-rule27-says case row e = go (settingIn case row e) refl
+rule27-says case rows e = go (settingIn case rows e) refl
   where
-    idle : ((way : Way) → settingIn case row e ≢ Active way Compressing) → Says (isZero (arcRow case row e .machines)) (Rule27 case row e)
+    idle : ((way : Way) → settingIn case rows e ≢ Active way Compressing) → Says (isZero (arcRow case rows e .machines)) (Rule27 case rows e)
     idle n = means (zero-says _) (λ z. record { idle = λ m. z; compressing = λ way q. absurd (n way q) }) (λ f. f .idle n)
 
-    go : (s : Setting) → settingIn case row e ≡ s → Says (settingMachines case row e s) (Rule27 case row e)
+    go : (s : Setting) → settingIn case rows e ≡ s → Says (settingMachines case rows e s) (Rule27 case rows e)
     go Unknown p = idle (λ way q. let z : _≡_ {A = ℕ} 0 1 = cc in omega arith)
     go Off p = idle (λ way q. let z : _≡_ {A = ℕ} 0 1 = cc in omega arith)
     go (Active x Open) p = idle (λ way q. let z : _≡_ {A = ℕ} 0 1 = cc in omega arith)
@@ -234,21 +234,21 @@ rule27-says case row e = go (settingIn case row e) refl
 
 -- 28: "Pipe: |dt × (a - b) - c × (change of p at from + change at to)| ≤ E?" `old v` is the pressure of node v before the step.
 abbrev pub Rule28 : List ℤ → (ℕ → ℤ) → List ℤ → ℕ → ℕ → Type 0
-Rule28 case old row i e = arcOf case e .kind ≡ 2
-    → (pos (natAbs (duration case i *ℤ (arcRow case row e .a -ℤ arcRow case row e .b)
-    -ℤ pipeOf case e .c *ℤ (change old row (arcOf case e .from) +ℤ change old row (arcOf case e .to))))) ≤ℤ (massTolerance case)
+Rule28 case old rows i e = arcOf case e .kind ≡ 2
+    → (pos (natAbs (duration case i *ℤ (arcRow case rows e .a -ℤ arcRow case rows e .b)
+    -ℤ pipeOf case e .c *ℤ (change old rows (arcOf case e .from) +ℤ change old rows (arcOf case e .to))))) ≤ℤ (massTolerance case)
 
-pub rule28-says : (case : List ℤ) (old : ℕ → ℤ) (row : List ℤ) (i e : ℕ) → Says (pipeMassKept case old row i e) (Rule28 case old row i e)
+pub rule28-says : (case : List ℤ) (old : ℕ → ℤ) (rows : List ℤ) (i e : ℕ) → Says (pipeMassKept case old rows i e) (Rule28 case old rows i e)
 unfolding pipeMassKept pipeResidual pipeImbalance
-rule28-says case old row i e = when (eqb-says (arcOf case e .kind) 2) (le-says _ _)
+rule28-says case old rows i e = when (eqb-says (arcOf case e .kind) 2) (le-says _ _)
 
 -- 29: "Pipe, end pressures: |1,000,000 × (to - from) + f × a + g × b + h × (from + to)| ≤ 1,000,000 × H?"
 abbrev pub Rule29 : List ℤ → List ℤ → ℕ → Type 0
-Rule29 case row e = arcOf case e .kind ≡ 2
-    → (pos (natAbs (pos 1000000 *ℤ (pressureIn row (arcOf case e .to) -ℤ pressureIn row (arcOf case e .from))
-    +ℤ pipeOf case e .f *ℤ arcRow case row e .a +ℤ pipeOf case e .g *ℤ arcRow case row e .b
-    +ℤ pipeOf case e .h *ℤ (pressureIn row (arcOf case e .from) +ℤ pressureIn row (arcOf case e .to))))) ≤ℤ (pos 1000000 *ℤ pressureTolerance case)
+Rule29 case rows e = arcOf case e .kind ≡ 2
+    → (pos (natAbs (pos 1000000 *ℤ (pressureIn rows (arcOf case e .to) -ℤ pressureIn rows (arcOf case e .from))
+    +ℤ pipeOf case e .f *ℤ arcRow case rows e .a +ℤ pipeOf case e .g *ℤ arcRow case rows e .b
+    +ℤ pipeOf case e .h *ℤ (pressureIn rows (arcOf case e .from) +ℤ pressureIn rows (arcOf case e .to))))) ≤ℤ (pos 1000000 *ℤ pressureTolerance case)
 
-pub rule29-says : (case row : List ℤ) (e : ℕ) → Says (pipePressuresKept case row e) (Rule29 case row e)
+pub rule29-says : (case rows : List ℤ) (e : ℕ) → Says (pipePressuresKept case rows e) (Rule29 case rows e)
 unfolding pipePressuresKept pressureBalance
-rule29-says case row e = when (eqb-says (arcOf case e .kind) 2) (le-says _ _)
+rule29-says case rows e = when (eqb-says (arcOf case e .kind) 2) (le-says _ _)

@@ -35,23 +35,23 @@ use Rattle.plan.specs.inside.SaysLaws.{means, then, both, choose, when, 
 
 -- the direction and the state that the station has in the step
 abbrev pub chosenDirection : List ℤ → List ℤ → ℕ → Direction
-chosenDirection case row s = directionOf case s (directionIn case row s)
+chosenDirection case rows s = directionOf case s (directionIn case rows s)
 
 abbrev pub chosenState : List ℤ → List ℤ → ℕ → State
-chosenState case row s = stateOf case s (stateIn case row s)
+chosenState case rows s = stateOf case s (stateIn case rows s)
 
 -- "Active means setting above 0."
 abbrev pub IsActive : List ℤ → List ℤ → ℕ → Type 0
-IsActive case row e = (pos 1) ≤ℤ (arcRow case row e .setting)
+IsActive case rows e = (pos 1) ≤ℤ (arcRow case rows e .setting)
 
 -- 30: "Are direction and state in range, does the state support the direction, are all on arcs active and no off arc?" Arc e is the one of the
 -- station's that has `arcsBefore case s e` of them before it.
-pub record Rule30 (case row : List ℤ) (s : ℕ) : Type 0 where
-  pub direction : In (pos 0) (choiceOf case row s .direction) (lastOf (stationOf case s .directions))
-  pub state : In (pos 0) (choiceOf case row s .state) (lastOf (stationOf case s .states))
-  pub supports : memberOf (chosenState case row s .directions) (directionIn case row s) ≡ true
-  pub on : (e : ℕ) → e < arcsOf case → belongs case s e ≡ true → memberOf (chosenState case row s .on) (arcsBefore case s e) ≡ true → IsActive case row e
-  pub off : (e : ℕ) → e < arcsOf case → belongs case s e ≡ true → memberOf (chosenState case row s .off) (arcsBefore case s e) ≡ true → ¬ IsActive case row e
+pub record Rule30 (case rows : List ℤ) (s : ℕ) : Type 0 where
+  pub direction : In (pos 0) (choiceOf case rows s .direction) (lastOf (stationOf case s .directions))
+  pub state : In (pos 0) (choiceOf case rows s .state) (lastOf (stationOf case s .states))
+  pub supports : memberOf (chosenState case rows s .directions) (directionIn case rows s) ≡ true
+  pub on : (e : ℕ) → e < arcsOf case → belongs case s e ≡ true → memberOf (chosenState case rows s .on) (arcsBefore case s e) ≡ true → IsActive case rows e
+  pub off : (e : ℕ) → e < arcsOf case → belongs case s e ≡ true → memberOf (chosenState case rows s .off) (arcsBefore case s e) ≡ true → ¬ IsActive case rows e
 
 one-of-says : (x : ℤ) (n : ℕ) → Says (oneOf x n) (In (pos 0) x (lastOf n))
 one-of-says x n =
@@ -62,10 +62,10 @@ pub in-one-of : (x : ℤ) (n : ℕ) → In (pos 0) x (lastOf n) → posPart x < 
 in-one-of x n h = omega (ints, taken (pos n) (pos 1), size x)
 
 -- a set that names only the station's arcs, arc by arc
-module _ (case row : List ℤ) (s : ℕ) where
-  active-says : (e : ℕ) → e < arcsOf case → belongs case s e ≡ true → Says (memberOf (activeSet case row s) (arcsBefore case s e)) (IsActive case row e)
+module _ (case rows : List ℤ) (s : ℕ) where
+  active-says : (e : ℕ) → e < arcsOf case → belongs case s e ≡ true → Says (memberOf (activeSet case rows s) (arcsBefore case s e)) (IsActive case rows e)
   unfolding activeSet
-  active-says e p b = rw (arc-member case s (activeIn case row) (arcsOf case) e p b) (le-says _ _)
+  active-says e p b = rw (arc-member case s (activeIn case rows) (arcsOf case) e p b) (le-says _ _)
 
   module _ (set : ℤ) (own : subsetOf set (firstItems (stationArcs case s)) ≡ true) where
     arc-of : (j : ℕ) → memberOf set j ≡ true → (e : ℕ) × (e < arcsOf case) × (belongs case s e ≡ true) × (arcsBefore case s e ≡ j)
@@ -79,40 +79,40 @@ module _ (case row : List ℤ) (s : ℕ) where
             let i = subset-says set (firstItems k) .fact own j m in
             absurd (omega (arith, eqb-true, bit-high k (posPart (firstItems k)) j (ones-lt k) (ltb-false j k e)))
 
-    on-says : Says (subsetOf set (activeSet case row s))
-        ((e : ℕ) → e < arcsOf case → belongs case s e ≡ true → memberOf set (arcsBefore case s e) ≡ true → IsActive case row e)
+    on-says : Says (subsetOf set (activeSet case rows s))
+        ((e : ℕ) → e < arcsOf case → belongs case s e ≡ true → memberOf set (arcsBefore case s e) ≡ true → IsActive case rows e)
     on-says =
-        means (subset-says set (activeSet case row s)) (λ t e p b m. active-says e p b .fact (t _ m))
+        means (subset-says set (activeSet case rows s)) (λ t e p b m. active-says e p b .fact (t _ m))
         (λ f j m. let x = arc-of j m in rw (x .3) at (active-says (x .0) (x .1) (x .2) .passed (f (x .0) (x .1) (x .2) (rw (x .3) m))))
 
-    off-says : Says (disjointOf set (activeSet case row s))
-        ((e : ℕ) → e < arcsOf case → belongs case s e ≡ true → memberOf set (arcsBefore case s e) ≡ true → IsActive case row e → ⊥)
+    off-says : Says (disjointOf set (activeSet case rows s))
+        ((e : ℕ) → e < arcsOf case → belongs case s e ≡ true → memberOf set (arcsBefore case s e) ≡ true → IsActive case rows e → ⊥)
     off-says =
-        means (disjoint-says set (activeSet case row s)) (λ t e p b m h. t _ m (active-says e p b .passed h))
+        means (disjoint-says set (activeSet case rows s)) (λ t e p b m h. t _ m (active-says e p b .passed h))
         (λ f j m h. let x = arc-of j m in f (x .0) (x .1) (x .2) (rw (x .3) m) (active-says (x .0) (x .1) (x .2) .fact (rw (x .3) h)))
 
-pub rule30-says : (case row : List ℤ) (s : ℕ) → Accepted case → s < stationsOf case → Says (choiceKept case row s) (Rule30 case row s)
+pub rule30-says : (case rows : List ℤ) (s : ℕ) → Accepted case → s < stationsOf case → Says (choiceKept case rows s) (Rule30 case rows s)
 unfolding choiceKept obeyed
-rule30-says case row s ok p =
-    let c = choiceOf case row s in
-    let z = chosenState case row s in
+rule30-says case rows s ok p =
+    let c = choiceOf case rows s in
+    let z = chosenState case rows s in
     let own = stationOf case s in
     means (both (one-of-says (c .direction) (own .directions)) (then (one-of-says (c .state) (own .states)) (λ h.
     let q = in-one-of (c .state) (own .states) h in
-    both (flag-says (memberOf (z .directions) (directionIn case row s)))
-    (both (on-says case row s (z .on) (on-arcs case ok s _ p q)) (off-says case row s (z .off) (off-arcs case ok s _ p q))))))
+    both (flag-says (memberOf (z .directions) (directionIn case rows s)))
+    (both (on-says case rows s (z .on) (on-arcs case ok s _ p q)) (off-says case rows s (z .off) (off-arcs case ok s _ p q))))))
     (λ t. record { direction = t .0; state = t .1 .0; supports = t .1 .1 .0; on = t .1 .1 .1 .0; off = t .1 .1 .1 .1 })
     (λ f. (f .direction, (f .state, (f .supports, (f .on, f .off)))))
 
 -- 31: "Is each machine on at most one arc?" No machine of the station is in the sets of two arcs of the station.
 abbrev pub Rule31 : List ℤ → List ℤ → ℕ → Type 0
-Rule31 case row s = (m : ℕ) → m < stationOf case s .machines → (d e : ℕ) → d < arcsOf case → e < arcsOf case → belongs case s d ≡ true
-    → belongs case s e ≡ true → memberOf (arcRow case row d .machines) m ≡ true → memberOf (arcRow case row e .machines) m ≡ true → d ≡ e
+Rule31 case rows s = (m : ℕ) → m < stationOf case s .machines → (d e : ℕ) → d < arcsOf case → e < arcsOf case → belongs case s d ≡ true
+    → belongs case s e ≡ true → memberOf (arcRow case rows d .machines) m ≡ true → memberOf (arcRow case rows e .machines) m ≡ true → d ≡ e
 
-pub rule31-says : (case row : List ℤ) (s : ℕ) → Says (machinesOnce case row s) (Rule31 case row s)
+pub rule31-says : (case rows : List ℤ) (s : ℕ) → Says (machinesOnce case rows s) (Rule31 case rows s)
 unfolding machinesOnce
-rule31-says case row s =
-    means (all (λ m p. one-says (onArc case row s m) (arcsOf case)))
+rule31-says case rows s =
+    means (all (λ m p. one-says (onArc case rows s m) (arcsOf case)))
     (λ t m p d e k l a b x y. t m p d e k l (rw (a, x)) (rw (b, y)))
     (λ f m p d e k l x y. f m p d e k l (and-first _ _ x) (and-first _ _ y) (and-second (belongs case s d) _ x) (and-second (belongs case s e) _ y))
 
@@ -124,29 +124,29 @@ pub record FenceFlow (d : Direction) (v : ℕ) (flow : ℤ) : Type 0 where
   pub neither : memberOf (d .entry) v ≢ true → memberOf (d .exit) v ≢ true → flow ≡ pos 0
 
 abbrev pub Rule32 : List ℤ → List ℤ → ℕ → Type 0
-Rule32 case row s = (v : ℕ) → v < nodesOf case → fenceNode case s v ≡ true → FenceFlow (chosenDirection case row s) v (stationFlow case row s v)
+Rule32 case rows s = (v : ℕ) → v < nodesOf case → fenceNode case s v ≡ true → FenceFlow (chosenDirection case rows s) v (stationFlow case rows s v)
 
 -- of one node; an accepted case has no node that is both entry and exit
-fence-says : (case row : List ℤ) (s f v : ℕ) → disjointOf (directionOf case s f .entry) (directionOf case s f .exit) ≡ true
-    → Says (fenceKept case row s f v) (fenceNode case s v ≡ true → FenceFlow (directionOf case s f) v (stationFlow case row s v))
+fence-says : (case rows : List ℤ) (s f v : ℕ) → disjointOf (directionOf case s f .entry) (directionOf case s f .exit) ≡ true
+    → Says (fenceKept case rows s f v) (fenceNode case s v ≡ true → FenceFlow (directionOf case s f) v (stationFlow case rows s v))
 unfolding fenceNodeKept
-fence-says case row s f v apart =
+fence-says case rows s f v apart =
     let d = directionOf case s f in
     when (flag-says _) (means (choose (flag-says _) (le-says _ _) (choose (flag-says _) (le-says _ _) (zero-says _)))
     (λ t. record { entry = t .0; exit = λ x. t .1 (λ e. disjoint-says (d .entry) (d .exit) .fact apart v e x) .0 x; neither = λ e x. t .1 e .1 x })
     (λ r. (r .entry, λ e. (r .exit, r .neither e))))
 
-pub rule32-says : (case row : List ℤ) (s : ℕ) → Accepted case → s < stationsOf case → directionIn case row s < stationOf case s .directions
-    → Says (fenceFlowsKept case row s) (Rule32 case row s)
+pub rule32-says : (case rows : List ℤ) (s : ℕ) → Accepted case → s < stationsOf case → directionIn case rows s < stationOf case s .directions
+    → Says (fenceFlowsKept case rows s) (Rule32 case rows s)
 unfolding fenceFlowsKept
-rule32-says case row s ok p q =
-    let f = directionIn case row s in
-    all (λ v l. fence-says case row s f v (direction-disjoint case ok s f p q))
+rule32-says case rows s ok p q =
+    let f = directionIn case rows s in
+    all (λ v l. fence-says case rows s f v (direction-disjoint case ok s f p q))
 
 -- 33: "Is dt × |flow out - flow in - d| ≤ E, over all arcs (a pipe's flow is a at from and b at to, any other arc's a - b at both)?"
 abbrev pub Rule33 : List ℤ → List ℤ → ℕ → ℕ → Type 0
-Rule33 case row i v = (pos (natAbs (duration case i) * natAbs (outflow case row v -ℤ inflow case row v -ℤ nodeRow row v .d))) ≤ℤ (massTolerance case)
+Rule33 case rows i v = (pos (natAbs (duration case i) * natAbs (outflow case rows v -ℤ inflow case rows v -ℤ nodeRow rows v .d))) ≤ℤ (massTolerance case)
 
-pub rule33-says : (case row : List ℤ) (i v : ℕ) → Says (balanceKept case row i v) (Rule33 case row i v)
+pub rule33-says : (case rows : List ℤ) (i v : ℕ) → Says (balanceKept case rows i v) (Rule33 case rows i v)
 unfolding balanceKept nodeResidual nodeImbalance netFlow
-rule33-says case row i v = le-says _ _
+rule33-says case rows i v = le-says _ _

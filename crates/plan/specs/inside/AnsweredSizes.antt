@@ -96,14 +96,14 @@ numbers-sized n r z e =
       uminus = within-sized (pos 0) (r .uminus) (slackLimit (n .kind) (n .high -ℤ n .acthigh)) 400000 (and-second w5 w6 e5) (omega arith) (slack-limit (n .kind) (n .high -ℤ n .acthigh) (difference (z .high) (z .acthigh)));
     }
 
-pub nodes-sized : (case row : List ℤ) (i : ℕ) → AcceptedCase case → i < stepsOf case → firstNo (allNodeQuestions case row i) ≡ Yes → NodesSized case row
+pub nodes-sized : (case rows : List ℤ) (i : ℕ) → AcceptedCase case → i < stepsOf case → firstNo (allNodeQuestions case rows i) ≡ Yes → NodesSized case rows
 unfolding allNodeQuestions nodeQuestions
-nodes-sized case row i c p e = record {
+nodes-sized case rows i c p e = record {
   each = λ v q.
-      numbers-sized (nodeOf case v i) (nodeRow row v) (node-sized c v q i p) (all-yes (nodeQuestions case row i v) (item-yes (nodeQuestions case row i) (nodesOf case) e v q) .0);
+      numbers-sized (nodeOf case v i) (nodeRow rows v) (node-sized c v q i p) (all-yes (nodeQuestions case rows i v) (item-yes (nodeQuestions case rows i) (nodesOf case) e v q) .0);
 }
 
-pub pressures-sized : {case row : List ℤ} → NodesSized case row → PressuresSized (pressureIn row) (nodesOf case)
+pub pressures-sized : {case rows : List ℤ} → NodesSized case rows → PressuresSized (pressureIn rows) (nodesOf case)
 pressures-sized n = record { each = λ v q. n .each v q .p }
 
 -- ---- 24
@@ -122,54 +122,54 @@ flows-kept-sized c r q e =
 small : (n : ℕ) (z : ℤ) → leZ (pos n) z ≡ true → Bounded z 1000000 → n ≤ 1000000
 small n z e b = omega (ints, size z, b .bound)
 
-module _ (case : List ℤ) (old : ℕ → ℤ) (row : List ℤ) (i : ℕ) where
+module _ (case : List ℤ) (old : ℕ → ℤ) (rows : List ℤ) (i : ℕ) where
   -- the groups of an arc's questions
-  pub flow-yes : (e : ℕ) → firstNo (arcQuestions case old row i e) ≡ Yes → firstNo (flowQuestions case row i e) ≡ Yes
+  pub flow-yes : (e : ℕ) → firstNo (arcQuestions case old rows i e) ≡ Yes → firstNo (flowQuestions case rows i e) ≡ Yes
   unfolding arcQuestions
-  flow-yes e y = first-yes (flowQuestions case row i e) (pressureQuestions case row i e ++ pipeQuestions case old row i e) y
+  flow-yes e y = first-yes (flowQuestions case rows i e) (pressureQuestions case rows i e ++ pipeQuestions case old rows i e) y
 
-  pub pipe-yes : (e : ℕ) → firstNo (arcQuestions case old row i e) ≡ Yes → firstNo (pipeQuestions case old row i e) ≡ Yes
+  pub pipe-yes : (e : ℕ) → firstNo (arcQuestions case old rows i e) ≡ Yes → firstNo (pipeQuestions case old rows i e) ≡ Yes
   unfolding arcQuestions
   pipe-yes e y =
-      second-yes (pressureQuestions case row i e) (pipeQuestions case old row i e)
-      (second-yes (flowQuestions case row i e) (pressureQuestions case row i e ++ pipeQuestions case old row i e) y)
+      second-yes (pressureQuestions case rows i e) (pipeQuestions case old rows i e)
+      (second-yes (flowQuestions case rows i e) (pressureQuestions case rows i e ++ pipeQuestions case old rows i e) y)
 
-  pub arc-numbers : (e : ℕ) → firstNo (flowQuestions case row i e) ≡ Yes → arcNumbersKept (arcOf case e) (artificialOf case e) (arcRow case row e) ≡ true
+  pub arc-numbers : (e : ℕ) → firstNo (flowQuestions case rows i e) ≡ Yes → arcNumbersKept (arcOf case e) (artificialOf case e) (arcRow case rows e) ≡ true
   unfolding flowQuestions
-  arc-numbers e y = all-yes (flowQuestions case row i e) y .0
+  arc-numbers e y = all-yes (flowQuestions case rows i e) y .0
 
-  pub arc-sized : AcceptedCase case → (e : ℕ) → e < arcsOf case → firstNo (flowQuestions case row i e) ≡ Yes → ArcRowSized (arcRow case row e)
+  pub arc-sized : AcceptedCase case → (e : ℕ) → e < arcsOf case → firstNo (flowQuestions case rows i e) ≡ Yes → ArcRowSized (arcRow case rows e)
   unfolding arcNumbersKept
   arc-sized c e q y =
-      let r = arcRow case row e in
+      let r = arcRow case rows e in
       flows-kept-sized (arcOf case e) r (qmax-sized c e q) (and-first (flowsKept (arcOf case e) r) _ (arc-numbers e y))
 
-  pub flows-sized : AcceptedCase case → firstNo (allArcQuestions case old row i) ≡ Yes → FlowsSized case row
+  pub flows-sized : AcceptedCase case → firstNo (allArcQuestions case old rows i) ≡ Yes → FlowsSized case rows
   unfolding allArcQuestions
-  flows-sized c y = record { each = λ e q. arc-sized c e q (flow-yes e (item-yes (arcQuestions case old row i) (arcsOf case) y e q)) }
+  flows-sized c y = record { each = λ e q. arc-sized c e q (flow-yes e (item-yes (arcQuestions case old rows i) (arcsOf case) y e q)) }
 
-  pub machines-kept : firstNo (allArcQuestions case old row i) ≡ Yes → MachinesKept case row
+  pub machines-kept : firstNo (allArcQuestions case old rows i) ≡ Yes → MachinesKept case rows
   unfolding allArcQuestions arcNumbersKept
   machines-kept y = record {
     each = λ e q.
         let x = artificialOf case e in
-        let r = arcRow case row e in
+        let r = arcRow case rows e in
         let k = arcOf case e .kind in
         let s = settingAllowed (leb 1 (x .bothways)) (settingOf k (r .setting)) in
         and-second s (machinesWithin k (x .machines) (r .machines))
-        (and-second (flowsKept (arcOf case e) r) (s && machinesWithin k (x .machines) (r .machines)) (arc-numbers e (flow-yes e (item-yes (arcQuestions case old row i) (arcsOf case) y e q))));
+        (and-second (flowsKept (arcOf case e) r) (s && machinesWithin k (x .machines) (r .machines)) (arc-numbers e (flow-yes e (item-yes (arcQuestions case old rows i) (arcsOf case) y e q))));
   }
 
   -- ---- 28
 
-  pub pipe-small : AcceptedCase case → firstNo (allArcQuestions case old row i) ≡ Yes → (e : ℕ) → e < arcsOf case → pipePart case old row i e ≤ 1000000
+  pub pipe-small : AcceptedCase case → firstNo (allArcQuestions case old rows i) ≡ Yes → (e : ℕ) → e < arcsOf case → pipePart case old rows i e ≤ 1000000
   unfolding allArcQuestions pipeQuestions pipeMassKept pipePart
   pipe-small c y e q =
-      let k = all-yes (pipeQuestions case old row i e) (pipe-yes e (item-yes (arcQuestions case old row i) (arcsOf case) y e q)) .0 in
+      let k = all-yes (pipeQuestions case old rows i e) (pipe-yes e (item-yes (arcQuestions case old rows i) (arcsOf case) y e q)) .0 in
       go (isPipe case e) k
     where
-      go : (b : Bool) → (not b || leZ (pos (pipeResidual case old row i e)) (massTolerance case)) ≡ true → onlyN b (pipeResidual case old row i e) ≤ 1000000
-      go true k = small (pipeResidual case old row i e) (massTolerance case) k (mass-sized c)
+      go : (b : Bool) → (not b || leZ (pos (pipeResidual case old rows i e)) (massTolerance case)) ≡ true → onlyN b (pipeResidual case old rows i e) ≤ 1000000
+      go true k = small (pipeResidual case old rows i e) (massTolerance case) k (mass-sized c)
       go false k = omega arith
 
 -- ---- 30
@@ -177,60 +177,60 @@ module _ (case : List ℤ) (old : ℕ → ℤ) (row : List ℤ) (i : ℕ) where
 one-of : (x : ℤ) (n : ℕ) → oneOf x n ≡ true → posPart x < n
 one-of x n e = ltb-true (posPart x) n (and-second (leZ (pos 0) x) (ltb (posPart x) n) e)
 
-module _ (case row : List ℤ) (i : ℕ) where
-  choice-kept : firstNo (allStationQuestions case row i) ≡ Yes → (s : ℕ) → s < stationsOf case → choiceKept case row s ≡ true
+module _ (case rows : List ℤ) (i : ℕ) where
+  choice-kept : firstNo (allStationQuestions case rows i) ≡ Yes → (s : ℕ) → s < stationsOf case → choiceKept case rows s ≡ true
   unfolding allStationQuestions stationQuestions
-  choice-kept y s q = all-yes (stationQuestions case row i s) (item-yes (stationQuestions case row i) (stationsOf case) y s q) .0
+  choice-kept y s q = all-yes (stationQuestions case rows i s) (item-yes (stationQuestions case rows i) (stationsOf case) y s q) .0
 
-  pub choices-kept : firstNo (allStationQuestions case row i) ≡ Yes → ChoicesKept case row
+  pub choices-kept : firstNo (allStationQuestions case rows i) ≡ Yes → ChoicesKept case rows
   unfolding choiceKept
   choices-kept y = record {
-    direction = λ s q. one-of (choiceOf case row s .direction) (stationOf case s .directions) (and-first _ _ (choice-kept y s q));
+    direction = λ s q. one-of (choiceOf case rows s .direction) (stationOf case s .directions) (and-first _ _ (choice-kept y s q));
     state = λ s q.
-        let d = oneOf (choiceOf case row s .direction) (stationOf case s .directions) in
-        one-of (choiceOf case row s .state) (stationOf case s .states) (and-first _ _ (and-second d _ (choice-kept y s q)));
+        let d = oneOf (choiceOf case rows s .direction) (stationOf case s .directions) in
+        one-of (choiceOf case rows s .state) (stationOf case s .states) (and-first _ _ (and-second d _ (choice-kept y s q)));
   }
 
   -- ---- 33
 
-  pub node-small : AcceptedCase case → firstNo (allBalanceQuestions case row i) ≡ Yes → (v : ℕ) → v < nodesOf case → nodeResidual case row i v ≤ 1000000
+  pub node-small : AcceptedCase case → firstNo (allBalanceQuestions case rows i) ≡ Yes → (v : ℕ) → v < nodesOf case → nodeResidual case rows i v ≤ 1000000
   unfolding allBalanceQuestions balanceQuestions balanceKept
   node-small c y v q =
-      small (nodeResidual case row i v) (massTolerance case) (all-yes (balanceQuestions case row i v) (item-yes (balanceQuestions case row i) (nodesOf case) y v q) .0) (mass-sized c)
+      small (nodeResidual case rows i v) (massTolerance case) (all-yes (balanceQuestions case rows i v) (item-yes (balanceQuestions case rows i) (nodesOf case) y v q) .0) (mass-sized c)
 
 -- ---- a whole step
 
-module _ (case : List ℤ) (old : ℕ → ℤ) (row : List ℤ) (i : ℕ) (y : firstNo (stepQuestions case old row i) ≡ Yes) where
-  pub nodes-yes : firstNo (allNodeQuestions case row i) ≡ Yes
+module _ (case : List ℤ) (old : ℕ → ℤ) (rows : List ℤ) (i : ℕ) (y : firstNo (stepQuestions case old rows i) ≡ Yes) where
+  pub nodes-yes : firstNo (allNodeQuestions case rows i) ≡ Yes
   unfolding stepQuestions
-  nodes-yes = first-yes (allNodeQuestions case row i) (allArcQuestions case old row i ++ (allStationQuestions case row i ++ allBalanceQuestions case row i)) y
+  nodes-yes = first-yes (allNodeQuestions case rows i) (allArcQuestions case old rows i ++ (allStationQuestions case rows i ++ allBalanceQuestions case rows i)) y
 
-  past-nodes : firstNo (allArcQuestions case old row i ++ (allStationQuestions case row i ++ allBalanceQuestions case row i)) ≡ Yes
+  past-nodes : firstNo (allArcQuestions case old rows i ++ (allStationQuestions case rows i ++ allBalanceQuestions case rows i)) ≡ Yes
   unfolding stepQuestions
-  past-nodes = second-yes (allNodeQuestions case row i) (allArcQuestions case old row i ++ (allStationQuestions case row i ++ allBalanceQuestions case row i)) y
+  past-nodes = second-yes (allNodeQuestions case rows i) (allArcQuestions case old rows i ++ (allStationQuestions case rows i ++ allBalanceQuestions case rows i)) y
 
-  pub arcs-yes : firstNo (allArcQuestions case old row i) ≡ Yes
-  arcs-yes = first-yes (allArcQuestions case old row i) (allStationQuestions case row i ++ allBalanceQuestions case row i) past-nodes
+  pub arcs-yes : firstNo (allArcQuestions case old rows i) ≡ Yes
+  arcs-yes = first-yes (allArcQuestions case old rows i) (allStationQuestions case rows i ++ allBalanceQuestions case rows i) past-nodes
 
-  past-arcs : firstNo (allStationQuestions case row i ++ allBalanceQuestions case row i) ≡ Yes
-  past-arcs = second-yes (allArcQuestions case old row i) (allStationQuestions case row i ++ allBalanceQuestions case row i) past-nodes
+  past-arcs : firstNo (allStationQuestions case rows i ++ allBalanceQuestions case rows i) ≡ Yes
+  past-arcs = second-yes (allArcQuestions case old rows i) (allStationQuestions case rows i ++ allBalanceQuestions case rows i) past-nodes
 
-  pub stations-yes : firstNo (allStationQuestions case row i) ≡ Yes
-  stations-yes = first-yes (allStationQuestions case row i) (allBalanceQuestions case row i) past-arcs
+  pub stations-yes : firstNo (allStationQuestions case rows i) ≡ Yes
+  stations-yes = first-yes (allStationQuestions case rows i) (allBalanceQuestions case rows i) past-arcs
 
-  pub balances-yes : firstNo (allBalanceQuestions case row i) ≡ Yes
-  balances-yes = second-yes (allStationQuestions case row i) (allBalanceQuestions case row i) past-arcs
+  pub balances-yes : firstNo (allBalanceQuestions case rows i) ≡ Yes
+  balances-yes = second-yes (allStationQuestions case rows i) (allBalanceQuestions case rows i) past-arcs
 
-pub step-kept : (case old row : List ℤ) (i : ℕ) → AcceptedCase case → i < stepsOf case → PressuresSized (numberAt old) (nodesOf case)
-    → firstNo (stepQuestions case (numberAt old) row i) ≡ Yes → StepKept case old row i
-step-kept case old row i c p z y =
+pub step-kept : (case old rows : List ℤ) (i : ℕ) → AcceptedCase case → i < stepsOf case → PressuresSized (numberAt old) (nodesOf case)
+    → firstNo (stepQuestions case (numberAt old) rows i) ≡ Yes → StepKept case old rows i
+step-kept case old rows i c p z y =
     let p0 = numberAt old in
-    let a = arcs-yes case p0 row i y in
+    let a = arcs-yes case p0 rows i y in
     record {
       before = z;
-      rows = nodes-sized case row i c p (nodes-yes case p0 row i y);
-      flows = flows-sized case p0 row i c a;
-      choices = choices-kept case row i (stations-yes case p0 row i y);
-      pipes = pipe-small case p0 row i c a;
-      nodes = node-small case row i c (balances-yes case p0 row i y);
+      node-rows = nodes-sized case rows i c p (nodes-yes case p0 rows i y);
+      flows = flows-sized case p0 rows i c a;
+      choices = choices-kept case rows i (stations-yes case p0 rows i y);
+      pipes = pipe-small case p0 rows i c a;
+      nodes = node-small case rows i c (balances-yes case p0 rows i y);
     }

@@ -36,27 +36,27 @@ only-mul false k x = eq! (v (pos 0)) (v k ⊠ v (pos 0)) (omega arith)
 
 -- what a pipe has more at from than at to, if it is an inner pipe
 unfoldable innerLoss : List ℤ → ℤ → List ℤ → ℕ → ℤ
-innerLoss case set row e = only (innerPipe case set e) (arcRow case row e .a -ℤ arcRow case row e .b)
+innerLoss case set rows e = only (innerPipe case set e) (arcRow case rows e .a -ℤ arcRow case rows e .b)
 
 -- the flow of arc e out of the region's nodes, less its flow into them
 unfoldable arcNet : List ℤ → ℤ → List ℤ → ℕ → ℤ
-arcNet case set row e = only (beginsIn case set e) (flowAtFrom case row e) -ℤ only (endsIn case set e) (flowAtTo case row e)
+arcNet case set rows e = only (beginsIn case set e) (flowAtFrom case rows e) -ℤ only (endsIn case set e) (flowAtTo case rows e)
 
 unfoldable nodeNet : List ℤ → ℤ → List ℤ → ℕ → ℤ
-nodeNet case set row u = only (memberOf set u) (netFlow case row u)
+nodeNet case set rows u = only (memberOf set u) (netFlow case rows u)
 
 -- the signed left sides of 33 and of 28
 unfoldable nodeSum : List ℤ → ℤ → List ℤ → ℕ → ℤ
-nodeSum case set row i = sum (nodesOf case) (λ u. only (memberOf set u) (duration case i *ℤ nodeImbalance case row u))
+nodeSum case set rows i = sum (nodesOf case) (λ u. only (memberOf set u) (duration case i *ℤ nodeImbalance case rows u))
 
 unfoldable pipeSum : List ℤ → ℤ → (ℕ → ℤ) → List ℤ → ℕ → ℤ
-pipeSum case set old row i = sum (arcsOf case) (λ e. only (innerPipe case set e) (pipeImbalance case old row i e))
+pipeSum case set old rows i = sum (arcsOf case) (λ e. only (innerPipe case set e) (pipeImbalance case old rows i e))
 
-module _ (case : List ℤ) (set : ℤ) (row : List ℤ) where
+module _ (case : List ℤ) (set : ℤ) (rows : List ℤ) where
   -- an arc that is no pipe and has both ends inside cancels; a pipe leaves a - b; an arc of the edge leaves what it brings
-  arc : (e : ℕ) → arcNet case set row e ≡ innerLoss case set row e -ℤ edgeFlow case set row e
+  arc : (e : ℕ) → arcNet case set rows e ≡ innerLoss case set rows e -ℤ edgeFlow case set rows e
   unfolding arcNet innerLoss flowAtFrom flowAtTo edgeFlow
-  arc e = go (isPipe case e) (beginsIn case set e) (endsIn case set e) (arcRow case row e .a) (arcRow case row e .b)
+  arc e = go (isPipe case e) (beginsIn case set e) (endsIn case set e) (arcRow case rows e .a) (arcRow case rows e .b)
     where
       go : (k f g : Bool) (x y : ℤ) → only f (cond k x (x -ℤ y)) -ℤ only g (cond k y (x -ℤ y))
           ≡ only (k && (f && g)) (x -ℤ y) -ℤ inward f g (cond k x (x -ℤ y)) (cond k y (x -ℤ y))
@@ -70,39 +70,39 @@ module _ (case : List ℤ) (set : ℤ) (row : List ℤ) where
       go false false false x y = refl
 
   -- the nodes' net flow over the region, by arcs
-  netflow : EndsAreNodes case → sum (nodesOf case) (nodeNet case set row) ≡ sum (arcsOf case) (arcNet case set row)
+  netflow : EndsAreNodes case → sum (nodesOf case) (nodeNet case set rows) ≡ sum (arcsOf case) (arcNet case set rows)
   unfolding nodeNet arcNet netFlow outflow inflow outPart inPart
   netflow ends =
-      sum-cong (nodesOf case) _ _ (λ u l. only-sub (memberOf set u) (outflow case row u) (inflow case row u))
+      sum-cong (nodesOf case) _ _ (λ u l. only-sub (memberOf set u) (outflow case rows u) (inflow case rows u))
       ∙ sum-sub (nodesOf case) _ _
-      ∙ ap₂ _-ℤ_ (incidence (nodesOf case) (arcsOf case) (λ e. arcOf case e .from) (memberOf set) (flowAtFrom case row) (ends .from-node))
-      (incidence (nodesOf case) (arcsOf case) (λ e. arcOf case e .to) (memberOf set) (flowAtTo case row) (ends .to-node))
+      ∙ ap₂ _-ℤ_ (incidence (nodesOf case) (arcsOf case) (λ e. arcOf case e .from) (memberOf set) (flowAtFrom case rows) (ends .from-node))
+      (incidence (nodesOf case) (arcsOf case) (λ e. arcOf case e .to) (memberOf set) (flowAtTo case rows) (ends .to-node))
       ∙ sym (sum-sub (arcsOf case) _ _)
 
   -- it is that of the inner pipes less what the edge brings
-  flows : EndsAreNodes case → sum (nodesOf case) (nodeNet case set row) ≡ sum (arcsOf case) (innerLoss case set row) -ℤ edgeFlows case set row
+  flows : EndsAreNodes case → sum (nodesOf case) (nodeNet case set rows) ≡ sum (arcsOf case) (innerLoss case set rows) -ℤ edgeFlows case set rows
   unfolding edgeFlows
   flows ends =
       netflow ends
       ∙ sum-cong (arcsOf case) _ _ (λ e l. arc e)
-      ∙ sum-sub (arcsOf case) (innerLoss case set row) (edgeFlow case set row)
+      ∙ sum-sub (arcsOf case) (innerLoss case set rows) (edgeFlow case set rows)
 
-  nodes-are : (i : ℕ) → nodeSum case set row i ≡ duration case i *ℤ (sum (nodesOf case) (nodeNet case set row) -ℤ suppliesIn case set row)
+  nodes-are : (i : ℕ) → nodeSum case set rows i ≡ duration case i *ℤ (sum (nodesOf case) (nodeNet case set rows) -ℤ suppliesIn case set rows)
   unfolding nodeSum nodeNet nodeImbalance suppliesIn regionSupply
   nodes-are i =
       sum-cong (nodesOf case) _ _ (λ u l. only-mul (memberOf set u) (duration case i) _)
       ∙ sum-mul (nodesOf case) (duration case i) _
       ∙ ap (λ z. duration case i *ℤ z)
-      (sum-cong (nodesOf case) _ _ (λ u l. only-sub (memberOf set u) (netFlow case row u) (nodeRow row u .d)) ∙ sum-sub (nodesOf case) _ _)
+      (sum-cong (nodesOf case) _ _ (λ u l. only-sub (memberOf set u) (netFlow case rows u) (nodeRow rows u .d)) ∙ sum-sub (nodesOf case) _ _)
 
   module _ (old : ℕ → ℤ) (i : ℕ) where
-    pipes-are : pipeSum case set old row i
-        ≡ duration case i *ℤ sum (arcsOf case) (innerLoss case set row) -ℤ (regionGas case set (pressureIn row) -ℤ regionGas case set old)
+    pipes-are : pipeSum case set old rows i
+        ≡ duration case i *ℤ sum (arcsOf case) (innerLoss case set rows) -ℤ (regionGas case set (pressureIn rows) -ℤ regionGas case set old)
     unfolding pipeSum innerLoss pipeImbalance regionGas innerGas
     pipes-are =
         sum-cong (arcsOf case) _ _ (λ e l.
-        one (innerPipe case set e) (duration case i) (arcRow case row e .a -ℤ arcRow case row e .b) (pipeOf case e .c)
-        (pressureIn row (arcOf case e .from)) (old (arcOf case e .from)) (pressureIn row (arcOf case e .to)) (old (arcOf case e .to)))
+        one (innerPipe case set e) (duration case i) (arcRow case rows e .a -ℤ arcRow case rows e .b) (pipeOf case e .c)
+        (pressureIn rows (arcOf case e .from)) (old (arcOf case e .from)) (pressureIn rows (arcOf case e .to)) (old (arcOf case e .to)))
         ∙ sum-sub (arcsOf case) _ _
         ∙ ap₂ _-ℤ_ (sum-mul (arcsOf case) (duration case i) _) (sum-sub (arcsOf case) _ _)
       where
@@ -113,33 +113,33 @@ module _ (case : List ℤ) (set : ℤ) (row : List ℤ) where
         one false k x c f₁ f₀ g₁ g₀ = eq! (v (pos 0)) (v k ⊠ v (pos 0) ⊟ (v (pos 0) ⊟ v (pos 0))) (omega arith)
 
     -- the change of the gas less what is brought in is the sum of the imbalances
-    identity : EndsAreNodes case → regionGas case set (pressureIn row) -ℤ regionGas case set old -ℤ broughtIn case set row i
-        ≡ nodeSum case set row i -ℤ pipeSum case set old row i
+    identity : EndsAreNodes case → regionGas case set (pressureIn rows) -ℤ regionGas case set old -ℤ broughtIn case set rows i
+        ≡ nodeSum case set rows i -ℤ pipeSum case set old rows i
     unfolding broughtIn
     identity ends =
-        let x₁ = regionGas case set (pressureIn row) in
+        let x₁ = regionGas case set (pressureIn rows) in
         let x₀ = regionGas case set old in
         let k = duration case i in
-        let d = suppliesIn case set row in
-        let f = edgeFlows case set row in
-        let s = sum (arcsOf case) (innerLoss case set row) in
+        let d = suppliesIn case set rows in
+        let f = edgeFlows case set rows in
+        let s = sum (arcsOf case) (innerLoss case set rows) in
         eq! (v x₁ ⊟ v x₀ ⊟ v k ⊠ (v d ⊞ v f)) (v k ⊠ (v s ⊟ v f ⊟ v d) ⊟ (v k ⊠ v s ⊟ (v x₁ ⊟ v x₀))) (omega arith)
         ∙ sym (ap₂ _-ℤ_ (nodes-are i ∙ ap (λ z. k *ℤ (z -ℤ d)) (flows ends)) pipes-are)
 
-    node-bound : natAbs (nodeSum case set row i) ≤ ownNodes case set row i
+    node-bound : natAbs (nodeSum case set rows i) ≤ ownNodes case set rows i
     unfolding nodeSum ownNodes ownNode nodeResidual
     node-bound =
         le-trans (abs-sum (nodesOf case) _)
-        (le-of-eq (sumN-cong (nodesOf case) _ _ (λ u l. abs-only (memberOf set u) _ ∙ ap (onlyN (memberOf set u)) (abs-mul (duration case i) (nodeImbalance case row u)))))
+        (le-of-eq (sumN-cong (nodesOf case) _ _ (λ u l. abs-only (memberOf set u) _ ∙ ap (onlyN (memberOf set u)) (abs-mul (duration case i) (nodeImbalance case rows u)))))
 
-    pipe-bound : natAbs (pipeSum case set old row i) ≤ ownPipes case set old row i
+    pipe-bound : natAbs (pipeSum case set old rows i) ≤ ownPipes case set old rows i
     unfolding pipeSum ownPipes ownPipe pipeResidual
     pipe-bound = le-trans (abs-sum (arcsOf case) _) (le-of-eq (sumN-cong (arcsOf case) _ _ (λ e l. abs-only (innerPipe case set e) _)))
 
     pub step-balance : EndsAreNodes case
-        → natAbs (regionGas case set (pressureIn row) -ℤ regionGas case set old -ℤ broughtIn case set row i) ≤ regionResidual case set old row i
+        → natAbs (regionGas case set (pressureIn rows) -ℤ regionGas case set old -ℤ broughtIn case set rows i) ≤ regionResidual case set old rows i
     unfolding regionResidual
     step-balance ends =
-        let a = nodeSum case set row i in
-        let b = pipeSum case set old row i in
+        let a = nodeSum case set rows i in
+        let b = pipeSum case set old rows i in
         le-trans (le-of-eq (ap natAbs (identity ends))) (omega (arith, abs-add a (negℤ b), abs-neg b, node-bound, pipe-bound))

@@ -79,20 +79,20 @@ module _ {case plan : List ℤ} (r : PlanRules case plan) where
   -- a step, by pressures that an array holds
   pub step-handed : {old : List ℤ} (i : ℕ) → i < stepsOf case → Holds (pos 0) old (pressureAt case plan i) (nodesOf case) → RegionStep case old (stepRow case plan i) i
   step-handed {old} i l k =
-      let row = stepRow case plan i in
+      let rows = stepRow case plan i in
       let p = pressureAt case plan i in
       let y = step-yes i l in
-      let a = arcs-yes case p row i y in
+      let a = arcs-yes case p rows i y in
       record {
         accepted = accepted-case;
         step = l;
         kept = record {
           before = pressures-held i (omega arith) k .sized;
-          rows = rows-sized i l;
-          flows = flows-sized case p row i accepted-case a;
-          choices = choices-kept case row i (stations-yes case p row i y);
-          pipes = λ e q. subst (λ (n : ℕ). n ≤ 1000000) (sym (part-same case (numberAt old) p ends-of (k .each) row i e q)) (pipe-small case p row i accepted-case a e q);
-          nodes = node-small case row i accepted-case (balances-yes case p row i y);
+          node-rows = rows-sized i l;
+          flows = flows-sized case p rows i accepted-case a;
+          choices = choices-kept case rows i (stations-yes case p rows i y);
+          pipes = λ e q. subst (λ (n : ℕ). n ≤ 1000000) (sym (part-same case (numberAt old) p ends-of (k .each) rows i e q)) (pipe-small case p rows i accepted-case a e q);
+          nodes = node-small case rows i accepted-case (balances-yes case p rows i y);
         };
       }
 
@@ -105,10 +105,10 @@ module _ {case plan : List ℤ} (r : PlanRules case plan) where
       }
 
   -- a turn
-  pub turn : {set : ℤ} {s i : ℕ} {g h : Gathered} {row : List ℤ} → Gathering case plan set s i g → i < stepsOf case → row ≡ stepRow case plan i
-      → RegionAdded case set row i g h → Gathering case plan set s (i + 1) h
+  pub turn : {set : ℤ} {s i : ℕ} {g h : Gathered} {rows : List ℤ} → Gathering case plan set s i g → i < stepsOf case → rows ≡ stepRow case plan i
+      → RegionAdded case set rows i g h → Gathering case plan set s (i + 1) h
   unfolding sum sumN broughtAt residualAt pressureAt
-  turn {set} {s} {i} {g} {h} {row} k l e d =
+  turn {set} {s} {i} {g} {h} {rows} k l e d =
       let step = step-handed {old = g .pressures} i l (k .held) in
       let count : i + 1 - s ≡ suc (i - s) = omega (arith, k .from) in
       let here : s + (i - s) ≡ i = omega (arith, k .from) in
@@ -169,8 +169,8 @@ pub pressures-first : (case plan : List ℤ) {p : List ℤ} {n t : ℕ} → n �
 unfolding pressureAt
 pressures-first case plan e z h = rw (z, ← e) h
 
-pub pressures-after : (case plan : List ℤ) {p row : List ℤ} {n t : ℕ} → n ≡ nodesOf case → 0 < t → row ≡ stepRow case plan (t - 1) → Holds (pos 0) p (pressureIn row) n → Holds (pos 0) p (pressureAt case plan t) (nodesOf case)
+pub pressures-after : (case plan : List ℤ) {p rows : List ℤ} {n t : ℕ} → n ≡ nodesOf case → 0 < t → rows ≡ stepRow case plan (t - 1) → Holds (pos 0) p (pressureIn rows) n → Holds (pos 0) p (pressureAt case plan t) (nodesOf case)
 unfolding pressureAt
-pressures-after case plan {p} {row} {n} {t} e z q h =
+pressures-after case plan {p} {rows} {n} {t} e z q h =
     let s : t ≡ suc (t - 1) = omega arith in
     subst (λ (x : ℕ). Holds (pos 0) p (pressureAt case plan x) (nodesOf case)) (sym s) (record { each = λ u l. h .each u (omega (arith, e)) ∙ ap (λ (x : List ℤ). pressureIn x u) q })

@@ -35,23 +35,23 @@ pub record RegionPressures (case : List ℤ) (p : List ℤ) : Type 0 where
   pub sized : PressuresSized (numberAt p) (nodesOf case)
 
 -- flows of an accepted case
-pub record RegionFlows (case row : List ℤ) : Type 0 where
+pub record RegionFlows (case rows : List ℤ) : Type 0 where
   pub accepted : AcceptedCase case
-  pub flows : FlowsSized case row
+  pub flows : FlowsSized case rows
 
--- a step of an accepted plan: `row` is its part of the plan, `old` the pressures before it
-pub record RegionStep (case old row : List ℤ) (i : ℕ) : Type 0 where
+-- a step of an accepted plan: `rows` is its part of the plan, `old` the pressures before it
+pub record RegionStep (case old rows : List ℤ) (i : ℕ) : Type 0 where
   pub accepted : AcceptedCase case
   pub step : i < stepsOf case
-  pub kept : StepKept case old row i
+  pub kept : StepKept case old rows i
 
 -- sums that have room for one step more
 pub record RegionRoom (g : Gathered) : Type 0 where
   pub brought : Bounded (g .brought) 1000000000000000000
   pub residual : g .residual ≤ 1000000000000000000
 
--- `h` is `g` with the step added whose part of the plan is `row`
-pub record RegionAdded (case : List ℤ) (set : ℤ) (row : List ℤ) (i : ℕ) (g h : Gathered) : Type 0 where
-  pub pressures : Holds (pos 0) (h .pressures) (pressureIn row) (nodesOf case)
-  pub brought : h .brought ≡ g .brought +ℤ broughtIn case set row i
-  pub residual : h .residual ≡ g .residual + regionResidual case set (numberAt (g .pressures)) row i
+-- `h` is `g` with the step added whose part of the plan is `rows`
+pub record RegionAdded (case : List ℤ) (set : ℤ) (rows : List ℤ) (i : ℕ) (g h : Gathered) : Type 0 where
+  pub pressures : Holds (pos 0) (h .pressures) (pressureIn rows) (nodesOf case)
+  pub brought : h .brought ≡ g .brought +ℤ broughtIn case set rows i
+  pub residual : h .residual ≡ g .residual + regionResidual case set (numberAt (g .pressures)) rows i

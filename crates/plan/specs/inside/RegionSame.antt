@@ -22,19 +22,19 @@ module _ (case : List ℤ) (p q : ℕ → ℤ) (ends : EndsAreNodes case) (same 
       sum-cong (arcsOf case) _ _ (λ e l. ap₂ (λ (x y : ℤ). only (innerPipe case set e) (pipeOf case e .c *ℤ (x +ℤ y)))
       (same (arcOf case e .from) (ends .from-node e l)) (same (arcOf case e .to) (ends .to-node e l)))
 
-  module _ (row : List ℤ) (i : ℕ) where
-    pipe-same : (e : ℕ) → e < arcsOf case → pipeResidual case p row i e ≡ pipeResidual case q row i e
+  module _ (rows : List ℤ) (i : ℕ) where
+    pipe-same : (e : ℕ) → e < arcsOf case → pipeResidual case p rows i e ≡ pipeResidual case q rows i e
     unfolding pipeResidual pipeImbalance
     pipe-same e l =
         ap₂ (λ (x y : ℤ).
-        natAbs (duration case i *ℤ (arcRow case row e .a -ℤ arcRow case row e .b)
-        -ℤ pipeOf case e .c *ℤ ((pressureIn row (arcOf case e .from) -ℤ x) +ℤ (pressureIn row (arcOf case e .to) -ℤ y))))
+        natAbs (duration case i *ℤ (arcRow case rows e .a -ℤ arcRow case rows e .b)
+        -ℤ pipeOf case e .c *ℤ ((pressureIn rows (arcOf case e .from) -ℤ x) +ℤ (pressureIn rows (arcOf case e .to) -ℤ y))))
         (same (arcOf case e .from) (ends .from-node e l)) (same (arcOf case e .to) (ends .to-node e l))
 
-    pub part-same : (e : ℕ) → e < arcsOf case → pipePart case p row i e ≡ pipePart case q row i e
+    pub part-same : (e : ℕ) → e < arcsOf case → pipePart case p rows i e ≡ pipePart case q rows i e
     unfolding pipePart
     part-same e l = ap (onlyN (isPipe case e)) (pipe-same e l)
 
-    pub residual-same : (set : ℤ) → regionResidual case set p row i ≡ regionResidual case set q row i
+    pub residual-same : (set : ℤ) → regionResidual case set p rows i ≡ regionResidual case set q rows i
     unfolding regionResidual ownPipes ownPipe
-    residual-same set = ap (λ (n : ℕ). ownNodes case set row i + n) (sumN-cong (arcsOf case) _ _ (λ e l. ap (onlyN (innerPipe case set e)) (pipe-same e l)))
+    residual-same set = ap (λ (n : ℕ). ownNodes case set rows i + n) (sumN-cong (arcsOf case) _ _ (λ e l. ap (onlyN (innerPipe case set e)) (pipe-same e l)))

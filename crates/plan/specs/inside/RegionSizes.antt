@@ -56,36 +56,36 @@ module _ {case p : List ℤ} (h : RegionPressures case p) where
       let w : natAbs (x +ℤ y) ≤ 400000 = omega (arith, abs-add x y, f .bound, g .bound) in
       omega (arith, abs-mul c (x +ℤ y), mul-le-mul (d .bound) w))
 
-module _ {case row : List ℤ} (h : RegionFlows case row) where
-  from-small : (e : ℕ) → e < arcsOf case → natAbs (flowAtFrom case row e) ≤ 20000000
+module _ {case rows : List ℤ} (h : RegionFlows case rows) where
+  from-small : (e : ℕ) → e < arcsOf case → natAbs (flowAtFrom case rows e) ≤ 20000000
   unfolding flowAtFrom
   from-small e l =
       let s = h .flows .each e l in
-      go (isPipe case e) (arcRow case row e .a) (arcRow case row e .b) (s .a .bound) (s .b .bound)
+      go (isPipe case e) (arcRow case rows e .a) (arcRow case rows e .b) (s .a .bound) (s .b .bound)
     where
       go : (k : Bool) (a b : ℤ) → natAbs a ≤ 10000000 → natAbs b ≤ 10000000 → natAbs (cond k a (a -ℤ b)) ≤ 20000000
       go true a b m n = omega arith
       go false a b m n = omega (arith, abs-add a (negℤ b), abs-neg b)
 
-  to-small : (e : ℕ) → e < arcsOf case → natAbs (flowAtTo case row e) ≤ 20000000
+  to-small : (e : ℕ) → e < arcsOf case → natAbs (flowAtTo case rows e) ≤ 20000000
   unfolding flowAtTo
   to-small e l =
       let s = h .flows .each e l in
-      go (isPipe case e) (arcRow case row e .a) (arcRow case row e .b) (s .a .bound) (s .b .bound)
+      go (isPipe case e) (arcRow case rows e .a) (arcRow case rows e .b) (s .a .bound) (s .b .bound)
     where
       go : (k : Bool) (a b : ℤ) → natAbs a ≤ 10000000 → natAbs b ≤ 10000000 → natAbs (cond k b (a -ℤ b)) ≤ 20000000
       go true a b m n = omega arith
       go false a b m n = omega (arith, abs-add a (negℤ b), abs-neg b)
 
-  pub from-sized : (e : ℕ) → e < arcsOf case → Bounded (flowAtFrom case row e) 20000000
+  pub from-sized : (e : ℕ) → e < arcsOf case → Bounded (flowAtFrom case rows e) 20000000
   from-sized e l = record { bound = from-small e l }
 
-  pub to-sized : (e : ℕ) → e < arcsOf case → Bounded (flowAtTo case row e) 20000000
+  pub to-sized : (e : ℕ) → e < arcsOf case → Bounded (flowAtTo case rows e) 20000000
   to-sized e l = record { bound = to-small e l }
 
-  pub edge-small : (set : ℤ) (e : ℕ) → e < arcsOf case → natAbs (edgeFlow case set row e) ≤ 20000000
+  pub edge-small : (set : ℤ) (e : ℕ) → e < arcsOf case → natAbs (edgeFlow case set rows e) ≤ 20000000
   unfolding edgeFlow
-  edge-small set e l = go (beginsIn case set e) (endsIn case set e) (flowAtFrom case row e) (flowAtTo case row e) (from-small e l) (to-small e l)
+  edge-small set e l = go (beginsIn case set e) (endsIn case set e) (flowAtFrom case rows e) (flowAtTo case rows e) (from-small e l) (to-small e l)
     where
       go : (f g : Bool) (x y : ℤ) → natAbs x ≤ 20000000 → natAbs y ≤ 20000000 → natAbs (inward f g x y) ≤ 20000000
       go true true x y m n = omega arith
@@ -93,39 +93,39 @@ module _ {case row : List ℤ} (h : RegionFlows case row) where
       go false true x y m n = n
       go false false x y m n = omega arith
 
-  pub edges-small : (set : ℤ) → natAbs (edgeFlows case set row) ≤ 2400000000
+  pub edges-small : (set : ℤ) → natAbs (edgeFlows case set rows) ≤ 2400000000
   unfolding edgeFlows
   edges-small set =
       let r = counted (h .accepted) in
-      omega (arith, abs-sum-le (arcsOf case) 20000000 (edgeFlow case set row) (edge-small set), mul-le-mul-right 20000000 (r .arcs))
+      omega (arith, abs-sum-le (arcsOf case) 20000000 (edgeFlow case set rows) (edge-small set), mul-le-mul-right 20000000 (r .arcs))
 
-pub supply-small : {case row : List ℤ} → NodesSized case row → (set : ℤ) (u : ℕ) → u < nodesOf case → natAbs (regionSupply set row u) ≤ 10000000
+pub supply-small : {case rows : List ℤ} → NodesSized case rows → (set : ℤ) (u : ℕ) → u < nodesOf case → natAbs (regionSupply set rows u) ≤ 10000000
 unfolding regionSupply
 supply-small h set u l = abs-only-le (memberOf set u) _ (h .each u l .d .bound)
 
-pub supplies-small : {case row : List ℤ} → NodesSized case row → nodesOf case ≤ 60 → (set : ℤ) → natAbs (suppliesIn case set row) ≤ 600000000
+pub supplies-small : {case rows : List ℤ} → NodesSized case rows → nodesOf case ≤ 60 → (set : ℤ) → natAbs (suppliesIn case set rows) ≤ 600000000
 unfolding suppliesIn
-supplies-small {case} {row} h few set =
-    omega (arith, abs-sum-le (nodesOf case) 10000000 (regionSupply set row) (supply-small h set), mul-le-mul-right 10000000 few)
+supplies-small {case} {rows} h few set =
+    omega (arith, abs-sum-le (nodesOf case) 10000000 (regionSupply set rows) (supply-small h set), mul-le-mul-right 10000000 few)
 
-module _ {case old row : List ℤ} {i : ℕ} (h : RegionStep case old row i) where
-  pub step-flows : RegionFlows case row
+module _ {case old rows : List ℤ} {i : ℕ} (h : RegionStep case old rows i) where
+  pub step-flows : RegionFlows case rows
   step-flows = record { accepted = h .accepted; flows = h .kept .flows }
 
-  pub brought-small : (set : ℤ) → natAbs (broughtIn case set row i) ≤ 259200000000000
+  pub brought-small : (set : ℤ) → natAbs (broughtIn case set rows i) ≤ 259200000000000
   unfolding broughtIn
   brought-small set =
       let r = counted (h .accepted) in
-      let a = suppliesIn case set row in
-      let b = edgeFlows case set row in
-      let w : natAbs (a +ℤ b) ≤ 3000000000 = omega (arith, abs-add a b, supplies-small (h .kept .rows) (r .nodes) set, edges-small step-flows set) in
+      let a = suppliesIn case set rows in
+      let b = edgeFlows case set rows in
+      let w : natAbs (a +ℤ b) ≤ 3000000000 = omega (arith, abs-add a b, supplies-small (h .kept .node-rows) (r .nodes) set, edges-small step-flows set) in
       omega (arith, abs-mul (duration case i) (a +ℤ b), mul-le-mul (duration-sized (h .accepted) i (h .step) .bound) w)
 
-  pub own-node-small : (set : ℤ) (u : ℕ) → u < nodesOf case → ownNode case set row i u ≤ 1000000
+  pub own-node-small : (set : ℤ) (u : ℕ) → u < nodesOf case → ownNode case set rows i u ≤ 1000000
   unfolding ownNode
   own-node-small set u l = onlyN-small (memberOf set u) _ 1000000 (λ k. h .kept .nodes u l)
 
-  pub own-pipe-small : (set : ℤ) (e : ℕ) → e < arcsOf case → ownPipe case set (numberAt old) row i e ≤ 1000000
+  pub own-pipe-small : (set : ℤ) (e : ℕ) → e < arcsOf case → ownPipe case set (numberAt old) rows i e ≤ 1000000
   unfolding ownPipe pipePart
   own-pipe-small set e l = onlyN-small (innerPipe case set e) _ 1000000 (λ k. piped (isPipe case e) _ (both-true (isPipe case e) _ k) (h .kept .pipes e l))
     where
@@ -133,14 +133,14 @@ module _ {case old row : List ℤ} {i : ℕ} (h : RegionStep case old row i) whe
       piped true n e q = q
       piped false n e q = let z : _≡_ {A = ℕ} 0 1 = cc in let f : ⊥ = omega arith in absurd f
 
-  pub residual-small : (set : ℤ) → regionResidual case set (numberAt old) row i ≤ 180000000
+  pub residual-small : (set : ℤ) → regionResidual case set (numberAt old) rows i ≤ 180000000
   unfolding regionResidual ownNodes ownPipes
   residual-small set =
       let r = counted (h .accepted) in
       omega (
         arith,
-        sumN-bound (nodesOf case) 1000000 (ownNode case set row i) (own-node-small set),
-        sumN-bound (arcsOf case) 1000000 (ownPipe case set (numberAt old) row i) (own-pipe-small set),
+        sumN-bound (nodesOf case) 1000000 (ownNode case set rows i) (own-node-small set),
+        sumN-bound (arcsOf case) 1000000 (ownPipe case set (numberAt old) rows i) (own-pipe-small set),
         mul-le-mul-right 1000000 (r .nodes),
         mul-le-mul-right 1000000 (r .arcs),
       )

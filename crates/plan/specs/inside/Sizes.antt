@@ -30,8 +30,8 @@ pub record NodeRowSized (r : NodeRow) : Type 0 where
   pub uplus : Bounded (r .uplus) 400000
   pub uminus : Bounded (r .uminus) 400000
 
-pub record NodesSized (case row : List ℤ) : Type 0 where
-  pub each : (v : ℕ) → v < nodesOf case → NodeRowSized (nodeRow row v)
+pub record NodesSized (case rows : List ℤ) : Type 0 where
+  pub each : (v : ℕ) → v < nodesOf case → NodeRowSized (nodeRow rows v)
 
 -- the pressures of n nodes
 pub record PressuresSized (p : ℕ → ℤ) (n : ℕ) : Type 0 where
@@ -42,8 +42,8 @@ pub record ArcRowSized (r : ArcRow) : Type 0 where
   pub a : Bounded (r .a) 10000000
   pub b : Bounded (r .b) 10000000
 
-pub record FlowsSized (case row : List ℤ) : Type 0 where
-  pub each : (e : ℕ) → e < arcsOf case → ArcRowSized (arcRow case row e)
+pub record FlowsSized (case rows : List ℤ) : Type 0 where
+  pub each : (e : ℕ) → e < arcsOf case → ArcRowSized (arcRow case rows e)
 
 pub record PipeSized (x : Pipe) : Type 0 where
   pub c : Bounded (x .c) 100000000
@@ -51,8 +51,8 @@ pub record PipeSized (x : Pipe) : Type 0 where
   pub g : Bounded (x .g) 10000000
   pub h : Bounded (x .h) 200000
 
--- the machines of the station whose rows begin at `first`
-pub record MachinesSized (case : List ℤ) (first : ℕ) : Type 0 where
-  pub count : machinesAt case first ≤ 12
-  pub flow : (m : ℕ) → m < machinesAt case first → Bounded (machineRow case first m .flow) 10000000
-  pub ratio : (m : ℕ) → m < machinesAt case first → Bounded (machineRow case first m .ratio) 10000
+-- the machines of the station whose rows begin at `offset`
+pub record MachinesSized (case : List ℤ) (offset : ℕ) : Type 0 where
+  pub count : machinesAt case offset ≤ 12
+  pub flow : (m : ℕ) → m < machinesAt case offset → Bounded (machineRow case offset m .flow) 10000000
+  pub ratio : (m : ℕ) → m < machinesAt case offset → Bounded (machineRow case offset m .ratio) 10000

@@ -29,17 +29,17 @@ use Rattle.plan.specs.law.Judged.{planStep, planQuestions, questions}
 use Rattle.plan.specs.law.Ledger.{setRoom, isNodeSet, lowestOf, foreignNode, regionQuestions, ledgerQuestions}
 
 module _ {case : List ℤ} (c : Counted case) where
-  step-small : (old : ℕ → ℤ) (row : List ℤ) (i : ℕ) → i < stepsOf case → AllSmall limit (stepQuestions case old row i)
+  step-small : (old : ℕ → ℤ) (rows : List ℤ) (i : ℕ) → i < stepsOf case → AllSmall limit (stepQuestions case old rows i)
   unfolding stepQuestions allNodeQuestions nodeQuestions allArcQuestions arcQuestions flowQuestions pressureQuestions pipeQuestions allStationQuestions stationQuestions allBalanceQuestions balanceQuestions
-  step-small old row i l =
+  step-small old rows i l =
       let k : i < 48 = omega (arith, l, c .steps) in
-      all-append limit (allNodeQuestions case row i) (allArcQuestions case old row i ++ (allStationQuestions case row i ++ allBalanceQuestions case row i))
-      (all-over limit (nodeQuestions case row i) 0 (nodesOf case) (λ v q. let h : v < 60 = omega (arith, q, c .nodes) in search needs))
-      (all-append limit (allArcQuestions case old row i) (allStationQuestions case row i ++ allBalanceQuestions case row i)
-      (all-over limit (arcQuestions case old row i) 0 (arcsOf case) (λ e q. let h : e < 120 = omega (arith, q, c .arcs) in search needs))
-      (all-append limit (allStationQuestions case row i) (allBalanceQuestions case row i)
-      (all-over limit (stationQuestions case row i) 0 (stationsOf case) (λ s q. let h : s < 8 = omega (arith, q, c .stations) in search needs))
-      (all-over limit (balanceQuestions case row i) 0 (nodesOf case) (λ v q. let h : v < 60 = omega (arith, q, c .nodes) in search needs))))
+      all-append limit (allNodeQuestions case rows i) (allArcQuestions case old rows i ++ (allStationQuestions case rows i ++ allBalanceQuestions case rows i))
+      (all-over limit (nodeQuestions case rows i) 0 (nodesOf case) (λ v q. let h : v < 60 = omega (arith, q, c .nodes) in search needs))
+      (all-append limit (allArcQuestions case old rows i) (allStationQuestions case rows i ++ allBalanceQuestions case rows i)
+      (all-over limit (arcQuestions case old rows i) 0 (arcsOf case) (λ e q. let h : e < 120 = omega (arith, q, c .arcs) in search needs))
+      (all-append limit (allStationQuestions case rows i) (allBalanceQuestions case rows i)
+      (all-over limit (stationQuestions case rows i) 0 (stationsOf case) (λ s q. let h : s < 8 = omega (arith, q, c .stations) in search needs))
+      (all-over limit (balanceQuestions case rows i) 0 (nodesOf case) (λ v q. let h : v < 60 = omega (arith, q, c .nodes) in search needs))))
 
   pub plan-small : (plan : List ℤ) → Small limit (firstNo (planQuestions case plan))
   unfolding planQuestions planStep

@@ -24,16 +24,16 @@ ownStation case e = cond (leb 3 (arcOf case e .kind)) (artificialOf case e .stat
 
 -- the station's active arcs, as the pass gathers them: a number without a sign
 abbrev pub activeBits : List ℤ → List ℤ → ℕ → ℕ
-activeBits case row s = posPart (activeSet case row s)
+activeBits case rows s = posPart (activeSet case rows s)
 
 -- what arc e takes from node v, if the arc is artificial
 unfoldable pub artificialPart : List ℤ → List ℤ → ℕ → ℕ → ℤ
-artificialPart case row v e = only (leb 3 (arcOf case e .kind)) (takenBy case row v e)
+artificialPart case rows v e = only (leb 3 (arcOf case e .kind)) (takenBy case rows v e)
 
 unfoldable pub artificialFlow : List ℤ → List ℤ → ℕ → ℤ
-artificialFlow case row v = sum (arcsOf case) (artificialPart case row v)
+artificialFlow case rows v = sum (arcsOf case) (artificialPart case rows v)
 
 -- the net flows from nodes into artificial arcs, in an array
-pub record FlowsPassed (case row net : List ℤ) : Type 0 where
+pub record FlowsPassed (case rows net : List ℤ) : Type 0 where
   pub long : length net ≡ 60
-  pub holds : Holds (pos 0) net (artificialFlow case row) (nodesOf case)
+  pub holds : Holds (pos 0) net (artificialFlow case rows) (nodesOf case)

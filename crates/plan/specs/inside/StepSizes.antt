@@ -64,63 +64,63 @@ module _ {case : List ℤ} (c : AcceptedCase case) where
           record { bound = (sized s *ʳ (sized a +ʳ sized b)) .bound }
       go false k = record { bound = omega arith }
 
-  pub activity-le : (was : Bool) (row : List ℤ) (e : ℕ) → e < arcsOf case → activityCost case was row e ≤ 1000000
+  pub activity-le : (was : Bool) (rows : List ℤ) (e : ℕ) → e < arcsOf case → activityCost case was rows e ≤ 1000000
   unfolding activityCost
-  activity-le was row e q = go (leb 3 (arcOf case e .kind)) refl
+  activity-le was rows e q = go (leb 3 (arcOf case e .kind)) refl
     where
-      go : (a : Bool) → leb 3 (arcOf case e .kind) ≡ a → onlyN (a && changed was (activeIn case row e)) (artificialOf case e .weight) ≤ 1000000
-      go true k = only-le (changed was (activeIn case row e)) (artificialOf case e .weight) (weight-in c e q (leb-true 3 (arcOf case e .kind) k))
+      go : (a : Bool) → leb 3 (arcOf case e .kind) ≡ a → onlyN (a && changed was (activeIn case rows e)) (artificialOf case e .weight) ≤ 1000000
+      go true k = only-le (changed was (activeIn case rows e)) (artificialOf case e .weight) (weight-in c e q (leb-true 3 (arcOf case e .kind) k))
       go false k = omega arith
 
-  module _ {row : List ℤ} (h : ChoicesKept case row) (s : ℕ) (q : s < stationsOf case) where
-    pub direction-le : (was : ℕ) → directionCost case was row s ≤ 1000000
+  module _ {rows : List ℤ} (h : ChoicesKept case rows) (s : ℕ) (q : s < stationsOf case) where
+    pub direction-le : (was : ℕ) → directionCost case was rows s ≤ 1000000
     unfolding directionCost
-    direction-le was = only-le (not (eqb (directionIn case row s) was)) (directionOf case s (directionIn case row s) .weight) (direction-weight c s q (directionIn case row s) (h .direction s q))
+    direction-le was = only-le (not (eqb (directionIn case rows s) was)) (directionOf case s (directionIn case rows s) .weight) (direction-weight c s q (directionIn case rows s) (h .direction s q))
 
-    pub state-le : (was : ℕ) → stateCost case was row s ≤ 1000000
+    pub state-le : (was : ℕ) → stateCost case was rows s ≤ 1000000
     unfolding stateCost
-    state-le was = only-le (not (eqb (stateIn case row s) was)) (stateOf case s (stateIn case row s) .weight) (state-weight c s q (stateIn case row s) (h .state s q))
+    state-le was = only-le (not (eqb (stateIn case rows s) was)) (stateOf case s (stateIn case rows s) .weight) (state-weight c s q (stateIn case rows s) (h .state s q))
 
 -- ---- the sums of a step
 
-module _ {case : List ℤ} (row : List ℤ) (c : AcceptedCase case) where
-  pub pressure-slack-sized : NodesSized case row → Bounded (pressureSlackIn case row) 48000000
+module _ {case : List ℤ} (rows : List ℤ) (c : AcceptedCase case) where
+  pub pressure-slack-sized : NodesSized case rows → Bounded (pressureSlackIn case rows) 48000000
   unfolding pressureSlackIn pressureSlackAt
   pressure-slack-sized h = record {
     bound =
-        let b = abs-sum-le (nodesOf case) 800000 (pressureSlackAt row) (λ v q. let r = h .each v q in (sized (r .uplus) +ʳ sized (r .uminus)) .bound) in
+        let b = abs-sum-le (nodesOf case) 800000 (pressureSlackAt rows) (λ v q. let r = h .each v q in (sized (r .uplus) +ʳ sized (r .uminus)) .bound) in
         omega (arith, b, counted c .nodes);
   }
 
-  pub demand-slack-sized : NodesSized case row → Bounded (demandSlackIn case row) 1200000000
+  pub demand-slack-sized : NodesSized case rows → Bounded (demandSlackIn case rows) 1200000000
   unfolding demandSlackIn demandSlackAt
   demand-slack-sized h = record {
     bound =
-        let b = abs-sum-le (nodesOf case) 20000000 (demandSlackAt row) (λ v q. let r = h .each v q in (sized (r .splus) +ʳ sized (r .sminus)) .bound) in
+        let b = abs-sum-le (nodesOf case) 20000000 (demandSlackAt rows) (λ v q. let r = h .each v q in (sized (r .splus) +ʳ sized (r .sminus)) .bound) in
         omega (arith, b, counted c .nodes);
   }
 
-  pub choice-costs-le : ChoicesKept case row → (f z : ℕ → ℕ) → choiceCosts case f z row ≤ 16000000
+  pub choice-costs-le : ChoicesKept case rows → (f z : ℕ → ℕ) → choiceCosts case f z rows ≤ 16000000
   unfolding choiceCosts choiceCost
   choice-costs-le h f z =
-      let b = sumN-bound (stationsOf case) 2000000 (choiceCost case f z row) (λ s q. omega (arith, direction-le c h s q (f s), state-le c h s q (z s))) in
+      let b = sumN-bound (stationsOf case) 2000000 (choiceCost case f z rows) (λ s q. omega (arith, direction-le c h s q (f s), state-le c h s q (z s))) in
       omega (arith, b, counted c .stations)
 
-  pub activity-costs-le : (was : ℕ → Bool) → activityCosts case was row ≤ 120000000
+  pub activity-costs-le : (was : ℕ → Bool) → activityCosts case was rows ≤ 120000000
   unfolding activityCosts
   activity-costs-le was =
-      let b = sumN-bound (arcsOf case) 1000000 (activityPart case was row) (λ e q. activity-le c (was e) row e q) in
+      let b = sumN-bound (arcsOf case) 1000000 (activityPart case was rows) (λ e q. activity-le c (was e) rows e q) in
       omega (arith, b, counted c .arcs)
 
-  module _ {old : List ℤ} {i : ℕ} (k : StepKept case old row i) where
-    pub pipe-residuals-le : pipeResiduals case (numberAt old) row i ≤ 120000000
+  module _ {old : List ℤ} {i : ℕ} (k : StepKept case old rows i) where
+    pub pipe-residuals-le : pipeResiduals case (numberAt old) rows i ≤ 120000000
     unfolding pipeResiduals
     pipe-residuals-le =
-        let b = sumN-bound (arcsOf case) 1000000 (pipePart case (numberAt old) row i) (k .pipes) in
+        let b = sumN-bound (arcsOf case) 1000000 (pipePart case (numberAt old) rows i) (k .pipes) in
         omega (arith, b, counted c .arcs)
 
-    pub node-residuals-le : nodeResiduals case row i ≤ 60000000
+    pub node-residuals-le : nodeResiduals case rows i ≤ 60000000
     unfolding nodeResiduals
     node-residuals-le =
-        let b = sumN-bound (nodesOf case) 1000000 (nodeResidual case row i) (k .nodes) in
+        let b = sumN-bound (nodesOf case) 1000000 (nodeResidual case rows i) (k .nodes) in
         omega (arith, b, counted c .nodes)

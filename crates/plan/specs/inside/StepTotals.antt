@@ -12,9 +12,9 @@ use Rattle.plan.specs.declared.totals.Slacks.{Slacks}
 use Rattle.plan.specs.inside.PreviousHolds.{activeOf, indexOf}
 use Rattle.plan.specs.law.Totals.{pressureSlackIn, demandSlackIn, choiceCosts, activityCosts, pipeResiduals, nodeResiduals, gasAt}
 
-pub record Slacked (case row : List ℤ) (s : Slacks) : Type 0 where
-  pub pressure : s .pressure ≡ pressureSlackIn case row
-  pub demand : s .demand ≡ demandSlackIn case row
+pub record Slacked (case rows : List ℤ) (s : Slacks) : Type 0 where
+  pub pressure : s .pressure ≡ pressureSlackIn case rows
+  pub demand : s .demand ≡ demandSlackIn case rows
 
 -- totals that have room for one step more
 pub record TotalsSized (t : Totals) : Type 0 where
@@ -23,12 +23,12 @@ pub record TotalsSized (t : Totals) : Type 0 where
   pub switching : t .switching ≤ 1000000000000000
   pub residual : t .residual ≤ 1000000000000000
 
--- `u` is `t` with the step added whose part of the plan is `row`; the closing gas is left to the end
-pub record Added (case row : List ℤ) (p : Previous) (i : ℕ) (t u : Totals) : Type 0 where
-  pub pressure : u .pressure ≡ t .pressure +ℤ pressureSlackIn case row
-  pub demand : u .demand ≡ t .demand +ℤ demandSlackIn case row
-  pub switching : u .switching ≡ t .switching + (choiceCosts case (indexOf (p .directions)) (indexOf (p .states)) row + activityCosts case (activeOf (p .active)) row)
-  pub residual : u .residual ≡ t .residual + (pipeResiduals case (numberAt (p .pressures)) row i + nodeResiduals case row i)
+-- `u` is `t` with the step added whose part of the plan is `rows`; the closing gas is left to the end
+pub record Added (case rows : List ℤ) (p : Previous) (i : ℕ) (t u : Totals) : Type 0 where
+  pub pressure : u .pressure ≡ t .pressure +ℤ pressureSlackIn case rows
+  pub demand : u .demand ≡ t .demand +ℤ demandSlackIn case rows
+  pub switching : u .switching ≡ t .switching + (choiceCosts case (indexOf (p .directions)) (indexOf (p .states)) rows + activityCosts case (activeOf (p .active)) rows)
+  pub residual : u .residual ≡ t .residual + (pipeResiduals case (numberAt (p .pressures)) rows i + nodeResiduals case rows i)
   pub opening : u .opening ≡ t .opening
 
 -- no totals yet, but for the gas at the pressures p

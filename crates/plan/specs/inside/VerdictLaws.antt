@@ -20,7 +20,7 @@ use Rattle.case.specs.law.Layout.{numberAt, stepsOf}
 use Rattle.case.specs.inside.FieldLaws.{and-second}
 use Rattle.case.specs.law.Judged.{caseQuestions, judgedCase}
 use Rattle.case.specs.declared.records.Layout.{Layout}
-use Rattle.case.specs.law.LayoutOf.{Laid}
+use Rattle.case.specs.law.LayoutOf.{LayoutOf}
 use Rattle.plan.specs.law.Compared.{same}
 use Rattle.plan.specs.inside.Preconditions.{PlanLaid}
 use Rattle.plan.specs.law.PlanLayout.{stepAt, stepWidth}
@@ -40,7 +40,7 @@ case-answer case a e = sym (told-same a (firstNo (caseQuestions case)) e)
 module _ (case plan : List ℤ) where
   -- ---- 20
 
-  pub head-length : (l : Layout) → Laid case l → 2 + l .steps * (l .nodes * 6 + l .arcs * 4 + l .stations * 2) ≡ stepAt case (stepsOf case)
+  pub head-length : (l : Layout) → LayoutOf case l → 2 + l .steps * (l .nodes * 6 + l .arcs * 4 + l .stations * 2) ≡ stepAt case (stepsOf case)
   unfolding stepAt stepWidth
   head-length l d = rw (d .steps, d .nodes, d .arcs, d .stations)
 

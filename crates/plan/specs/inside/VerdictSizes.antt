@@ -72,8 +72,8 @@ module _ (case plan : List ℤ) (y : firstNo (questions case plan) ≡ Yes) wher
   unfolding totalsOf totalsTo stepSwitching
   switching-small =
       let b = sumN-bound (stepsOf case) 136000000 (stepSwitching case plan) (λ i l.
-      let row = stepRow case plan i in
-      omega (arith, choice-costs-le row accepted (choices-kept case row i (stations-yes case (pressureAt case plan i) row i (step-yes i l))) (directionAt case plan i) (stateAt case plan i), activity-costs-le row accepted (activeAt case plan i))) in
+      let rows = stepRow case plan i in
+      omega (arith, choice-costs-le rows accepted (choices-kept case rows i (stations-yes case (pressureAt case plan i) rows i (step-yes i l))) (directionAt case plan i) (stateAt case plan i), activity-costs-le rows accepted (activeAt case plan i))) in
       omega (arith, b, counted accepted .steps)
 
   residual-small : totalsOf case plan .residual ≤ 8640000000
@@ -81,9 +81,9 @@ module _ (case plan : List ℤ) (y : firstNo (questions case plan) ≡ Yes) wher
   residual-small =
       let b = sumN-bound (stepsOf case) 180000000 (stepResidual case plan) (λ i l.
       let old = pressureAt case plan i in
-      let row = stepRow case plan i in
-      let p = sumN-bound (arcsOf case) 1000000 (pipePart case old row i) (pipe-small case old row i accepted (arcs-yes case old row i (step-yes i l))) in
-      let n = sumN-bound (nodesOf case) 1000000 (nodeResidual case row i) (node-small case row i accepted (balances-yes case old row i (step-yes i l))) in
+      let rows = stepRow case plan i in
+      let p = sumN-bound (arcsOf case) 1000000 (pipePart case old rows i) (pipe-small case old rows i accepted (arcs-yes case old rows i (step-yes i l))) in
+      let n = sumN-bound (nodesOf case) 1000000 (nodeResidual case rows i) (node-small case rows i accepted (balances-yes case old rows i (step-yes i l))) in
       omega (arith, p, n, counted accepted .arcs, counted accepted .nodes)) in
       omega (arith, b, counted accepted .steps)
 

@@ -17,7 +17,7 @@ use Rattle.plan.specs.declared.setting.Setting.{Setting}
 use Rattle.plan.specs.declared.setting.Setting.the-variants.{Unknown, Off, Active}
 use Rattle.plan.specs.law.Compared.{isZero}
 use Rattle.plan.specs.law.PlanRecords.{arcRow}
-use Rattle.plan.specs.law.Setting.{settingIn, homeOf}
+use Rattle.plan.specs.law.Setting.{settingIn, stationOffset}
 use Rattle.plan.specs.law.Machines.{machineFlow}
 
 -- the flow in the setting's direction
@@ -26,20 +26,20 @@ flowAlong Forward r = r .a
 flowAlong Backward r = r .b
 
 unfoldable pub machinesCarry : List ℤ → List ℤ → ℕ → ℤ → Bool
-machinesCarry case row e flow =
-    leb (countOf (arcRow case row e .machines)) (artificialOf case e .most)
-    && leZ flow (machineFlow case (homeOf case e) (arcRow case row e .machines))
+machinesCarry case rows e flow =
+    leb (countOf (arcRow case rows e .machines)) (artificialOf case e .most)
+    && leZ flow (machineFlow case (stationOffset case e) (arcRow case rows e .machines))
 
 -- an active arc, with the flow in the setting's direction
 abbrev pub modeMachines : List ℤ → List ℤ → ℕ → Mode → ℤ → Bool
-modeMachines case row e Open flow = isZero (arcRow case row e .machines)
-modeMachines case row e Regulating flow = isZero (arcRow case row e .machines)
-modeMachines case row e Compressing flow = machinesCarry case row e flow
+modeMachines case rows e Open flow = isZero (arcRow case rows e .machines)
+modeMachines case rows e Regulating flow = isZero (arcRow case rows e .machines)
+modeMachines case rows e Compressing flow = machinesCarry case rows e flow
 
 abbrev pub settingMachines : List ℤ → List ℤ → ℕ → Setting → Bool
-settingMachines case row e Unknown = isZero (arcRow case row e .machines)
-settingMachines case row e Off = isZero (arcRow case row e .machines)
-settingMachines case row e (Active way mode) = modeMachines case row e mode (flowAlong way (arcRow case row e))
+settingMachines case rows e Unknown = isZero (arcRow case rows e .machines)
+settingMachines case rows e Off = isZero (arcRow case rows e .machines)
+settingMachines case rows e (Active way mode) = modeMachines case rows e mode (flowAlong way (arcRow case rows e))
 
 unfoldable pub machinesUsed : List ℤ → List ℤ → ℕ → Bool
-machinesUsed case row e = settingMachines case row e (settingIn case row e)
+machinesUsed case rows e = settingMachines case rows e (settingIn case rows e)

@@ -17,7 +17,7 @@ use Rattle.plan.specs.declared.setting.Setting.{Setting}
 use Rattle.plan.specs.declared.setting.Setting.the-variants.{Unknown, Off, Active}
 use Rattle.plan.specs.law.Compared.{same, isZero}
 use Rattle.plan.specs.law.PlanRecords.{pressureIn, arcRow}
-use Rattle.plan.specs.law.Setting.{settingIn, inEnd, outEnd, homeOf}
+use Rattle.plan.specs.law.Setting.{settingIn, inEnd, outEnd, stationOffset}
 use Rattle.plan.specs.law.Machines.{machineGain}
 
 -- "out bound 0..200,000, where 0 means 200,000"
@@ -30,29 +30,29 @@ basePressure case i v = nodeOf case v i .p0
 
 -- the ratio of a compressing arc, in thousandths
 abbrev pub ratioOf : List ℤ → List ℤ → ℕ → ℤ
-ratioOf case row e = pos 1000 +ℤ machineGain case (homeOf case e) (arcRow case row e .machines)
+ratioOf case rows e = pos 1000 +ℤ machineGain case (stationOffset case e) (arcRow case rows e .machines)
 
 -- compressing from the node `u` to the node `w`
 unfoldable pub compressionKept : List ℤ → List ℤ → ℕ → ℕ → ℕ → ℕ → Bool
-compressionKept case row i e u w =
-    leZ (pressureIn row u) (pressureIn row w)
-    && (leZ (pressureIn row w) (outBound (artificialOf case e))
-    && leZ (pos 1000 *ℤ pressureIn row w) (basePressure case i u *ℤ ratioOf case row e))
+compressionKept case rows i e u w =
+    leZ (pressureIn rows u) (pressureIn rows w)
+    && (leZ (pressureIn rows w) (outBound (artificialOf case e))
+    && leZ (pos 1000 *ℤ pressureIn rows w) (basePressure case i u *ℤ ratioOf case rows e))
 
 -- an active arc from the node `u` to the node `w`
 abbrev pub modePressures : List ℤ → List ℤ → ℕ → ℕ → Mode → ℕ → ℕ → Bool
-modePressures case row i e Open u w = same (pressureIn row u) (pressureIn row w)
-modePressures case row i e Regulating u w = leZ (pressureIn row w) (pressureIn row u)
-modePressures case row i e Compressing u w = compressionKept case row i e u w
+modePressures case rows i e Open u w = same (pressureIn rows u) (pressureIn rows w)
+modePressures case rows i e Regulating u w = leZ (pressureIn rows w) (pressureIn rows u)
+modePressures case rows i e Compressing u w = compressionKept case rows i e u w
 
 abbrev pub settingPressures : List ℤ → List ℤ → ℕ → ℕ → Setting → Bool
-settingPressures case row i e Unknown = true
-settingPressures case row i e Off = true
-settingPressures case row i e (Active way mode) = modePressures case row i e mode (inEnd way (arcOf case e)) (outEnd way (arcOf case e))
+settingPressures case rows i e Unknown = true
+settingPressures case rows i e Off = true
+settingPressures case rows i e (Active way mode) = modePressures case rows i e mode (inEnd way (arcOf case e)) (outEnd way (arcOf case e))
 
 -- 26, where a regulator has no setting to go by
 unfoldable pub pressuresKept : List ℤ → List ℤ → ℕ → ℕ → Bool
-pressuresKept case row i e =
+pressuresKept case rows i e =
     cond (eqb (arcOf case e .kind) 1)
-    (leZ (pressureIn row (arcOf case e .to)) (pressureIn row (arcOf case e .from)))
-    (settingPressures case row i e (settingIn case row e))
+    (leZ (pressureIn rows (arcOf case e .to)) (pressureIn rows (arcOf case e .from)))
+    (settingPressures case rows i e (settingIn case rows e))

@@ -16,27 +16,27 @@ use Rattle.plan.specs.law.Pipes.{pipeMassKept, pipePressuresKept}
 
 -- 24 and 25
 unfoldable pub flowQuestions : List ℤ → List ℤ → ℕ → ℕ → List Question
-flowQuestions case row i e =
-    asked 24 i e (arcNumbersKept (arcOf case e) (artificialOf case e) (arcRow case row e))
-    ∷ asked 25 i e (flowAllowed (arcOf case e) (arcRow case row e))
+flowQuestions case rows i e =
+    asked 24 i e (arcNumbersKept (arcOf case e) (artificialOf case e) (arcRow case rows e))
+    ∷ asked 25 i e (flowAllowed (arcOf case e) (arcRow case rows e))
     ∷ []
 
 -- 26 and 27
 unfoldable pub pressureQuestions : List ℤ → List ℤ → ℕ → ℕ → List Question
-pressureQuestions case row i e =
-    asked 26 i e (pressuresKept case row i e)
-    ∷ asked 27 i e (machinesUsed case row e)
+pressureQuestions case rows i e =
+    asked 26 i e (pressuresKept case rows i e)
+    ∷ asked 27 i e (machinesUsed case rows e)
     ∷ []
 
 -- 28 and 29
 unfoldable pub pipeQuestions : List ℤ → (ℕ → ℤ) → List ℤ → ℕ → ℕ → List Question
-pipeQuestions case old row i e =
-    asked 28 i e (pipeMassKept case old row i e)
-    ∷ asked 29 i e (pipePressuresKept case row e)
+pipeQuestions case old rows i e =
+    asked 28 i e (pipeMassKept case old rows i e)
+    ∷ asked 29 i e (pipePressuresKept case rows e)
     ∷ []
 
 unfoldable pub arcQuestions : List ℤ → (ℕ → ℤ) → List ℤ → ℕ → ℕ → List Question
-arcQuestions case old row i e = flowQuestions case row i e ++ (pressureQuestions case row i e ++ pipeQuestions case old row i e)
+arcQuestions case old rows i e = flowQuestions case rows i e ++ (pressureQuestions case rows i e ++ pipeQuestions case old rows i e)
 
 unfoldable pub allArcQuestions : List ℤ → (ℕ → ℤ) → List ℤ → ℕ → List Question
-allArcQuestions case old row i = over (arcQuestions case old row i) 0 (arcsOf case)
+allArcQuestions case old rows i = over (arcQuestions case old rows i) 0 (arcsOf case)

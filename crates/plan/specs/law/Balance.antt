@@ -17,40 +17,40 @@ use Rattle.plan.specs.law.Pipes.{duration, isPipe}
 
 -- an arc's flow at each of its ends
 unfoldable pub flowAtFrom : List ℤ → List ℤ → ℕ → ℤ
-flowAtFrom case row e = cond (isPipe case e) (arcRow case row e .a) (arcRow case row e .a -ℤ arcRow case row e .b)
+flowAtFrom case rows e = cond (isPipe case e) (arcRow case rows e .a) (arcRow case rows e .a -ℤ arcRow case rows e .b)
 
 unfoldable pub flowAtTo : List ℤ → List ℤ → ℕ → ℤ
-flowAtTo case row e = cond (isPipe case e) (arcRow case row e .b) (arcRow case row e .a -ℤ arcRow case row e .b)
+flowAtTo case rows e = cond (isPipe case e) (arcRow case rows e .b) (arcRow case rows e .a -ℤ arcRow case rows e .b)
 
 -- what arc e takes out of node v, and what it brings
 unfoldable pub outPart : List ℤ → List ℤ → ℕ → ℕ → ℤ
-outPart case row v e = only (eqb (arcOf case e .from) v) (flowAtFrom case row e)
+outPart case rows v e = only (eqb (arcOf case e .from) v) (flowAtFrom case rows e)
 
 unfoldable pub inPart : List ℤ → List ℤ → ℕ → ℕ → ℤ
-inPart case row v e = only (eqb (arcOf case e .to) v) (flowAtTo case row e)
+inPart case rows v e = only (eqb (arcOf case e .to) v) (flowAtTo case rows e)
 
 unfoldable pub outflow : List ℤ → List ℤ → ℕ → ℤ
-outflow case row v = sum (arcsOf case) (outPart case row v)
+outflow case rows v = sum (arcsOf case) (outPart case rows v)
 
 unfoldable pub inflow : List ℤ → List ℤ → ℕ → ℤ
-inflow case row v = sum (arcsOf case) (inPart case row v)
+inflow case rows v = sum (arcsOf case) (inPart case rows v)
 
 unfoldable pub netFlow : List ℤ → List ℤ → ℕ → ℤ
-netFlow case row v = outflow case row v -ℤ inflow case row v
+netFlow case rows v = outflow case rows v -ℤ inflow case rows v
 
 -- "flow out - flow in - d"
 unfoldable pub nodeImbalance : List ℤ → List ℤ → ℕ → ℤ
-nodeImbalance case row v = netFlow case row v -ℤ nodeRow row v .d
+nodeImbalance case rows v = netFlow case rows v -ℤ nodeRow rows v .d
 
 -- the left side of 33
 unfoldable pub nodeResidual : List ℤ → List ℤ → ℕ → ℕ → ℕ
-nodeResidual case row i v = natAbs (duration case i) * natAbs (nodeImbalance case row v)
+nodeResidual case rows i v = natAbs (duration case i) * natAbs (nodeImbalance case rows v)
 
 unfoldable pub balanceKept : List ℤ → List ℤ → ℕ → ℕ → Bool
-balanceKept case row i v = leZ (pos (nodeResidual case row i v)) (massTolerance case)
+balanceKept case rows i v = leZ (pos (nodeResidual case rows i v)) (massTolerance case)
 
 unfoldable pub balanceQuestions : List ℤ → List ℤ → ℕ → ℕ → List Question
-balanceQuestions case row i v = asked 33 i v (balanceKept case row i v) ∷ []
+balanceQuestions case rows i v = asked 33 i v (balanceKept case rows i v) ∷ []
 
 unfoldable pub allBalanceQuestions : List ℤ → List ℤ → ℕ → List Question
-allBalanceQuestions case row i = over (balanceQuestions case row i) 0 (nodesOf case)
+allBalanceQuestions case rows i = over (balanceQuestions case rows i) 0 (nodesOf case)

@@ -51,11 +51,11 @@ unfoldable pub activeBoundsKept : Node → NodeRow → Bool
 activeBoundsKept n r = isZero (n .demand) || (leZ (n .actlow) (r .p +ℤ r .uplus) && leZ (r .p -ℤ r .uminus) (n .acthigh))
 
 unfoldable pub nodeQuestions : List ℤ → List ℤ → ℕ → ℕ → List Question
-nodeQuestions case row i v =
-    asked 21 i v (nodeNumbersKept (nodeOf case v i) (nodeRow row v))
-    ∷ asked 22 i v (demandMet (nodeOf case v i) (nodeRow row v))
-    ∷ asked 23 i v (activeBoundsKept (nodeOf case v i) (nodeRow row v))
+nodeQuestions case rows i v =
+    asked 21 i v (nodeNumbersKept (nodeOf case v i) (nodeRow rows v))
+    ∷ asked 22 i v (demandMet (nodeOf case v i) (nodeRow rows v))
+    ∷ asked 23 i v (activeBoundsKept (nodeOf case v i) (nodeRow rows v))
     ∷ []
 
 unfoldable pub allNodeQuestions : List ℤ → List ℤ → ℕ → List Question
-allNodeQuestions case row i = over (nodeQuestions case row i) 0 (nodesOf case)
+allNodeQuestions case rows i = over (nodeQuestions case rows i) 0 (nodesOf case)

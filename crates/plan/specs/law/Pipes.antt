@@ -19,31 +19,31 @@ isPipe case e = eqb (arcOf case e .kind) 2
 
 -- the change of p at a node
 abbrev pub change : (ℕ → ℤ) → List ℤ → ℕ → ℤ
-change old row v = pressureIn row v -ℤ old v
+change old rows v = pressureIn rows v -ℤ old v
 
 -- "dt × (a - b) - c × (change of p at from + change at to)"
 unfoldable pub pipeImbalance : List ℤ → (ℕ → ℤ) → List ℤ → ℕ → ℕ → ℤ
-pipeImbalance case old row i e =
-    duration case i *ℤ (arcRow case row e .a -ℤ arcRow case row e .b)
-    -ℤ pipeOf case e .c *ℤ (change old row (arcOf case e .from) +ℤ change old row (arcOf case e .to))
+pipeImbalance case old rows i e =
+    duration case i *ℤ (arcRow case rows e .a -ℤ arcRow case rows e .b)
+    -ℤ pipeOf case e .c *ℤ (change old rows (arcOf case e .from) +ℤ change old rows (arcOf case e .to))
 
 -- the left side of 28
 unfoldable pub pipeResidual : List ℤ → (ℕ → ℤ) → List ℤ → ℕ → ℕ → ℕ
-pipeResidual case old row i e = natAbs (pipeImbalance case old row i e)
+pipeResidual case old rows i e = natAbs (pipeImbalance case old rows i e)
 
 -- 28: "Pipe: |dt × (a - b) - c × (change of p at from + change at to)| ≤ E?"
 unfoldable pub pipeMassKept : List ℤ → (ℕ → ℤ) → List ℤ → ℕ → ℕ → Bool
-pipeMassKept case old row i e = not (isPipe case e) || leZ (pos (pipeResidual case old row i e)) (massTolerance case)
+pipeMassKept case old rows i e = not (isPipe case e) || leZ (pos (pipeResidual case old rows i e)) (massTolerance case)
 
 -- "1,000,000 × (to - from) + f × a + g × b + h × (from + to)"
 unfoldable pub pressureBalance : List ℤ → List ℤ → ℕ → ℤ
-pressureBalance case row e =
-    pos 1000000 *ℤ (pressureIn row (arcOf case e .to) -ℤ pressureIn row (arcOf case e .from))
-    +ℤ pipeOf case e .f *ℤ arcRow case row e .a
-    +ℤ pipeOf case e .g *ℤ arcRow case row e .b
-    +ℤ pipeOf case e .h *ℤ (pressureIn row (arcOf case e .from) +ℤ pressureIn row (arcOf case e .to))
+pressureBalance case rows e =
+    pos 1000000 *ℤ (pressureIn rows (arcOf case e .to) -ℤ pressureIn rows (arcOf case e .from))
+    +ℤ pipeOf case e .f *ℤ arcRow case rows e .a
+    +ℤ pipeOf case e .g *ℤ arcRow case rows e .b
+    +ℤ pipeOf case e .h *ℤ (pressureIn rows (arcOf case e .from) +ℤ pressureIn rows (arcOf case e .to))
 
 -- 29: "Pipe, end pressures: |..| ≤ 1,000,000 × H?"
 unfoldable pub pipePressuresKept : List ℤ → List ℤ → ℕ → Bool
-pipePressuresKept case row e =
-    not (isPipe case e) || leZ (pos (natAbs (pressureBalance case row e))) (pos 1000000 *ℤ pressureTolerance case)
+pipePressuresKept case rows e =
+    not (isPipe case e) || leZ (pos (natAbs (pressureBalance case rows e))) (pos 1000000 *ℤ pressureTolerance case)

@@ -14,42 +14,42 @@ use Rattle.plan.specs.law.PlanLayout.{nodeRowAt, arcRowAt, stationRowAt}
 
 -- "p is pressure, d the actual boundary flow, s the demand slacks, u the pressure slacks"
 abbrev pub nodeRow : List ℤ → ℕ → NodeRow
-nodeRow row v = record {
-  p = numberAt row (nodeRowAt v);
-  d = numberAt row (nodeRowAt v + 1);
-  splus = numberAt row (nodeRowAt v + 2);
-  sminus = numberAt row (nodeRowAt v + 3);
-  uplus = numberAt row (nodeRowAt v + 4);
-  uminus = numberAt row (nodeRowAt v + 5);
+nodeRow rows v = record {
+  p = numberAt rows (nodeRowAt v);
+  d = numberAt rows (nodeRowAt v + 1);
+  splus = numberAt rows (nodeRowAt v + 2);
+  sminus = numberAt rows (nodeRowAt v + 3);
+  uplus = numberAt rows (nodeRowAt v + 4);
+  uminus = numberAt rows (nodeRowAt v + 5);
 }
 
 -- "a and b are forward and backward flow; for a pipe, a goes in at from and b comes out at to"
 abbrev pub arcRow : List ℤ → List ℤ → ℕ → ArcRow
-arcRow case row e = record {
-  a = numberAt row (arcRowAt case e);
-  b = numberAt row (arcRowAt case e + 1);
-  setting = numberAt row (arcRowAt case e + 2);
-  machines = numberAt row (arcRowAt case e + 3);
+arcRow case rows e = record {
+  a = numberAt rows (arcRowAt case e);
+  b = numberAt rows (arcRowAt case e + 1);
+  setting = numberAt rows (arcRowAt case e + 2);
+  machines = numberAt rows (arcRowAt case e + 3);
 }
 
 -- a station's direction and state
 abbrev pub choiceOf : List ℤ → List ℤ → ℕ → Choice
-choiceOf case row s = record {
-  direction = numberAt row (stationRowAt case s);
-  state = numberAt row (stationRowAt case s + 1);
+choiceOf case rows s = record {
+  direction = numberAt rows (stationRowAt case s);
+  state = numberAt rows (stationRowAt case s + 1);
 }
 
 -- ---- what the following step asks of this one
 
 abbrev pub pressureIn : List ℤ → ℕ → ℤ
-pressureIn row v = nodeRow row v .p
+pressureIn rows v = nodeRow rows v .p
 
 -- "Active means setting above 0."
 abbrev pub activeIn : List ℤ → List ℤ → ℕ → Bool
-activeIn case row e = leZ (pos 1) (arcRow case row e .setting)
+activeIn case rows e = leZ (pos 1) (arcRow case rows e .setting)
 
 abbrev pub directionIn : List ℤ → List ℤ → ℕ → ℕ
-directionIn case row s = posPart (choiceOf case row s .direction)
+directionIn case rows s = posPart (choiceOf case rows s .direction)
 
 abbrev pub stateIn : List ℤ → List ℤ → ℕ → ℕ
-stateIn case row s = posPart (choiceOf case row s .state)
+stateIn case rows s = posPart (choiceOf case rows s .state)

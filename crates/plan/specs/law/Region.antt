@@ -37,7 +37,7 @@ regionGas case set p = sum (arcsOf case) (innerGas case set p)
 -- ---- "Gas brought in sums [..] dt × (d at the set's nodes plus flow at the set's end of each arc with one end in the set, inward positive)."
 
 unfoldable pub regionSupply : ℤ → List ℤ → ℕ → ℤ
-regionSupply set row v = only (memberOf set v) (nodeRow row v .d)
+regionSupply set rows v = only (memberOf set v) (nodeRow rows v .d)
 
 -- what flows in through an arc, by whether it begins and ends in the region and by its flow at from and at to
 abbrev pub inward : Bool → Bool → ℤ → ℤ → ℤ
@@ -47,14 +47,14 @@ inward false true x y = y
 inward false false x y = pos 0
 
 unfoldable pub edgeFlow : List ℤ → ℤ → List ℤ → ℕ → ℤ
-edgeFlow case set row e = inward (beginsIn case set e) (endsIn case set e) (flowAtFrom case row e) (flowAtTo case row e)
+edgeFlow case set rows e = inward (beginsIn case set e) (endsIn case set e) (flowAtFrom case rows e) (flowAtTo case rows e)
 
 unfoldable pub suppliesIn : List ℤ → ℤ → List ℤ → ℤ
-suppliesIn case set row = sum (nodesOf case) (regionSupply set row)
+suppliesIn case set rows = sum (nodesOf case) (regionSupply set rows)
 
 unfoldable pub edgeFlows : List ℤ → ℤ → List ℤ → ℤ
-edgeFlows case set row = sum (arcsOf case) (edgeFlow case set row)
+edgeFlows case set rows = sum (arcsOf case) (edgeFlow case set rows)
 
--- in the step with index i, whose part of the plan is `row`
+-- in the step with index i, whose part of the plan is `rows`
 unfoldable pub broughtIn : List ℤ → ℤ → List ℤ → ℕ → ℤ
-broughtIn case set row i = duration case i *ℤ (suppliesIn case set row +ℤ edgeFlows case set row)
+broughtIn case set rows i = duration case i *ℤ (suppliesIn case set rows +ℤ edgeFlows case set rows)

@@ -12,18 +12,18 @@ use Rattle.plan.specs.law.Region.{innerPipe}
 
 -- 33 at node v, if the region has it
 unfoldable pub ownNode : List ℤ → ℤ → List ℤ → ℕ → ℕ → ℕ
-ownNode case set row i v = onlyN (memberOf set v) (nodeResidual case row i v)
+ownNode case set rows i v = onlyN (memberOf set v) (nodeResidual case rows i v)
 
 -- 28 at arc e, if it is an inner pipe
 unfoldable pub ownPipe : List ℤ → ℤ → (ℕ → ℤ) → List ℤ → ℕ → ℕ → ℕ
-ownPipe case set old row i e = onlyN (innerPipe case set e) (pipeResidual case old row i e)
+ownPipe case set old rows i e = onlyN (innerPipe case set e) (pipeResidual case old rows i e)
 
 unfoldable pub ownNodes : List ℤ → ℤ → List ℤ → ℕ → ℕ
-ownNodes case set row i = sumN (nodesOf case) (ownNode case set row i)
+ownNodes case set rows i = sumN (nodesOf case) (ownNode case set rows i)
 
 unfoldable pub ownPipes : List ℤ → ℤ → (ℕ → ℤ) → List ℤ → ℕ → ℕ
-ownPipes case set old row i = sumN (arcsOf case) (ownPipe case set old row i)
+ownPipes case set old rows i = sumN (arcsOf case) (ownPipe case set old rows i)
 
--- of the step with index i, whose part of the plan is `row`; `old v` is the pressure of node v before it
+-- of the step with index i, whose part of the plan is `rows`; `old v` is the pressure of node v before it
 unfoldable pub regionResidual : List ℤ → ℤ → (ℕ → ℤ) → List ℤ → ℕ → ℕ
-regionResidual case set old row i = ownNodes case set row i + ownPipes case set old row i
+regionResidual case set old rows i = ownNodes case set rows i + ownPipes case set old rows i

@@ -48,11 +48,11 @@ settingOf kind number =
 
 -- the setting of arc e in a step
 abbrev pub settingIn : List ℤ → List ℤ → ℕ → Setting
-settingIn case row e = settingOf (arcOf case e .kind) (arcRow case row e .setting)
+settingIn case rows e = settingOf (arcOf case e .kind) (arcRow case rows e .setting)
 
 -- where the rows of the arc's station begin
-abbrev pub homeOf : List ℤ → ℕ → ℕ
-homeOf case e = stationAt case (artificialOf case e .station)
+abbrev pub stationOffset : List ℤ → ℕ → ℕ
+stationOffset case e = stationAt case (artificialOf case e .station)
 
 -- "In and out ends follow the setting: forward, in is from."
 abbrev pub inEnd : Way → Arc → ℕ

@@ -9,10 +9,10 @@ use Rattle.plan.specs.law.ArcRules.{allArcQuestions}
 use Rattle.plan.specs.law.StationRules.{allStationQuestions}
 use Rattle.plan.specs.law.Balance.{allBalanceQuestions}
 
--- `row` is the step's part of the plan, and `old v` the pressure of node v before the step
+-- `rows` is the step's part of the plan, and `old v` the pressure of node v before the step
 unfoldable pub stepQuestions : List ℤ → (ℕ → ℤ) → List ℤ → ℕ → List Question
-stepQuestions case old row i =
-    allNodeQuestions case row i
-    ++ (allArcQuestions case old row i
-    ++ (allStationQuestions case row i
-    ++ allBalanceQuestions case row i))
+stepQuestions case old rows i =
+    allNodeQuestions case rows i
+    ++ (allArcQuestions case old rows i
+    ++ (allStationQuestions case rows i
+    ++ allBalanceQuestions case rows i))

@@ -18,16 +18,16 @@ use Rattle.plan.specs.law.Balance.{nodeResidual}
 -- ---- "Pressure slack sums u+ and u-, demand slack s+ and s-, over all nodes and steps."
 
 unfoldable pub pressureSlackAt : List ℤ → ℕ → ℤ
-pressureSlackAt row v = nodeRow row v .uplus +ℤ nodeRow row v .uminus
+pressureSlackAt rows v = nodeRow rows v .uplus +ℤ nodeRow rows v .uminus
 
 unfoldable pub demandSlackAt : List ℤ → ℕ → ℤ
-demandSlackAt row v = nodeRow row v .splus +ℤ nodeRow row v .sminus
+demandSlackAt rows v = nodeRow rows v .splus +ℤ nodeRow rows v .sminus
 
 unfoldable pub pressureSlackIn : List ℤ → List ℤ → ℤ
-pressureSlackIn case row = sum (nodesOf case) (pressureSlackAt row)
+pressureSlackIn case rows = sum (nodesOf case) (pressureSlackAt rows)
 
 unfoldable pub demandSlackIn : List ℤ → List ℤ → ℤ
-demandSlackIn case row = sum (nodesOf case) (demandSlackAt row)
+demandSlackIn case rows = sum (nodesOf case) (demandSlackAt rows)
 
 -- ---- "switching cost (weight of each newly chosen direction and state, and of each artificial arc whose activity changed)"
 
@@ -36,36 +36,36 @@ changed true b = not b
 changed false b = b
 
 unfoldable pub directionCost : List ℤ → ℕ → List ℤ → ℕ → ℕ
-directionCost case was row s = onlyN (not (eqb (directionIn case row s) was)) (directionOf case s (directionIn case row s) .weight)
+directionCost case was rows s = onlyN (not (eqb (directionIn case rows s) was)) (directionOf case s (directionIn case rows s) .weight)
 
 unfoldable pub stateCost : List ℤ → ℕ → List ℤ → ℕ → ℕ
-stateCost case was row s = onlyN (not (eqb (stateIn case row s) was)) (stateOf case s (stateIn case row s) .weight)
+stateCost case was rows s = onlyN (not (eqb (stateIn case rows s) was)) (stateOf case s (stateIn case rows s) .weight)
 
 unfoldable pub activityCost : List ℤ → Bool → List ℤ → ℕ → ℕ
-activityCost case was row e = onlyN (leb 3 (arcOf case e .kind) && changed was (activeIn case row e)) (artificialOf case e .weight)
+activityCost case was rows e = onlyN (leb 3 (arcOf case e .kind) && changed was (activeIn case rows e)) (artificialOf case e .weight)
 
 unfoldable pub choiceCost : List ℤ → (ℕ → ℕ) → (ℕ → ℕ) → List ℤ → ℕ → ℕ
-choiceCost case wasDirection wasState row s = directionCost case (wasDirection s) row s + stateCost case (wasState s) row s
+choiceCost case wasDirection wasState rows s = directionCost case (wasDirection s) rows s + stateCost case (wasState s) rows s
 
 unfoldable pub choiceCosts : List ℤ → (ℕ → ℕ) → (ℕ → ℕ) → List ℤ → ℕ
-choiceCosts case wasDirection wasState row = sumN (stationsOf case) (choiceCost case wasDirection wasState row)
+choiceCosts case wasDirection wasState rows = sumN (stationsOf case) (choiceCost case wasDirection wasState rows)
 
 abbrev pub activityPart : List ℤ → (ℕ → Bool) → List ℤ → ℕ → ℕ
-activityPart case was row e = activityCost case (was e) row e
+activityPart case was rows e = activityCost case (was e) rows e
 
 unfoldable pub activityCosts : List ℤ → (ℕ → Bool) → List ℤ → ℕ
-activityCosts case was row = sumN (arcsOf case) (activityPart case was row)
+activityCosts case was rows = sumN (arcsOf case) (activityPart case was rows)
 
 -- ---- "residual (the left sides of 28 and 33, summed)"
 
 unfoldable pub pipePart : List ℤ → (ℕ → ℤ) → List ℤ → ℕ → ℕ → ℕ
-pipePart case old row i e = onlyN (isPipe case e) (pipeResidual case old row i e)
+pipePart case old rows i e = onlyN (isPipe case e) (pipeResidual case old rows i e)
 
 unfoldable pub pipeResiduals : List ℤ → (ℕ → ℤ) → List ℤ → ℕ → ℕ
-pipeResiduals case old row i = sumN (arcsOf case) (pipePart case old row i)
+pipeResiduals case old rows i = sumN (arcsOf case) (pipePart case old rows i)
 
 unfoldable pub nodeResiduals : List ℤ → List ℤ → ℕ → ℕ
-nodeResiduals case row i = sumN (nodesOf case) (nodeResidual case row i)
+nodeResiduals case rows i = sumN (nodesOf case) (nodeResidual case rows i)
 
 -- ---- "gas in all pipes at 0 and at k": "A pipe's gas is c × (from + to)."
 

@@ -20,11 +20,11 @@ abbrev μ-loop : tie.MeasureT-loop
 loop-holds : tie.Need-loop-holds Inv-loop μ-loop
 loop-holds c = (omega arith, let e : c .args .arcs - 0 ≡ c .args .arcs = omega arith in rw e)
 
-mul-row : tie.Need-mul-row Inv-loop μ-loop
-mul-row c = omega arith
+mul-offset : tie.Need-mul-offset Inv-loop μ-loop
+mul-offset c = omega arith
 
-add-row : tie.Need-add-row Inv-loop μ-loop
-add-row c = omega arith
+add-offset : tie.Need-add-offset Inv-loop μ-loop
+add-offset c = omega arith
 
 end-fields-requires : tie.Need-end-fields-requires Inv-loop μ-loop
 end-fields-requires c κs = omega arith
@@ -80,8 +80,8 @@ arc-rows-spec =
     Inv-loop
     μ-loop
     loop-holds
-    mul-row
-    add-row
+    mul-offset
+    add-offset
     end-fields-requires
     kind-fields-requires
     or-else-requires

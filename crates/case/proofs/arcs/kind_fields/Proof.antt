@@ -25,7 +25,7 @@ fields-requires : tie.Need-fields-requires
 fields-requires c κs = search needs
 
 member-fields-requires : tie.Need-member-fields-requires
-member-fields-requires c κs = (c .before .before .before .before .pre, first-is (c .before .before .before .before .args .row) (c .before .before .before .count .ensures))
+member-fields-requires c κs = (c .before .before .before .before .pre, first-is (c .before .before .before .before .args .offset) (c .before .before .before .count .ensures))
 
 add-fields-2 : tie.Need-add-fields-2
 add-fields-2 c = search needs
@@ -37,7 +37,7 @@ or-else-requires : tie.Need-or-else-requires
 or-else-requires c κs = search needs
 
 member-fields-requires-2 : tie.Need-member-fields-requires-2
-member-fields-requires-2 c κs = (c .before .before .before .before .pre, first-is (c .before .before .before .before .args .row) (c .before .before .before .count .ensures))
+member-fields-requires-2 c κs = (c .before .before .before .before .pre, first-is (c .before .before .before .before .args .offset) (c .before .before .before .count .ensures))
 
 compressor-fields-requires : tie.Need-compressor-fields-requires
 compressor-fields-requires c κs = search needs
@@ -49,23 +49,23 @@ returns : tie.Need-returns
 unfolding kindFields
 returns c = let s = c .before .before in
     let l = now (s .before .args .case) in
-    let k : s .count .result ≡ countAt l (s .before .args .row) = first-is (s .before .args .row) (s .count .ensures) in
+    let k : s .count .result ≡ countAt l (s .before .args .offset) = first-is (s .before .args .offset) (s .count .ensures) in
     rw (sym k ∙ c .before .match .keys1) (c .pipe-fields .ensures)
 
 returns-2 : tie.Need-returns-2
 unfolding kindFields
 returns-2 c = let s = c .before .before .before in
     let l = now (s .before .args .case) in
-    let k : s .count .result ≡ countAt l (s .before .args .row) = first-is (s .before .args .row) (s .count .ensures) in
-    let n : countAt l (s .before .args .row) ≤ 1 = omega (arith, k, c .before .if1 .taken) in
+    let k : s .count .result ≡ countAt l (s .before .args .offset) = first-is (s .before .args .offset) (s .count .ensures) in
+    let n : countAt l (s .before .args .offset) ≤ 1 = omega (arith, k, c .before .if1 .taken) in
     rw (le-leb _ _ n) (c .fields .ensures)
 
 returns-3 : tie.Need-returns-3
 unfolding kindFields
 returns-3 c = let s = c .before .before .before .before .before .before in
     let l = now (s .before .args .case) in
-    let k : s .count .result ≡ countAt l (s .before .args .row) = first-is (s .before .args .row) (s .count .ensures) in
-    let x = countAt l (s .before .args .row) in
+    let k : s .count .result ≡ countAt l (s .before .args .offset) = first-is (s .before .args .offset) (s .count .ensures) in
+    let x = countAt l (s .before .args .offset) in
     let m = c .before .before .before .before in
     let n : 1 < x = omega (arith, k, m .if1 .left) in
     let o : x ≤ 4 = omega (arith, k, c .before .before .before .if2 .taken) in
@@ -75,8 +75,8 @@ returns-4 : tie.Need-returns-4
 unfolding kindFields
 returns-4 c = let s = c .before .before .before .before .before .before in
     let l = now (s .before .args .case) in
-    let k : s .count .result ≡ countAt l (s .before .args .row) = first-is (s .before .args .row) (s .count .ensures) in
-    let x = countAt l (s .before .args .row) in
+    let k : s .count .result ≡ countAt l (s .before .args .offset) = first-is (s .before .args .offset) (s .count .ensures) in
+    let x = countAt l (s .before .args .offset) in
     let m = c .before .before .before .before in
     let n : 1 < x = omega (arith, k, m .if1 .left) in
     let o : 4 < x = omega (arith, k, c .before .before .before .if2 .left) in

@@ -88,8 +88,8 @@ returns c = let s = c .before .before .before .before .before .before .before in
       nodes = n;
       arcs = a;
       stations = t;
-      rows = rw t at (c .before .before .station-firsts .ensures .0);
-      rows-past = rw t at (c .before .before .station-firsts .ensures .1);
+      offsets = rw t at (c .before .before .station-firsts .ensures .0);
+      offsets-past = rw t at (c .before .before .station-firsts .ensures .1);
       inside = rw t at (c .before .insides .ensures .0);
       inside-past = rw t at (c .before .insides .ensures .1);
       plain = kept _ (c .plain-nodes .ok) ∙ c .plain-nodes .ensures ∙ ap (λ (x : ℕ). pos (endsOf l (plain l) x)) a;

@@ -11,21 +11,21 @@ use Rattle.case.proofs.judge.station_firsts.Statement.{statement}
 use Rattle.case.proofs.judge.station_firsts.Tie as tie
 
 abbrev Inv-loop : tie.InvT-loop
-Inv-loop case first stations rows₀ row₀ s₀ rows row s =
-    (s ≤ stations) × (row ≡ stationAt case s) × (row ≤ 5000 + 117 * s) × (length rows ≡ 8)
-    × Holds 0 rows (stationAt case) s × Clear 0 rows s
+Inv-loop case first stations rows₀ row₀ s₀ offsets offset s =
+    (s ≤ stations) × (offset ≡ stationAt case s) × (offset ≤ 5000 + 117 * s) × (length offsets ≡ 8)
+    × Holds 0 offsets (stationAt case) s × Clear 0 offsets s
 
 abbrev μ-loop : tie.MeasureT-loop
-μ-loop case first stations rows₀ row₀ s₀ rows row s = stations - s
+μ-loop case first stations rows₀ row₀ s₀ offsets offset s = stations - s
 
 loop-holds : tie.Need-loop-holds Inv-loop μ-loop
 loop-holds c = (omega arith, c .pre .1, omega (arith, c .pre .0), refl, holds-none, clear-new 8 0)
 
-mul-rows : tie.Need-mul-rows Inv-loop μ-loop
-mul-rows c = omega arith
+mul-offsets : tie.Need-mul-offsets Inv-loop μ-loop
+mul-offsets c = omega arith
 
-array-write-rows : tie.Need-array-write-rows Inv-loop μ-loop
-array-write-rows c = omega arith
+array-write-offsets : tie.Need-array-write-offsets Inv-loop μ-loop
+array-write-offsets c = omega arith
 
 station-end-requires : tie.Need-station-end-requires Inv-loop μ-loop
 station-end-requires c κs = let h = c .before in
@@ -53,7 +53,7 @@ loop-again c = let h = c .before .before in
       omega (arith, e, end-most l (stationAt l i) k, h .loop .inv .1, h .loop .inv .2),
       simp length-set (h .loop .inv .3),
       holds-more (h .loop .inv .4) (omega arith) (h .loop .inv .1),
-      clear-more (h .loop .inv .5) (h .loop .row),
+      clear-more (h .loop .inv .5) (h .loop .offset),
     )
 
 returns : tie.Need-returns Inv-loop μ-loop
@@ -69,8 +69,8 @@ station-firsts-spec =
     Inv-loop
     μ-loop
     loop-holds
-    mul-rows
-    array-write-rows
+    mul-offsets
+    array-write-offsets
     station-end-requires
     add-s
     loop-less

@@ -25,9 +25,9 @@ returns : tie.Need-returns
 returns c = let u = c .before .before .before .before in
     let a = u .before .args in
     let l = now (a .case) in
-    let row = arcAt l (a .e) in
+    let offset = arcAt l (a .e) in
     c .with-node2 .ensures
-    ∙ rw (count-in l row 2 (u .arc-at .ensures) (c .before .count2 .ensures .value), c .before .before .with-node .ensures, count-in l row 1 (u .arc-at .ensures) (c .before .before .before .count .ensures .value))
+    ∙ rw (count-in l offset 2 (u .arc-at .ensures) (c .before .count2 .ensures .value), c .before .before .with-node .ensures, count-in l offset 1 (u .arc-at .ensures) (c .before .before .before .count .ensures .value))
 
 pub with-ends-spec : {M : Type 1} → statement M
 with-ends-spec =

@@ -57,10 +57,10 @@ returns c = let u = c .before .before .before .before .before .before .before in
     let t = u .before in
     let s = t .before in
     let l = now (s .before .args .case) in
-    let row = s .before .args .row in
-    let low : toZ w64 (ofZ w64 (s .number .result)) ≡ numberAt l (row + 2) = kept _ (s .number .ok) ∙ s .number .ensures in
-    let high : toZ w64 (ofZ w64 (t .number2 .result)) ≡ numberAt l (row + 3) = kept _ (t .number2 .ok) ∙ t .number2 .ensures in
-    let actlow : toZ w64 (ofZ w64 (u .number3 .result)) ≡ numberAt l (row + 4) = kept _ (u .number3 .ok) ∙ u .number3 .ensures in
+    let offset = s .before .args .offset in
+    let low : toZ w64 (ofZ w64 (s .number .result)) ≡ numberAt l (offset + 2) = kept _ (s .number .ok) ∙ s .number .ensures in
+    let high : toZ w64 (ofZ w64 (t .number2 .result)) ≡ numberAt l (offset + 3) = kept _ (t .number2 .ok) ∙ t .number2 .ensures in
+    let actlow : toZ w64 (ofZ w64 (u .number3 .result)) ≡ numberAt l (offset + 4) = kept _ (u .number3 .ok) ∙ u .number3 .ensures in
     simp firstNo-append
     (chain (c .or-else3 .ensures) (c .before .before .before .before .before .before .field .ensures)
     (chain (c .before .or-else2 .ensures) (c .before .before .before .before .before .fields .ensures)

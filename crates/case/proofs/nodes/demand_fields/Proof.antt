@@ -33,23 +33,23 @@ returns : tie.Need-returns
 unfolding demandFields
 returns c = let s = c .before .before .before in
     let l = now (s .args .case) in
-    let k : c .before .before .count .result ≡ countAt l (s .args .row) = first-is (s .args .row) (c .before .before .count .ensures) in
+    let k : c .before .before .count .result ≡ countAt l (s .args .offset) = first-is (s .args .offset) (c .before .before .count .ensures) in
     rw (sym k ∙ c .before .match .keys1, ← s .pre .2) (c .fields .ensures)
 
 returns-2 : tie.Need-returns-2
 unfolding demandFields
 returns-2 c = let s = c .before .before .before in
     let l = now (s .args .case) in
-    let k : c .before .before .count .result ≡ countAt l (s .args .row) = first-is (s .args .row) (c .before .before .count .ensures) in
+    let k : c .before .before .count .result ≡ countAt l (s .args .offset) = first-is (s .args .offset) (c .before .before .count .ensures) in
     rw (sym k ∙ c .before .match .keys2, ← s .pre .2) (c .fields2 .ensures)
 
 returns-3 : tie.Need-returns-3
 unfolding demandFields
 returns-3 c = let s = c .before .before .before in
     let l = now (s .args .case) in
-    let k : c .before .before .count .result ≡ countAt l (s .args .row) = first-is (s .args .row) (c .before .before .count .ensures) in
+    let k : c .before .before .count .result ≡ countAt l (s .args .offset) = first-is (s .args .offset) (c .before .before .count .ensures) in
     let r = c .before .match .rest in
-    rw (ne-eqb (countAt l (s .args .row)) 1 (λ e. r .0 .1 (k ∙ e)), ne-eqb (countAt l (s .args .row)) 2 (λ e. r .1 (k ∙ e)), ← s .pre .2) (c .fields3 .ensures)
+    rw (ne-eqb (countAt l (s .args .offset)) 1 (λ e. r .0 .1 (k ∙ e)), ne-eqb (countAt l (s .args .offset)) 2 (λ e. r .1 (k ∙ e)), ← s .pre .2) (c .fields3 .ensures)
 
 pub demand-fields-spec : {M : Type 1} → statement M
 demand-fields-spec =

@@ -11,17 +11,17 @@ use Rattle.case.proofs.Counting.{node-row}
 use Rattle.case.proofs.nodes.node_fields.Statement.{statement}
 use Rattle.case.proofs.nodes.node_fields.Tie as tie
 
-add-row : tie.Need-add-row
-add-row c = search needs
+add-offset : tie.Need-add-offset
+add-offset c = search needs
 
-add-row-2 : tie.Need-add-row-2
-add-row-2 c = search needs
+add-offset-2 : tie.Need-add-offset-2
+add-offset-2 c = search needs
 
-mul-row : tie.Need-mul-row
-mul-row c = omega (arith, node-row (c .args .v) (c .args .steps) (c .pre .0) (c .pre .1))
+mul-offset : tie.Need-mul-offset
+mul-offset c = omega (arith, node-row (c .args .v) (c .args .steps) (c .pre .0) (c .pre .1))
 
-add-row-3 : tie.Need-add-row-3
-add-row-3 c = omega (arith, node-row (c .args .v) (c .args .steps) (c .pre .0) (c .pre .1))
+add-offset-3 : tie.Need-add-offset-3
+add-offset-3 c = omega (arith, node-row (c .args .v) (c .args .steps) (c .pre .0) (c .pre .1))
 
 bound-fields-requires : tie.Need-bound-fields-requires
 bound-fields-requires c κs = omega (arith, node-row (c .args .v) (c .args .steps) (c .pre .0) (c .pre .1))
@@ -36,19 +36,19 @@ returns : tie.Need-returns
 unfolding nodeFields nodeAt
 returns c = let s = c .before .before .before in
     let l = now (s .args .case) in
-    let row : 7 + s .args .steps + s .args .v * (6 + s .args .steps) ≡ nodeAt l (s .args .v) = rw (s .pre .2) in
+    let offset : 7 + s .args .steps + s .args .v * (6 + s .args .steps) ≡ nodeAt l (s .args .v) = rw (s .pre .2) in
     simp firstNo-append
-    (chain (c .or-else .ensures) (simp row at (c .before .before .bound-fields .ensures))
-    (simp row at (c .before .demand-fields .ensures)))
+    (chain (c .or-else .ensures) (simp offset at (c .before .before .bound-fields .ensures))
+    (simp offset at (c .before .demand-fields .ensures)))
 
 pub node-fields-spec : {M : Type 1} → statement M
 node-fields-spec =
     tie.close
     (tie.spec
-    add-row
-    add-row-2
-    mul-row
-    add-row-3
+    add-offset
+    add-offset-2
+    mul-offset
+    add-offset-3
     bound-fields-requires
     demand-fields-requires
     or-else-requires

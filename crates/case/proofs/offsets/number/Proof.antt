@@ -22,10 +22,10 @@ returns : tie.Need-returns
 returns c = search needs
 
 returns-2 : tie.Need-returns-2
-returns-2 c = let a = c .before .before .args in past (now (a .case)) (a .row + a .j) (omega arith)
+returns-2 c = let a = c .before .before .args in past (now (a .case)) (a .offset + a .j) (omega arith)
 
 returns-3 : tie.Need-returns-3
-returns-3 c = let a = c .before .args in past (now (a .case)) (a .row + a .j) (omega arith)
+returns-3 c = let a = c .before .args in past (now (a .case)) (a .offset + a .j) (omega arith)
 
 pub number-spec : {M : Type 1} → statement M
 number-spec =

@@ -19,7 +19,7 @@ along-requires c κs = search needs
 returns : tie.Need-returns
 unfolding stateAt
 returns c = let a = c .before .before .before .args in
-    let n : c .before .before .count .result ≡ directionsAt (now (a .case)) (a .row) = c .before .before .count .ensures .value ∙ ap (countAt (now (a .case))) (add-zero (a .row)) in
+    let n : c .before .before .count .result ≡ directionsAt (now (a .case)) (a .offset) = c .before .before .count .ensures .value ∙ ap (countAt (now (a .case))) (add-zero (a .offset)) in
     c .along .ensures ∙ rw (c .before .direction-at .ensures, n) (omega arith)
 
 pub state-at-spec : {M : Type 1} → statement M

@@ -25,12 +25,12 @@ number-requires c κs = search needs
 returns : tie.Need-returns
 returns c = let a = c .before .before .before .before .before .args in
     let l = now (a .case) in
-    let row = arcAt l (a .e) in
+    let offset = arcAt l (a .e) in
     let r = c .before .before .before .before .arc-at .ensures in
-    let e0 = first-count l row r (c .before .before .before .count .ensures .value) in
-    let e1 = count-in l row 1 r (c .before .before .count2 .ensures .value) in
-    let e2 = count-in l row 2 r (c .before .count3 .ensures .value) in
-    let e3 = kept (c .number .result) (c .number .ok) ∙ number-in l row 3 r (c .number .ensures) in
+    let e0 = first-count l offset r (c .before .before .before .count .ensures .value) in
+    let e1 = count-in l offset 1 r (c .before .before .count2 .ensures .value) in
+    let e2 = count-in l offset 2 r (c .before .count3 .ensures .value) in
+    let e3 = kept (c .number .result) (c .number .ok) ∙ number-in l offset 3 r (c .number .ensures) in
     rw (e0, e1, e2, e3)
 
 pub arc-spec : {M : Type 1} → statement M

@@ -17,11 +17,11 @@ number-requires c κs = search needs
 
 returns : tie.Need-returns
 returns c = let a = c .before .before .args in
-    let e : a .row + (6 + a .i) ≡ demandsAt (a .row) + a .i = omega arith in
+    let e : a .offset + (6 + a .i) ≡ demandsAt (a .offset) + a .i = omega arith in
     kept _ (c .number .ok) ∙ c .number .ensures ∙ ap (numberAt (now (a .case))) e
 
 returns-2 : tie.Need-returns-2
-returns-2 c = let a = c .before .args in past (now (a .case)) (demandsAt (a .row) + a .i) (omega arith)
+returns-2 c = let a = c .before .args in past (now (a .case)) (demandsAt (a .offset) + a .i) (omega arith)
 
 pub demand-spec : {M : Type 1} → statement M
 demand-spec = tie.close (tie.spec add-number number-requires returns returns-2)

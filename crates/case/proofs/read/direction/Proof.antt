@@ -22,11 +22,11 @@ count-requires c κs = search needs
 returns : tie.Need-returns
 returns c = let a = c .before .before .before .before .args in
     let l = now (a .case) in
-    let row = directionAt (a .row) (a .f) in
+    let offset = directionAt (a .offset) (a .f) in
     let r = c .before .before .before .direction-at .ensures in
-    let e0 = kept (c .before .before .number .result) (c .before .before .number .ok) ∙ first-number l row r (c .before .before .number .ensures) in
-    let e1 = kept (c .before .number2 .result) (c .before .number2 .ok) ∙ number-in l row 1 r (c .before .number2 .ensures) in
-    let e2 = count-in l row 2 r (c .count .ensures .value) in
+    let e0 = kept (c .before .before .number .result) (c .before .before .number .ok) ∙ first-number l offset r (c .before .before .number .ensures) in
+    let e1 = kept (c .before .number2 .result) (c .before .number2 .ok) ∙ number-in l offset 1 r (c .before .number2 .ensures) in
+    let e2 = count-in l offset 2 r (c .count .ensures .value) in
     rw (e0, e1, e2)
 
 pub direction-spec : {M : Type 1} → statement M

@@ -19,10 +19,10 @@ number-requires-2 c κs = search needs
 returns : tie.Need-returns
 returns c = let a = c .before .before .before .args in
     let l = now (a .case) in
-    let row = machineAt l (a .row) (a .m) in
+    let offset = machineAt l (a .offset) (a .m) in
     let r = c .before .before .machine-at .ensures in
-    let e0 = kept (c .before .number .result) (c .before .number .ok) ∙ first-number l row r (c .before .number .ensures) in
-    let e1 = kept (c .number2 .result) (c .number2 .ok) ∙ number-in l row 1 r (c .number2 .ensures) in
+    let e0 = kept (c .before .number .result) (c .before .number .ok) ∙ first-number l offset r (c .before .number .ensures) in
+    let e1 = kept (c .number2 .result) (c .number2 .ok) ∙ number-in l offset 1 r (c .number2 .ensures) in
     rw (e0, e1)
 
 pub machine-spec : {M : Type 1} → statement M

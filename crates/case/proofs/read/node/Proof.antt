@@ -36,18 +36,18 @@ demand-requires c κs = search needs
 returns : tie.Need-returns
 returns c = let a = c .before .before .before .before .before .before .before .before .args in
     let l = now (a .case) in
-    let row = nodeAt l (a .v) in
+    let offset = nodeAt l (a .v) in
     let r = c .before .before .before .before .before .before .before .node-at .ensures in
-    let e0 = first-count l row r (c .before .before .before .before .before .before .count .ensures .value) in
-    let e1 = kept (c .before .before .before .before .before .number .result) (c .before .before .before .before .before .number .ok) ∙ number-in l row 1 r (c .before .before .before .before .before .number .ensures) in
-    let e2 = kept (c .before .before .before .before .number2 .result) (c .before .before .before .before .number2 .ok) ∙ number-in l row 2 r (c .before .before .before .before .number2 .ensures) in
-    let e3 = kept (c .before .before .before .number3 .result) (c .before .before .before .number3 .ok) ∙ number-in l row 3 r (c .before .before .before .number3 .ensures) in
-    let e4 = kept (c .before .before .number4 .result) (c .before .before .number4 .ok) ∙ number-in l row 4 r (c .before .before .number4 .ensures) in
-    let e5 = kept (c .before .number5 .result) (c .before .number5 .ok) ∙ number-in l row 5 r (c .before .number5 .ensures) in
+    let e0 = first-count l offset r (c .before .before .before .before .before .before .count .ensures .value) in
+    let e1 = kept (c .before .before .before .before .before .number .result) (c .before .before .before .before .before .number .ok) ∙ number-in l offset 1 r (c .before .before .before .before .before .number .ensures) in
+    let e2 = kept (c .before .before .before .before .number2 .result) (c .before .before .before .before .number2 .ok) ∙ number-in l offset 2 r (c .before .before .before .before .number2 .ensures) in
+    let e3 = kept (c .before .before .before .number3 .result) (c .before .before .before .number3 .ok) ∙ number-in l offset 3 r (c .before .before .before .number3 .ensures) in
+    let e4 = kept (c .before .before .number4 .result) (c .before .before .number4 .ok) ∙ number-in l offset 4 r (c .before .before .number4 .ensures) in
+    let e5 = kept (c .before .number5 .result) (c .before .number5 .ok) ∙ number-in l offset 5 r (c .before .number5 .ensures) in
     let at = c .before .before .before .before .before .before .before .node-at .result in
     let b : demandsAt at + a .i ≡ at + (6 + a .i) = omega arith in
-    let d : row + (6 + a .i) ≡ demandsAt row + a .i = omega arith in
-    let e6 = kept (c .demand .result) (c .demand .ok) ∙ number-in l row (6 + a .i) r (c .demand .ensures ∙ ap (numberAt l) b) ∙ ap (numberAt l) d in
+    let d : offset + (6 + a .i) ≡ demandsAt offset + a .i = omega arith in
+    let e6 = kept (c .demand .result) (c .demand .ok) ∙ number-in l offset (6 + a .i) r (c .demand .ensures ∙ ap (numberAt l) b) ∙ ap (numberAt l) d in
     rw (e0, e1, e2, e3, e4, e5, e6)
 
 pub node-spec : {M : Type 1} → statement M

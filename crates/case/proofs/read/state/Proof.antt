@@ -25,12 +25,12 @@ count-requires c κs = search needs
 returns : tie.Need-returns
 returns c = let a = c .before .before .before .before .before .args in
     let l = now (a .case) in
-    let row = stateAt l (a .row) (a .z) in
+    let offset = stateAt l (a .offset) (a .z) in
     let r = c .before .before .before .before .state-at .ensures in
-    let e0 = kept (c .before .before .before .number .result) (c .before .before .before .number .ok) ∙ first-number l row r (c .before .before .before .number .ensures) in
-    let e1 = kept (c .before .before .number2 .result) (c .before .before .number2 .ok) ∙ number-in l row 1 r (c .before .before .number2 .ensures) in
-    let e2 = kept (c .before .number3 .result) (c .before .number3 .ok) ∙ number-in l row 2 r (c .before .number3 .ensures) in
-    let e3 = count-in l row 3 r (c .count .ensures .value) in
+    let e0 = kept (c .before .before .before .number .result) (c .before .before .before .number .ok) ∙ first-number l offset r (c .before .before .before .number .ensures) in
+    let e1 = kept (c .before .before .number2 .result) (c .before .before .number2 .ok) ∙ number-in l offset 1 r (c .before .before .number2 .ensures) in
+    let e2 = kept (c .before .number3 .result) (c .before .number3 .ok) ∙ number-in l offset 2 r (c .before .number3 .ensures) in
+    let e3 = count-in l offset 3 r (c .count .ensures .value) in
     rw (e0, e1, e2, e3)
 
 pub state-spec : {M : Type 1} → statement M

@@ -24,7 +24,7 @@ count-requires-5 c κs = search needs
 returns : tie.Need-returns
 returns c = let a = c .before .before .before .before .before .args in
     let l = now (a .case) in
-    let e0 = c .before .before .before .before .count .ensures .value ∙ ap (countAt l) (add-zero (a .row)) in
+    let e0 = c .before .before .before .before .count .ensures .value ∙ ap (countAt l) (add-zero (a .offset)) in
     let e1 = c .before .before .before .count2 .ensures .value in
     let e2 = c .before .before .count3 .ensures .value in
     let e3 = c .before .count4 .ensures .value in

@@ -17,7 +17,7 @@ use Rattle.case.proofs.rules.direction_kept.Tie as tie
 
 -- the two sets that were read
 abbrev row-of : (c : tie.After-direction) → Direction
-row-of c = directionRow (now (c .before .args .case)) (c .before .args .row) (c .before .args .f)
+row-of c = directionRow (now (c .before .args .case)) (c .before .args .offset) (c .before .args .f)
 
 sets-are : (c : tie.After-struct-told)
     → (toZ w64 (ofZ w64 (c .before .direction .result .entry)) ≡ row-of (c .before) .entry)

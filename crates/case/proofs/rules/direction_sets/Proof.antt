@@ -27,11 +27,11 @@ loop-holds : tie.Need-loop-holds Inv-loop μ-loop
 unfolding allDirectionSets
 loop-holds c = (omega arith, let e : c .before .args .t2 .stations - 0 ≡ stationsOf (now (c .before .args .case)) = omega (arith, c .before .pre .1 .stations) in rw e)
 
-mul-row : tie.Need-mul-row Inv-loop μ-loop
-mul-row c = let s = c .before .before .before in omega (arith, s .pre .0 .stations, s .pre .1 .stations)
+mul-offset : tie.Need-mul-offset Inv-loop μ-loop
+mul-offset c = let s = c .before .before .before in omega (arith, s .pre .0 .stations, s .pre .1 .stations)
 
-element-copy-out-row : tie.Need-element-copy-out-row Inv-loop μ-loop
-element-copy-out-row c = let s = c .before .before .before in omega (arith, s .pre .0 .stations, s .pre .1 .stations)
+element-copy-out-offset : tie.Need-element-copy-out-offset Inv-loop μ-loop
+element-copy-out-offset c = let s = c .before .before .before in omega (arith, s .pre .0 .stations, s .pre .1 .stations)
 
 mul-inside : tie.Need-mul-inside Inv-loop μ-loop
 mul-inside c = let s = c .before .before .before .before in omega (arith, s .pre .0 .stations, s .pre .1 .stations)
@@ -45,7 +45,7 @@ directions-kept-requires c κs = let t = c .before .before in
     let s = h .before .before in
     let y = s .pre .1 in
     let p : h .loop .s < stationsOf (now (s .args .case)) = rw (← y .stations) (t .loop-test .taken) in
-    rw (y .rows .each (h .loop .s) p) (s .pre .2 .each (h .loop .s) p)
+    rw (y .offsets .each (h .loop .s) p) (s .pre .2 .each (h .loop .s) p)
 
 returns : tie.Need-returns Inv-loop μ-loop
 returns c = let b = c .before in
@@ -56,7 +56,7 @@ returns c = let b = c .before in
     let y = s .pre .1 in
     let i = h .loop .s in
     let p : i < stationsOf l = rw (← y .stations) (t .loop-test .taken) in
-    let q = directions-asked l i (getD (s .args .t2 .rows) i 0) (toZ w64 (ofZ w64 (getD (s .args .t2 .inside) i (pos 0)))) (toZ w64 (ofZ w64 (s .args .t2 .plain))) (y .rows .each i p) (kept _ (b .before .inside .given) ∙ y .inside .each i p) (kept _ (h .before .struct-told .given .1 .1 .1 .1 .1 .1 .0 .1) ∙ y .plain) (b .directions-kept .ensures) (not-true _ (c .if1 .taken)) in
+    let q = directions-asked l i (getD (s .args .t2 .offsets) i 0) (toZ w64 (ofZ w64 (getD (s .args .t2 .inside) i (pos 0)))) (toZ w64 (ofZ w64 (s .args .t2 .plain))) (y .offsets .each i p) (kept _ (b .before .inside .given) ∙ y .inside .each i p) (kept _ (h .before .struct-told .given .1 .1 .1 .1 .1 .1 .0 .1) ∙ y .plain) (b .directions-kept .ensures) (not-true _ (c .if1 .taken)) in
     sym (rest-no (directionSets l) i (s .args .t2 .stations) (h .loop .inv .1) (t .loop-test .taken) q refl)
 
 add-s : tie.Need-add-s Inv-loop μ-loop
@@ -74,7 +74,7 @@ loop-again c = let b = c .before in
     let y = s .pre .1 in
     let i = h .loop .s in
     let p : i < stationsOf l = rw (← y .stations) (t .loop-test .taken) in
-    let q = directions-asked l i (getD (s .args .t2 .rows) i 0) (toZ w64 (ofZ w64 (getD (s .args .t2 .inside) i (pos 0)))) (toZ w64 (ofZ w64 (s .args .t2 .plain))) (y .rows .each i p) (kept _ (b .before .inside .given) ∙ y .inside .each i p) (kept _ (h .before .struct-told .given .1 .1 .1 .1 .1 .1 .0 .1) ∙ y .plain) (b .directions-kept .ensures) (not-false _ (c .if1 .left)) in
+    let q = directions-asked l i (getD (s .args .t2 .offsets) i 0) (toZ w64 (ofZ w64 (getD (s .args .t2 .inside) i (pos 0)))) (toZ w64 (ofZ w64 (s .args .t2 .plain))) (y .offsets .each i p) (kept _ (b .before .inside .given) ∙ y .inside .each i p) (kept _ (h .before .struct-told .given .1 .1 .1 .1 .1 .1 .0 .1) ∙ y .plain) (b .directions-kept .ensures) (not-false _ (c .if1 .left)) in
     (omega arith, rest-on (directionSets l) i (s .args .t2 .stations) (h .loop .inv .1) (t .loop-test .taken) q refl)
 
 returns-2 : tie.Need-returns-2 Inv-loop μ-loop
@@ -89,8 +89,8 @@ direction-sets-spec =
     Inv-loop
     μ-loop
     loop-holds
-    mul-row
-    element-copy-out-row
+    mul-offset
+    element-copy-out-offset
     mul-inside
     element-copy-out-inside
     directions-kept-requires

@@ -21,13 +21,13 @@ use Rattle.case.proofs.rules.directions_kept.Tie as tie
 
 -- what the code finds of direction f
 abbrev found : List ℤ → ℕ → ℤ → ℤ → ℕ → Bool
-found l row inside plain f = setsKept (inBoth inside plain) (directionRow l row f)
+found l offset inside plain f = setsKept (inBoth inside plain) (directionRow l offset f)
 
 abbrev Inv-loop : tie.InvT-loop
-Inv-loop case row inside plain directions f₀ f = (f ≤ directions) × (every f (found case row (toZ w64 inside) (toZ w64 plain)) ≡ true)
+Inv-loop case offset inside plain directions f₀ f = (f ≤ directions) × (every f (found case offset (toZ w64 inside) (toZ w64 plain)) ≡ true)
 
 abbrev μ-loop : tie.MeasureT-loop
-μ-loop case row inside plain directions f₀ f = directions - f
+μ-loop case offset inside plain directions f₀ f = directions - f
 
 station-requires : tie.Need-station-requires Inv-loop μ-loop
 station-requires c κs = search needs
@@ -48,7 +48,7 @@ returns c = let b = c .before in
     let f = h .before .before .fits in
     let l = now (a .case) in
     let d = ap (λ (x : Station). x .directions) (h .before .station .ensures) in
-    let k = found l (a .row) (toZ w64 (ofZ w64 (a .inside))) (toZ w64 (ofZ w64 (a .plain))) in
+    let k = found l (a .offset) (toZ w64 (ofZ w64 (a .inside))) (toZ w64 (ofZ w64 (a .plain))) in
     let e : k (h .loop .f) ≡ false = sym (b .direction-kept .ensures) ∙ not-true _ (c .if1 .taken) in
     let r = every-not (h .before .station .result .directions) k (h .loop .f) (t .loop-test .taken) e in
     rw (← d) (sym (simp (toZ-ofZ (f .inside), toZ-ofZ (f .plain)) at r))
@@ -65,7 +65,7 @@ loop-again c = let b = c .before in
     let h = t .before in
     let a = h .before .before .args in
     let l = now (a .case) in
-    let k = found l (a .row) (toZ w64 (ofZ w64 (a .inside))) (toZ w64 (ofZ w64 (a .plain))) in
+    let k = found l (a .offset) (toZ w64 (ofZ w64 (a .inside))) (toZ w64 (ofZ w64 (a .plain))) in
     (omega arith, every-more (h .loop .f) k (h .loop .inv .1) (sym (b .direction-kept .ensures) ∙ not-false _ (c .if1 .left)))
 
 returns-2 : tie.Need-returns-2 Inv-loop μ-loop

@@ -31,11 +31,11 @@ unfolding startKept
 returns c = let d = c .before .before .before .before .before in
     let s = d .before .before in
     let l = now (s .args .case) in
-    let q = stationRow l (s .args .row) in
-    let r = stateRow l (s .args .row) (q .state) in
+    let q = stationRow l (s .args .offset) in
+    let r = stateRow l (s .args .offset) (q .state) in
     let v = toZ-ofZ (s .fits .active) in
     let t = c .before .before .before .before .struct-told .given in
-    let m : d .state .result ≡ r = d .state .ensures ∙ ap (λ (x : Station). stateRow l (s .args .row) (x .state)) (d .before .station .ensures) in
+    let m : d .state .result ≡ r = d .state .ensures ∙ ap (λ (x : Station). stateRow l (s .args .offset) (x .state)) (d .before .station .ensures) in
     let n : toZ w64 (ofZ w64 (d .state .result .on)) ≡ r .on = kept _ (t .1 .0 .1) ∙ ap (λ (x : State). x .on) m in
     let x : toZ w64 (ofZ w64 (d .state .result .off)) ≡ r .off = kept _ (t .1 .1 .0 .1) ∙ ap (λ (x : State). x .off) m in
     let e : subsetOf (r .on) (s .args .active) ≡ true = simp (n, v) at (sym (c .before .before .subset .ensures) ∙ c .before .if1 .taken) in
@@ -46,11 +46,11 @@ unfolding startKept
 returns-2 c = let d = c .before .before .before .before in
     let s = d .before .before in
     let l = now (s .args .case) in
-    let q = stationRow l (s .args .row) in
-    let r = stateRow l (s .args .row) (q .state) in
+    let q = stationRow l (s .args .offset) in
+    let r = stateRow l (s .args .offset) (q .state) in
     let v = toZ-ofZ (s .fits .active) in
     let t = c .before .before .before .struct-told .given in
-    let m : d .state .result ≡ r = d .state .ensures ∙ ap (λ (x : Station). stateRow l (s .args .row) (x .state)) (d .before .station .ensures) in
+    let m : d .state .result ≡ r = d .state .ensures ∙ ap (λ (x : Station). stateRow l (s .args .offset) (x .state)) (d .before .station .ensures) in
     let n : toZ w64 (ofZ w64 (d .state .result .on)) ≡ r .on = kept _ (t .1 .0 .1) ∙ ap (λ (x : State). x .on) m in
     let x : toZ w64 (ofZ w64 (d .state .result .off)) ≡ r .off = kept _ (t .1 .1 .0 .1) ∙ ap (λ (x : State). x .off) m in
     let e : subsetOf (r .on) (s .args .active) ≡ false = simp (n, v) at (sym (c .before .subset .ensures) ∙ c .if1 .left) in

@@ -30,7 +30,7 @@ unfolding stateKept
 returns c = let d = c .before .before .before .before .before .before .before in
     let s = d .before in
     let l = now (s .args .case) in
-    let r = stateRow l (s .args .row) (s .args .z) in
+    let r = stateRow l (s .args .offset) (s .args .z) in
     let o = toZ-ofZ (s .fits .own) in
     let t = c .before .before .before .before .before .before .struct-told .given in
     let n : toZ w64 (ofZ w64 (d .state .result .on)) ≡ r .on = kept _ (t .1 .0 .1) ∙ ap (λ (x : State). x .on) (d .state .ensures) in
@@ -44,7 +44,7 @@ unfolding stateKept
 returns-2 c = let d = c .before .before .before .before .before .before in
     let s = d .before in
     let l = now (s .args .case) in
-    let r = stateRow l (s .args .row) (s .args .z) in
+    let r = stateRow l (s .args .offset) (s .args .z) in
     let o = toZ-ofZ (s .fits .own) in
     let t = c .before .before .before .before .before .struct-told .given in
     let n : toZ w64 (ofZ w64 (d .state .result .on)) ≡ r .on = kept _ (t .1 .0 .1) ∙ ap (λ (x : State). x .on) (d .state .ensures) in
@@ -58,7 +58,7 @@ unfolding stateKept
 returns-3 c = let d = c .before .before .before .before in
     let s = d .before in
     let l = now (s .args .case) in
-    let r = stateRow l (s .args .row) (s .args .z) in
+    let r = stateRow l (s .args .offset) (s .args .z) in
     let o = toZ-ofZ (s .fits .own) in
     let t = c .before .before .before .struct-told .given in
     let n : toZ w64 (ofZ w64 (d .state .result .on)) ≡ r .on = kept _ (t .1 .0 .1) ∙ ap (λ (x : State). x .on) (d .state .ensures) in

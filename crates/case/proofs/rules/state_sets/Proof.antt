@@ -21,11 +21,11 @@ loop-holds : tie.Need-loop-holds Inv-loop μ-loop
 unfolding allStateSets
 loop-holds c = (omega arith, let e : c .args .t2 .stations - 0 ≡ stationsOf (now (c .args .case)) = omega (arith, c .pre .1 .stations) in rw e)
 
-mul-row : tie.Need-mul-row Inv-loop μ-loop
-mul-row c = let s = c .before .before in omega (arith, s .pre .0 .stations, s .pre .1 .stations)
+mul-offset : tie.Need-mul-offset Inv-loop μ-loop
+mul-offset c = let s = c .before .before in omega (arith, s .pre .0 .stations, s .pre .1 .stations)
 
-element-copy-out-row : tie.Need-element-copy-out-row Inv-loop μ-loop
-element-copy-out-row c = let s = c .before .before in omega (arith, s .pre .0 .stations, s .pre .1 .stations)
+element-copy-out-offset : tie.Need-element-copy-out-offset Inv-loop μ-loop
+element-copy-out-offset c = let s = c .before .before in omega (arith, s .pre .0 .stations, s .pre .1 .stations)
 
 station-kept-requires : tie.Need-station-kept-requires Inv-loop μ-loop
 station-kept-requires c κs = let t = c .before in
@@ -34,7 +34,7 @@ station-kept-requires c κs = let t = c .before in
     let y = s .pre .1 in
     let i = h .loop .s in
     let p : i < stationsOf (now (s .args .case)) = rw (← y .stations) (t .loop-test .taken) in
-    (y .rows .each i p, y .arcs, s .pre .2 .each i p, rw (y .rows .each i p) (s .pre .3 .each i p))
+    (y .offsets .each i p, y .arcs, s .pre .2 .each i p, rw (y .offsets .each i p) (s .pre .3 .each i p))
 
 returns : tie.Need-returns Inv-loop μ-loop
 returns c = let b = c .before in
@@ -74,8 +74,8 @@ state-sets-spec =
     Inv-loop
     μ-loop
     loop-holds
-    mul-row
-    element-copy-out-row
+    mul-offset
+    element-copy-out-offset
     station-kept-requires
     returns
     add-s

@@ -16,10 +16,10 @@ use Rattle.case.proofs.rules.states_kept.Statement.{statement}
 use Rattle.case.proofs.rules.states_kept.Tie as tie
 
 abbrev Inv-loop : tie.InvT-loop
-Inv-loop case row own states z₀ z = (z ≤ states) × (every z (stateKept case row (toZ w64 own)) ≡ true)
+Inv-loop case offset own states z₀ z = (z ≤ states) × (every z (stateKept case offset (toZ w64 own)) ≡ true)
 
 abbrev μ-loop : tie.MeasureT-loop
-μ-loop case row own states z₀ z = states - z
+μ-loop case offset own states z₀ z = states - z
 
 station-requires : tie.Need-station-requires Inv-loop μ-loop
 station-requires c κs = search needs
@@ -38,7 +38,7 @@ returns c = let b = c .before in
     let f = h .before .before .fits in
     let l = now (a .case) in
     let d = ap (λ (x : Station). x .states) (h .before .station .ensures) in
-    let r = every-not (h .before .station .result .states) (stateKept l (a .row) (toZ w64 (ofZ w64 (a .own)))) (h .loop .z) (t .loop-test .taken) (sym (b .state-kept .ensures) ∙ not-true _ (c .if1 .taken)) in
+    let r = every-not (h .before .station .result .states) (stateKept l (a .offset) (toZ w64 (ofZ w64 (a .own)))) (h .loop .z) (t .loop-test .taken) (sym (b .state-kept .ensures) ∙ not-true _ (c .if1 .taken)) in
     rw (← d) (sym (simp (toZ-ofZ (f .own)) at r))
 
 add-z : tie.Need-add-z Inv-loop μ-loop
@@ -53,7 +53,7 @@ loop-again c = let b = c .before in
     let h = t .before in
     let a = h .before .before .args in
     let l = now (a .case) in
-    (omega arith, every-more (h .loop .z) (stateKept l (a .row) (toZ w64 (ofZ w64 (a .own)))) (h .loop .inv .1) (sym (b .state-kept .ensures) ∙ not-false _ (c .if1 .left)))
+    (omega arith, every-more (h .loop .z) (stateKept l (a .offset) (toZ w64 (ofZ w64 (a .own)))) (h .loop .inv .1) (sym (b .state-kept .ensures) ∙ not-false _ (c .if1 .left)))
 
 returns-2 : tie.Need-returns-2 Inv-loop μ-loop
 returns-2 c = let h = c .before in

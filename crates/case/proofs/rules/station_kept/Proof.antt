@@ -51,13 +51,13 @@ returns c = let x = c .before .before .before .before .before in
     let s = j .before in
     let l = now (s .args .case) in
     let i = s .args .s in
-    let row = s .pre .0 in
+    let offset = s .pre .0 in
     let own : toZ w64 (ofZ w64 (k .first-items .result)) ≡ firstItems (stationArcs l i) = kept _ (k .first-items .ok) ∙ k .first-items .ensures ∙ ap firstItems (j .station-arcs .ensures ∙ ap (arcsBefore l i) (s .pre .1)) in
-    let machines : toZ w64 (ofZ w64 (m .first-items2 .result)) ≡ firstItems (stationOf l i .machines) = kept _ (m .first-items2 .ok) ∙ m .first-items2 .ensures ∙ ap firstItems (ap (λ (x : Station). x .machines) (n .station .ensures) ∙ ap (λ (r : ℕ). stationRow l r .machines) row) in
+    let machines : toZ w64 (ofZ w64 (m .first-items2 .result)) ≡ firstItems (stationOf l i .machines) = kept _ (m .first-items2 .ok) ∙ m .first-items2 .ensures ∙ ap firstItems (ap (λ (x : Station). x .machines) (n .station .ensures) ∙ ap (λ (r : ℕ). stationRow l r .machines) offset) in
     let active : toZ w64 (ofZ w64 (x .start-set .result)) ≡ startSet l i = kept _ (x .start-set .ok) ∙ x .start-set .ensures ∙ ap (λ (a : ℕ). pos (arcSet l i (activeAtStart l) a)) (s .pre .1) in
-    let e : every (stationOf l i .states) (stateKept l (stationAt l i) (firstItems (stationArcs l i))) ≡ true = simp (own, row) at (sym (c .before .before .before .before .states-kept .ensures) ∙ c .before .before .before .if1 .taken) in
+    let e : every (stationOf l i .states) (stateKept l (stationAt l i) (firstItems (stationArcs l i))) ≡ true = simp (own, offset) at (sym (c .before .before .before .before .states-kept .ensures) ∙ c .before .before .before .if1 .taken) in
     let f : every (arcsOf l) (machinesKept l i (firstItems (stationOf l i .machines))) ≡ true = simp (machines, s .pre .1) at (sym (c .before .before .machines-kept .ensures) ∙ c .before .if2 .taken) in
-    rw (e, f) (simp (active, row) at (c .start-kept .ensures))
+    rw (e, f) (simp (active, offset) at (c .start-kept .ensures))
 
 returns-2 : tie.Need-returns-2
 unfolding stationKept
@@ -69,11 +69,11 @@ returns-2 c = let x = c .before .before .before .before in
     let s = j .before in
     let l = now (s .args .case) in
     let i = s .args .s in
-    let row = s .pre .0 in
+    let offset = s .pre .0 in
     let own : toZ w64 (ofZ w64 (k .first-items .result)) ≡ firstItems (stationArcs l i) = kept _ (k .first-items .ok) ∙ k .first-items .ensures ∙ ap firstItems (j .station-arcs .ensures ∙ ap (arcsBefore l i) (s .pre .1)) in
-    let machines : toZ w64 (ofZ w64 (m .first-items2 .result)) ≡ firstItems (stationOf l i .machines) = kept _ (m .first-items2 .ok) ∙ m .first-items2 .ensures ∙ ap firstItems (ap (λ (x : Station). x .machines) (n .station .ensures) ∙ ap (λ (r : ℕ). stationRow l r .machines) row) in
+    let machines : toZ w64 (ofZ w64 (m .first-items2 .result)) ≡ firstItems (stationOf l i .machines) = kept _ (m .first-items2 .ok) ∙ m .first-items2 .ensures ∙ ap firstItems (ap (λ (x : Station). x .machines) (n .station .ensures) ∙ ap (λ (r : ℕ). stationRow l r .machines) offset) in
     let active : toZ w64 (ofZ w64 (x .start-set .result)) ≡ startSet l i = kept _ (x .start-set .ok) ∙ x .start-set .ensures ∙ ap (λ (a : ℕ). pos (arcSet l i (activeAtStart l) a)) (s .pre .1) in
-    let e : every (stationOf l i .states) (stateKept l (stationAt l i) (firstItems (stationArcs l i))) ≡ true = simp (own, row) at (sym (c .before .before .before .states-kept .ensures) ∙ c .before .before .if1 .taken) in
+    let e : every (stationOf l i .states) (stateKept l (stationAt l i) (firstItems (stationArcs l i))) ≡ true = simp (own, offset) at (sym (c .before .before .before .states-kept .ensures) ∙ c .before .before .if1 .taken) in
     let f : every (arcsOf l) (machinesKept l i (firstItems (stationOf l i .machines))) ≡ false = simp (machines, s .pre .1) at (sym (c .before .machines-kept .ensures) ∙ c .if2 .left) in
     rw (e, f)
 
@@ -87,11 +87,11 @@ returns-3 c = let x = c .before .before in
     let s = j .before in
     let l = now (s .args .case) in
     let i = s .args .s in
-    let row = s .pre .0 in
+    let offset = s .pre .0 in
     let own : toZ w64 (ofZ w64 (k .first-items .result)) ≡ firstItems (stationArcs l i) = kept _ (k .first-items .ok) ∙ k .first-items .ensures ∙ ap firstItems (j .station-arcs .ensures ∙ ap (arcsBefore l i) (s .pre .1)) in
-    let machines : toZ w64 (ofZ w64 (m .first-items2 .result)) ≡ firstItems (stationOf l i .machines) = kept _ (m .first-items2 .ok) ∙ m .first-items2 .ensures ∙ ap firstItems (ap (λ (x : Station). x .machines) (n .station .ensures) ∙ ap (λ (r : ℕ). stationRow l r .machines) row) in
+    let machines : toZ w64 (ofZ w64 (m .first-items2 .result)) ≡ firstItems (stationOf l i .machines) = kept _ (m .first-items2 .ok) ∙ m .first-items2 .ensures ∙ ap firstItems (ap (λ (x : Station). x .machines) (n .station .ensures) ∙ ap (λ (r : ℕ). stationRow l r .machines) offset) in
     let active : toZ w64 (ofZ w64 (x .start-set .result)) ≡ startSet l i = kept _ (x .start-set .ok) ∙ x .start-set .ensures ∙ ap (λ (a : ℕ). pos (arcSet l i (activeAtStart l) a)) (s .pre .1) in
-    let e : every (stationOf l i .states) (stateKept l (stationAt l i) (firstItems (stationArcs l i))) ≡ false = simp (own, row) at (sym (c .before .states-kept .ensures) ∙ c .if1 .left) in
+    let e : every (stationOf l i .states) (stateKept l (stationAt l i) (firstItems (stationArcs l i))) ≡ false = simp (own, offset) at (sym (c .before .states-kept .ensures) ∙ c .if1 .left) in
     rw e
 
 pub station-kept-spec : {M : Type 1} → statement M

@@ -14,10 +14,10 @@ use Rattle.case.proofs.stations.direction_rows.Statement.{statement}
 use Rattle.case.proofs.stations.direction_rows.Tie as tie
 
 abbrev Inv-loop : tie.InvT-loop
-Inv-loop case row directions f₀ f = (f ≤ directions) × (firstNo (over (directionFields case (row)) 0 directions) ≡ rest (directionFields case (row)) f directions)
+Inv-loop case offset directions f₀ f = (f ≤ directions) × (firstNo (over (directionFields case (offset)) 0 directions) ≡ rest (directionFields case (offset)) f directions)
 
 abbrev μ-loop : tie.MeasureT-loop
-μ-loop case row directions f₀ f = directions - f
+μ-loop case offset directions f₀ f = directions - f
 
 loop-holds : tie.Need-loop-holds Inv-loop μ-loop
 loop-holds c = (omega arith, let e : c .args .directions - 0 ≡ c .args .directions = omega arith in rw e)
@@ -57,8 +57,8 @@ returns c = let b = c .before .before in
     let s = h .before in
     let a = s .args in
     let l = now (a .case) in
-    let q : b .or-else .result ≡ firstNo (directionFields l (a .row) (h .loop .f)) = rw firstNo-append (chain (b .or-else .ensures) (b .before .before .fields .ensures) (b .before .field .ensures)) in
-    sym (rest-no (directionFields l (a .row)) (h .loop .f) (a .directions) (h .loop .inv .1) (t .loop-test .taken) q (c .enum-told2 .given .1))
+    let q : b .or-else .result ≡ firstNo (directionFields l (a .offset) (h .loop .f)) = rw firstNo-append (chain (b .or-else .ensures) (b .before .before .fields .ensures) (b .before .field .ensures)) in
+    sym (rest-no (directionFields l (a .offset)) (h .loop .f) (a .directions) (h .loop .inv .1) (t .loop-test .taken) q (c .enum-told2 .given .1))
 
 add-f : tie.Need-add-f Inv-loop μ-loop
 add-f c = omega arith
@@ -74,14 +74,14 @@ loop-again c = let b = c .before .before in
     let s = h .before in
     let a = s .args in
     let l = now (a .case) in
-    let q : b .or-else .result ≡ firstNo (directionFields l (a .row) (h .loop .f)) = rw firstNo-append (chain (b .or-else .ensures) (b .before .before .fields .ensures) (b .before .field .ensures)) in
-    (omega arith, rest-on (directionFields l (a .row)) (h .loop .f) (a .directions) (h .loop .inv .1) (t .loop-test .taken) q (c .enum-told .given .1))
+    let q : b .or-else .result ≡ firstNo (directionFields l (a .offset) (h .loop .f)) = rw firstNo-append (chain (b .or-else .ensures) (b .before .before .fields .ensures) (b .before .field .ensures)) in
+    (omega arith, rest-on (directionFields l (a .offset)) (h .loop .f) (a .directions) (h .loop .inv .1) (t .loop-test .taken) q (c .enum-told .given .1))
 
 returns-2 : tie.Need-returns-2 Inv-loop μ-loop
 returns-2 c = let h = c .before in
     let a = h .before .args in
     let l = now (a .case) in
-    sym (rest-end (directionFields l (a .row)) (h .loop .f) (a .directions) (h .loop .inv .1) (c .loop-test .left))
+    sym (rest-end (directionFields l (a .offset)) (h .loop .f) (a .directions) (h .loop .inv .1) (c .loop-test .left))
 
 pub direction-rows-spec : {M : Type 1} → statement M
 direction-rows-spec =

@@ -14,10 +14,10 @@ use Rattle.case.proofs.stations.machine_rows.Statement.{statement}
 use Rattle.case.proofs.stations.machine_rows.Tie as tie
 
 abbrev Inv-loop : tie.InvT-loop
-Inv-loop case row first machines m₀ m = (m ≤ machines) × (firstNo (over (machineFields case (row)) 0 machines) ≡ rest (machineFields case (row)) m machines)
+Inv-loop case offset first machines m₀ m = (m ≤ machines) × (firstNo (over (machineFields case (offset)) 0 machines) ≡ rest (machineFields case (offset)) m machines)
 
 abbrev μ-loop : tie.MeasureT-loop
-μ-loop case row first machines m₀ m = machines - m
+μ-loop case offset first machines m₀ m = machines - m
 
 loop-holds : tie.Need-loop-holds Inv-loop μ-loop
 loop-holds c = (omega arith, let e : c .args .machines - 0 ≡ c .args .machines = omega arith in rw e)
@@ -54,8 +54,8 @@ returns c = let b = c .before .before in
     let s = h .before in
     let a = s .args in
     let l = now (a .case) in
-    let q : b .or-else .result ≡ firstNo (machineFields l (a .row) (h .loop .m)) = rw (← machine-row l (a .row) (h .loop .m) (s .pre .1), firstNo-append) (chain (b .or-else .ensures) (b .before .before .field .ensures) (b .before .field2 .ensures)) in
-    sym (rest-no (machineFields l (a .row)) (h .loop .m) (a .machines) (h .loop .inv .1) (t .loop-test .taken) q (c .enum-told2 .given .1))
+    let q : b .or-else .result ≡ firstNo (machineFields l (a .offset) (h .loop .m)) = rw (← machine-row l (a .offset) (h .loop .m) (s .pre .1), firstNo-append) (chain (b .or-else .ensures) (b .before .before .field .ensures) (b .before .field2 .ensures)) in
+    sym (rest-no (machineFields l (a .offset)) (h .loop .m) (a .machines) (h .loop .inv .1) (t .loop-test .taken) q (c .enum-told2 .given .1))
 
 add-m : tie.Need-add-m Inv-loop μ-loop
 add-m c = omega arith
@@ -71,14 +71,14 @@ loop-again c = let b = c .before .before in
     let s = h .before in
     let a = s .args in
     let l = now (a .case) in
-    let q : b .or-else .result ≡ firstNo (machineFields l (a .row) (h .loop .m)) = rw (← machine-row l (a .row) (h .loop .m) (s .pre .1), firstNo-append) (chain (b .or-else .ensures) (b .before .before .field .ensures) (b .before .field2 .ensures)) in
-    (omega arith, rest-on (machineFields l (a .row)) (h .loop .m) (a .machines) (h .loop .inv .1) (t .loop-test .taken) q (c .enum-told .given .1))
+    let q : b .or-else .result ≡ firstNo (machineFields l (a .offset) (h .loop .m)) = rw (← machine-row l (a .offset) (h .loop .m) (s .pre .1), firstNo-append) (chain (b .or-else .ensures) (b .before .before .field .ensures) (b .before .field2 .ensures)) in
+    (omega arith, rest-on (machineFields l (a .offset)) (h .loop .m) (a .machines) (h .loop .inv .1) (t .loop-test .taken) q (c .enum-told .given .1))
 
 returns-2 : tie.Need-returns-2 Inv-loop μ-loop
 returns-2 c = let h = c .before in
     let a = h .before .args in
     let l = now (a .case) in
-    sym (rest-end (machineFields l (a .row)) (h .loop .m) (a .machines) (h .loop .inv .1) (c .loop-test .left))
+    sym (rest-end (machineFields l (a .offset)) (h .loop .m) (a .machines) (h .loop .inv .1) (c .loop-test .left))
 
 pub machine-rows-spec : {M : Type 1} → statement M
 machine-rows-spec =

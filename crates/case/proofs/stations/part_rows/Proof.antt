@@ -23,20 +23,20 @@ direction-rows-requires : tie.Need-direction-rows-requires
 direction-rows-requires c κs = let s = c .before .before .before in
     let p = s .pre .1 in
     let l = now (s .args .case) in
-    let row = s .args .row in
-    let d : c .before .before .count .result ≡ directionsAt l row = first-is row (c .before .before .count .ensures) in
-    let z : c .before .count2 .result ≡ statesAt l row = c .before .count2 .ensures .value in
-    let m : c .count3 .result ≡ machinesAt l row = c .count3 .ensures .value in
+    let offset = s .args .offset in
+    let d : c .before .before .count .result ≡ directionsAt l offset = first-is offset (c .before .before .count .ensures) in
+    let z : c .before .count2 .result ≡ statesAt l offset = c .before .count2 .ensures .value in
+    let m : c .count3 .result ≡ machinesAt l offset = c .count3 .ensures .value in
     (s .pre .0, omega arith)
 
 state-rows-requires : tie.Need-state-rows-requires
 state-rows-requires c κs = let s = c .before .before .before .before in
     let p = s .pre .1 in
     let l = now (s .args .case) in
-    let row = s .args .row in
-    let d : c .before .before .before .count .result ≡ directionsAt l row = first-is row (c .before .before .before .count .ensures) in
-    let z : c .before .before .count2 .result ≡ statesAt l row = c .before .before .count2 .ensures .value in
-    let m : c .before .count3 .result ≡ machinesAt l row = c .before .count3 .ensures .value in
+    let offset = s .args .offset in
+    let d : c .before .before .before .count .result ≡ directionsAt l offset = first-is offset (c .before .before .before .count .ensures) in
+    let z : c .before .before .count2 .result ≡ statesAt l offset = c .before .before .count2 .ensures .value in
+    let m : c .before .count3 .result ≡ machinesAt l offset = c .before .count3 .ensures .value in
     (s .pre .0, omega arith, d, omega arith)
 
 add-machine-rows : tie.Need-add-machine-rows
@@ -46,20 +46,20 @@ mul-machine-rows : tie.Need-mul-machine-rows
 mul-machine-rows c = let s = c .before .before .before .before .before in
     let p = s .pre .1 in
     let l = now (s .args .case) in
-    let row = s .args .row in
-    let d : c .before .before .before .before .count .result ≡ directionsAt l row = first-is row (c .before .before .before .before .count .ensures) in
-    let z : c .before .before .before .count2 .result ≡ statesAt l row = c .before .before .before .count2 .ensures .value in
-    let m : c .before .before .count3 .result ≡ machinesAt l row = c .before .before .count3 .ensures .value in
+    let offset = s .args .offset in
+    let d : c .before .before .before .before .count .result ≡ directionsAt l offset = first-is offset (c .before .before .before .before .count .ensures) in
+    let z : c .before .before .before .count2 .result ≡ statesAt l offset = c .before .before .before .count2 .ensures .value in
+    let m : c .before .before .count3 .result ≡ machinesAt l offset = c .before .before .count3 .ensures .value in
     omega arith
 
 add-machine-rows-2 : tie.Need-add-machine-rows-2
 add-machine-rows-2 c = let s = c .before .before .before .before .before in
     let p = s .pre .1 in
     let l = now (s .args .case) in
-    let row = s .args .row in
-    let d : c .before .before .before .before .count .result ≡ directionsAt l row = first-is row (c .before .before .before .before .count .ensures) in
-    let z : c .before .before .before .count2 .result ≡ statesAt l row = c .before .before .before .count2 .ensures .value in
-    let m : c .before .before .count3 .result ≡ machinesAt l row = c .before .before .count3 .ensures .value in
+    let offset = s .args .offset in
+    let d : c .before .before .before .before .count .result ≡ directionsAt l offset = first-is offset (c .before .before .before .before .count .ensures) in
+    let z : c .before .before .before .count2 .result ≡ statesAt l offset = c .before .before .before .count2 .ensures .value in
+    let m : c .before .before .count3 .result ≡ machinesAt l offset = c .before .before .count3 .ensures .value in
     omega arith
 
 mul-machine-rows-2 : tie.Need-mul-machine-rows-2
@@ -69,10 +69,10 @@ add-machine-rows-3 : tie.Need-add-machine-rows-3
 add-machine-rows-3 c = let s = c .before .before .before .before .before in
     let p = s .pre .1 in
     let l = now (s .args .case) in
-    let row = s .args .row in
-    let d : c .before .before .before .before .count .result ≡ directionsAt l row = first-is row (c .before .before .before .before .count .ensures) in
-    let z : c .before .before .before .count2 .result ≡ statesAt l row = c .before .before .before .count2 .ensures .value in
-    let m : c .before .before .count3 .result ≡ machinesAt l row = c .before .before .count3 .ensures .value in
+    let offset = s .args .offset in
+    let d : c .before .before .before .before .count .result ≡ directionsAt l offset = first-is offset (c .before .before .before .before .count .ensures) in
+    let z : c .before .before .before .count2 .result ≡ statesAt l offset = c .before .before .before .count2 .ensures .value in
+    let m : c .before .before .count3 .result ≡ machinesAt l offset = c .before .before .count3 .ensures .value in
     omega arith
 
 machine-rows-requires : tie.Need-machine-rows-requires
@@ -80,10 +80,10 @@ unfolding machineAt stateAt directionAt
 machine-rows-requires c κs = let s = c .before .before .before .before .before in
     let p = s .pre .1 in
     let l = now (s .args .case) in
-    let row = s .args .row in
-    let d : c .before .before .before .before .count .result ≡ directionsAt l row = first-is row (c .before .before .before .before .count .ensures) in
-    let z : c .before .before .before .count2 .result ≡ statesAt l row = c .before .before .before .count2 .ensures .value in
-    let m : c .before .before .count3 .result ≡ machinesAt l row = c .before .before .count3 .ensures .value in
+    let offset = s .args .offset in
+    let d : c .before .before .before .before .count .result ≡ directionsAt l offset = first-is offset (c .before .before .before .before .count .ensures) in
+    let z : c .before .before .before .count2 .result ≡ statesAt l offset = c .before .before .before .count2 .ensures .value in
+    let m : c .before .before .count3 .result ≡ machinesAt l offset = c .before .before .count3 .ensures .value in
     (omega arith, omega arith, omega arith)
 
 or-else-requires : tie.Need-or-else-requires
@@ -97,10 +97,10 @@ unfolding partFields
 returns c = let s = c .before .before .before .before .before .before .before .before in
     let p = s .pre .1 in
     let l = now (s .args .case) in
-    let row = s .args .row in
-    let d : c .before .before .before .before .before .before .before .count .result ≡ directionsAt l row = first-is row (c .before .before .before .before .before .before .before .count .ensures) in
-    let z : c .before .before .before .before .before .before .count2 .result ≡ statesAt l row = c .before .before .before .before .before .before .count2 .ensures .value in
-    let m : c .before .before .before .before .before .count3 .result ≡ machinesAt l row = c .before .before .before .before .before .count3 .ensures .value in
+    let offset = s .args .offset in
+    let d : c .before .before .before .before .before .before .before .count .result ≡ directionsAt l offset = first-is offset (c .before .before .before .before .before .before .before .count .ensures) in
+    let z : c .before .before .before .before .before .before .count2 .result ≡ statesAt l offset = c .before .before .before .before .before .before .count2 .ensures .value in
+    let m : c .before .before .before .before .before .count3 .result ≡ machinesAt l offset = c .before .before .before .before .before .count3 .ensures .value in
     simp firstNo-append
     (chain (c .or-else2 .ensures) (simp d at (c .before .before .before .before .direction-rows .ensures))
     (chain (c .before .or-else .ensures) (simp z at (c .before .before .before .state-rows .ensures)) (simp m at (c .before .before .machine-rows .ensures))))

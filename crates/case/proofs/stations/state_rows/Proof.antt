@@ -16,10 +16,10 @@ use Rattle.case.proofs.stations.state_rows.Statement.{statement}
 use Rattle.case.proofs.stations.state_rows.Tie as tie
 
 abbrev Inv-loop : tie.InvT-loop
-Inv-loop case row directions states sets first z₀ z = (z ≤ states) × (firstNo (over (stateFields case (row)) 0 states) ≡ rest (stateFields case (row)) z states)
+Inv-loop case offset directions states sets first z₀ z = (z ≤ states) × (firstNo (over (stateFields case (offset)) 0 states) ≡ rest (stateFields case (offset)) z states)
 
 abbrev μ-loop : tie.MeasureT-loop
-μ-loop case row directions states sets first z₀ z = states - z
+μ-loop case offset directions states sets first z₀ z = states - z
 
 first-items-requires : tie.Need-first-items-requires Inv-loop μ-loop
 first-items-requires c κs = omega arith
@@ -59,10 +59,10 @@ returns c = let b = c .before .before in
     let s = h .before .before in
     let a = s .args in
     let l = now (a .case) in
-    let q : b .state-fields .result ≡ firstNo (stateFields l (a .row) (h .loop .z)) =
-    let y : toZ w64 (ofZ w64 (h .before .first-items .result)) ≡ firstItems (directionsAt l (a .row)) = kept _ (h .before .first-items .ok) ∙ h .before .first-items .ensures ∙ ap firstItems (s .pre .2) in
-    rw (← state-row l (a .row) (h .loop .z) (s .pre .2), ← y) (b .state-fields .ensures) in
-    sym (rest-no (stateFields l (a .row)) (h .loop .z) (a .states) (h .loop .inv .1) (t .loop-test .taken) q (c .enum-told2 .given .1))
+    let q : b .state-fields .result ≡ firstNo (stateFields l (a .offset) (h .loop .z)) =
+    let y : toZ w64 (ofZ w64 (h .before .first-items .result)) ≡ firstItems (directionsAt l (a .offset)) = kept _ (h .before .first-items .ok) ∙ h .before .first-items .ensures ∙ ap firstItems (s .pre .2) in
+    rw (← state-row l (a .offset) (h .loop .z) (s .pre .2), ← y) (b .state-fields .ensures) in
+    sym (rest-no (stateFields l (a .offset)) (h .loop .z) (a .states) (h .loop .inv .1) (t .loop-test .taken) q (c .enum-told2 .given .1))
 
 add-z : tie.Need-add-z Inv-loop μ-loop
 add-z c = omega arith
@@ -78,16 +78,16 @@ loop-again c = let b = c .before .before in
     let s = h .before .before in
     let a = s .args in
     let l = now (a .case) in
-    let q : b .state-fields .result ≡ firstNo (stateFields l (a .row) (h .loop .z)) =
-    let y : toZ w64 (ofZ w64 (h .before .first-items .result)) ≡ firstItems (directionsAt l (a .row)) = kept _ (h .before .first-items .ok) ∙ h .before .first-items .ensures ∙ ap firstItems (s .pre .2) in
-    rw (← state-row l (a .row) (h .loop .z) (s .pre .2), ← y) (b .state-fields .ensures) in
-    (omega arith, rest-on (stateFields l (a .row)) (h .loop .z) (a .states) (h .loop .inv .1) (t .loop-test .taken) q (c .enum-told .given .1))
+    let q : b .state-fields .result ≡ firstNo (stateFields l (a .offset) (h .loop .z)) =
+    let y : toZ w64 (ofZ w64 (h .before .first-items .result)) ≡ firstItems (directionsAt l (a .offset)) = kept _ (h .before .first-items .ok) ∙ h .before .first-items .ensures ∙ ap firstItems (s .pre .2) in
+    rw (← state-row l (a .offset) (h .loop .z) (s .pre .2), ← y) (b .state-fields .ensures) in
+    (omega arith, rest-on (stateFields l (a .offset)) (h .loop .z) (a .states) (h .loop .inv .1) (t .loop-test .taken) q (c .enum-told .given .1))
 
 returns-2 : tie.Need-returns-2 Inv-loop μ-loop
 returns-2 c = let h = c .before in
     let a = h .before .before .args in
     let l = now (a .case) in
-    sym (rest-end (stateFields l (a .row)) (h .loop .z) (a .states) (h .loop .inv .1) (c .loop-test .left))
+    sym (rest-end (stateFields l (a .offset)) (h .loop .z) (a .states) (h .loop .inv .1) (c .loop-test .left))
 
 pub state-rows-spec : {M : Type 1} → statement M
 state-rows-spec =

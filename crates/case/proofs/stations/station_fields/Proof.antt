@@ -14,7 +14,7 @@ enum-told : tie.Need-enum-told
 enum-told c = search needs
 
 part-rows-requires : tie.Need-part-rows-requires
-part-rows-requires c κs = let s = c .before .before .before in (s .pre, station-counted (now (s .args .case)) (s .args .row) (sym (c .before .before .station-head .ensures) ∙ c .enum-told .given .1))
+part-rows-requires c κs = let s = c .before .before .before in (s .pre, station-counted (now (s .args .case)) (s .args .offset) (sym (c .before .before .station-head .ensures) ∙ c .enum-told .given .1))
 
 enum-told-2 : tie.Need-enum-told-2
 enum-told-2 c = search needs
@@ -23,15 +23,15 @@ returns : tie.Need-returns
 unfolding rowFields
 returns c = let h = c .before .before .before in
     let l = now (h .before .args .case) in
-    let row = h .before .args .row in
-    went (stationHead l row) (partFields l row) (h .station-head .ensures) (c .before .enum-told .given .1) (c .part-rows .ensures)
+    let offset = h .before .args .offset in
+    went (stationHead l offset) (partFields l offset) (h .station-head .ensures) (c .before .enum-told .given .1) (c .part-rows .ensures)
 
 returns-2 : tie.Need-returns-2
 unfolding rowFields
 returns-2 c = let h = c .before .before in
     let l = now (h .before .args .case) in
-    let row = h .before .args .row in
-    stopped (stationHead l row) (partFields l row) (h .station-head .ensures) (c .enum-told2 .given .1)
+    let offset = h .before .args .offset in
+    stopped (stationHead l offset) (partFields l offset) (h .station-head .ensures) (c .enum-told2 .given .1)
 
 pub station-fields-spec : {M : Type 1} → statement M
 station-fields-spec =

@@ -15,10 +15,10 @@ use Rattle.case.proofs.stations.station_rows.Statement.{statement}
 use Rattle.case.proofs.stations.station_rows.Tie as tie
 
 abbrev Inv-loop : tie.InvT-loop
-Inv-loop case first stations row₀ s₀ row s = (s ≤ stations) × (row ≡ stationAt case s) × (row ≤ 5000 + 117 * s) × (firstNo (allStationFields case) ≡ rest (stationFields case) s stations)
+Inv-loop case first stations row₀ s₀ offset s = (s ≤ stations) × (offset ≡ stationAt case s) × (offset ≤ 5000 + 117 * s) × (firstNo (allStationFields case) ≡ rest (stationFields case) s stations)
 
 abbrev μ-loop : tie.MeasureT-loop
-μ-loop case first stations row₀ s₀ row s = stations - s
+μ-loop case first stations row₀ s₀ offset s = stations - s
 
 loop-holds : tie.Need-loop-holds Inv-loop μ-loop
 unfolding allStationFields
@@ -45,7 +45,7 @@ returns c = let b = c .before .before in
     stopped (allStationFields l) (leftover l) (sym (rest-no (stationFields l) i (s .args .stations) (h .loop .inv .3) (t .loop-test .taken) q (c .enum-told2 .given .1))) (c .enum-told2 .given .1)
 
 station-end-requires : tie.Need-station-end-requires Inv-loop μ-loop
-station-end-requires c κs = let b = c .before .before in let h = b .before .before in (omega arith, row-counted (now (h .before .args .case)) (h .loop .row) (sym (b .station-fields .ensures) ∙ c .enum-told .given .1))
+station-end-requires c κs = let b = c .before .before in let h = b .before .before in (omega arith, row-counted (now (h .before .args .case)) (h .loop .offset) (sym (b .station-fields .ensures) ∙ c .enum-told .given .1))
 
 add-s : tie.Need-add-s Inv-loop μ-loop
 add-s c = omega arith
@@ -63,10 +63,10 @@ loop-again c = let b = c .before .before .before in
     let i = h .loop .s in
     let q : b .station-fields .result ≡ firstNo (stationFields l i) = b .station-fields .ensures ∙ ap (λ (r : ℕ). firstNo (rowFields l r)) (h .loop .inv .1) in
     let y = c .before .enum-told .given .1 in
-    let k = row-counted l (h .loop .row) (sym (b .station-fields .ensures) ∙ y) in (
+    let k = row-counted l (h .loop .offset) (sym (b .station-fields .ensures) ∙ y) in (
       omega arith,
       c .station-end .ensures ∙ ap (stationEnd l) (h .loop .inv .1) ∙ sym (station-next l i),
-      omega (arith, c .station-end .ensures, end-most l (h .loop .row) k, h .loop .inv .2),
+      omega (arith, c .station-end .ensures, end-most l (h .loop .offset) k, h .loop .inv .2),
       rest-on (stationFields l) i (s .args .stations) (h .loop .inv .3) (t .loop-test .taken) q y,
     )
 
@@ -79,7 +79,7 @@ returns-2 c = let h = c .before .before in
     let s = h .before in
     let l = now (s .args .case) in
     let e : h .loop .s ≡ stationsOf l = omega (arith, s .pre .3, c .before .loop-test .left, h .loop .inv .0) in
-    let r : h .loop .row ≡ caseEnd l = h .loop .inv .1 ∙ ap (stationAt l) e in
+    let r : h .loop .offset ≡ caseEnd l = h .loop .inv .1 ∙ ap (stationAt l) e in
     went (allStationFields l) (leftover l) refl (rest-end (stationFields l) (h .loop .s) (s .args .stations) (h .loop .inv .3) (c .before .loop-test .left))
     (c .ask .ensures ∙ rw (r, orElse-yes))
 

@@ -9,8 +9,8 @@ use Rattle.plan.proofs.accepted.node_at.Statement.{statement}
 use Rattle.plan.proofs.accepted.node_at.Tie as tie
 
 -- how long the rows before the node's are
-rows : (c : tie.After-count) → c .before .args .v * (6 + c .count .result) ≤ 60 * 54
-rows c =
+offsets : (c : tie.After-count) → c .before .args .v * (6 + c .count .result) ≤ 60 * 54
+offsets c =
     let s = c .before in
     let n = counted (s .pre .0) in
     let k : c .count .result ≡ stepsOf (now (s .args .case)) = c .count .ensures in
@@ -26,10 +26,10 @@ add-result-2 : tie.Need-add-result-2
 add-result-2 c = let k : c .count .result ≡ stepsOf (now (c .before .args .case)) = c .count .ensures in omega (arith, k, counted (c .before .pre .0) .steps)
 
 mul-result : tie.Need-mul-result
-mul-result c = omega (arith, rows c)
+mul-result c = omega (arith, offsets c)
 
 add-result-3 : tie.Need-add-result-3
-add-result-3 c = let k : c .count .result ≡ stepsOf (now (c .before .args .case)) = c .count .ensures in omega (arith, k, counted (c .before .pre .0) .steps, rows c)
+add-result-3 c = let k : c .count .result ≡ stepsOf (now (c .before .args .case)) = c .count .ensures in omega (arith, k, counted (c .before .pre .0) .steps, offsets c)
 
 returns : tie.Need-returns
 unfolding nodeAt

@@ -27,17 +27,17 @@ pipe-answer-requires c κs =
     let s = o .before .before .before .before in
     let a = s .pre .0 in
     let case = now (s .args .case) in
-    let row = now (s .args .row) in
+    let rows = now (s .args .rows) in
     let i = s .args .i in
     let e = s .args .e in
-    let y = first-four (flowQuestions case row i e) (pressureQuestions case row i e) (pipeQuestions case (numberAt (now (s .args .old))) row i e) (o .before .before .flow-answer .ensures) (o .before .pressure-answer .ensures) (o .or-else .ensures) (c .enum-told .given .1) in
+    let y = first-four (flowQuestions case rows i e) (pressureQuestions case rows i e) (pipeQuestions case (numberAt (now (s .args .old))) rows i e) (o .before .before .flow-answer .ensures) (o .before .pressure-answer .ensures) (o .or-else .ensures) (c .enum-told .given .1) in
     record {
       accepted = a .at .accepted;
       step = a .at .step;
       arc = a .arc;
       before = s .pre .1;
       pressures = a .pressures;
-      flows = arc-sized case (numberAt (now (s .args .old))) row i (a .at .accepted) e (a .arc) y;
+      flows = arc-sized case (numberAt (now (s .args .old))) rows i (a .at .accepted) e (a .arc) y;
     }
 
 enum-told-2 : tie.Need-enum-told-2
@@ -49,10 +49,10 @@ returns c =
     let o = c .before .before .before in
     let s = o .before .before .before .before in
     let case = now (s .args .case) in
-    let row = now (s .args .row) in
+    let rows = now (s .args .rows) in
     let i = s .args .i in
     let e = s .args .e in
-    went-on (flowQuestions case row i e) (pressureQuestions case row i e) (pipeQuestions case (numberAt (now (s .args .old))) row i e) (o .before .before .flow-answer .ensures) (o .before .pressure-answer .ensures) (o .or-else .ensures) (c .before .enum-told .given .1) (c .pipe-answer .ensures)
+    went-on (flowQuestions case rows i e) (pressureQuestions case rows i e) (pipeQuestions case (numberAt (now (s .args .old))) rows i e) (o .before .before .flow-answer .ensures) (o .before .pressure-answer .ensures) (o .or-else .ensures) (c .before .enum-told .given .1) (c .pipe-answer .ensures)
 
 returns-2 : tie.Need-returns-2
 unfolding arcQuestions
@@ -60,10 +60,10 @@ returns-2 c =
     let o = c .before .before in
     let s = o .before .before .before .before in
     let case = now (s .args .case) in
-    let row = now (s .args .row) in
+    let rows = now (s .args .rows) in
     let i = s .args .i in
     let e = s .args .e in
-    stopped (flowQuestions case row i e) (pressureQuestions case row i e) (pipeQuestions case (numberAt (now (s .args .old))) row i e) (o .before .before .flow-answer .ensures) (o .before .pressure-answer .ensures) (o .or-else .ensures) (c .enum-told2 .given .1)
+    stopped (flowQuestions case rows i e) (pressureQuestions case rows i e) (pipeQuestions case (numberAt (now (s .args .old))) rows i e) (o .before .before .flow-answer .ensures) (o .before .pressure-answer .ensures) (o .or-else .ensures) (c .enum-told2 .given .1)
 
 pub arc-answer-spec : {M : Type 1} → statement M
 arc-answer-spec =

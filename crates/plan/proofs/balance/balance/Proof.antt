@@ -29,17 +29,17 @@ use Rattle.plan.proofs.balance.balance.Statement.{statement}
 use Rattle.plan.proofs.balance.balance.Tie as tie
 
 abbrev Inv-loop : tie.InvT-loop
-Inv-loop case row i nodes most net sum₀ v₀ sum v = (nodes ≤ 60) × Counting sum (nodeResidual case row i) 415584000000000 nodes v × (firstNo (allBalanceQuestions case row i) ≡ rest (balanceQuestions case row i) v nodes)
+Inv-loop case rows i nodes most net sum₀ v₀ sum v = (nodes ≤ 60) × Counting sum (nodeResidual case rows i) 415584000000000 nodes v × (firstNo (allBalanceQuestions case rows i) ≡ rest (balanceQuestions case rows i) v nodes)
 
 abbrev μ-loop : tie.MeasureT-loop
-μ-loop case row i nodes most net sum₀ v₀ sum v = nodes - v
+μ-loop case rows i nodes most net sum₀ v₀ sum v = nodes - v
 
 node-in : (c : tie.In-loop Inv-loop μ-loop) → c .before .loop .v < nodesOf (now (c .before .before .before .before .args .case))
 node-in c = rw (← (c .before .before .before .before .pre .0 .laid .nodes)) (c .loop-test .taken)
 
 -- the node with its net flow
 at-node : (c : tie.In-loop Inv-loop μ-loop) →
-    AtBalance (now (c .before .before .before .before .args .case)) (now (c .before .before .before .before .args .row)) (c .before .before .before .before .args .i) (c .before .loop .v)
+    AtBalance (now (c .before .before .before .before .args .case)) (now (c .before .before .before .before .args .rows)) (c .before .before .before .before .args .i) (c .before .loop .v)
     (toZ w64 (ofZ w64 (getD (c .before .before .net-flows .result) (c .before .loop .v) (pos 0))))
 at-node c =
     let h = c .before in
@@ -51,7 +51,7 @@ at-node c =
       step = s .pre .0 .step;
       node = p;
       flows = s .pre .1;
-      rows = s .pre .2;
+      node-rows = s .pre .2;
       is = (read (n .net-flows .ensures .each (h .loop .v) p) (net-sized (s .pre .1) (s .pre .0 .accepted) (h .loop .v)) tt) .val;
     }
 
@@ -89,13 +89,13 @@ at-most-requires c κs = search needs
 -- the node's question by the test
 question : (c : tie.After-at-most Inv-loop μ-loop) {w : Bool} → c .at-most .result ≡ w →
     answer w 33 (c .before .before .before .before .before .before .before .args .i + 1) (c .before .before .before .before .loop .v)
-    ≡ firstNo (balanceQuestions (now (c .before .before .before .before .before .before .before .args .case)) (now (c .before .before .before .before .before .before .before .args .row)) (c .before .before .before .before .before .before .before .args .i) (c .before .before .before .before .loop .v))
+    ≡ firstNo (balanceQuestions (now (c .before .before .before .before .before .before .before .args .case)) (now (c .before .before .before .before .before .before .before .args .rows)) (c .before .before .before .before .before .before .before .args .i) (c .before .before .before .before .loop .v))
 question c k =
     let d = c .before in
     let h = d .before .before .before in
     let m = h .before .before in
     let s = m .before in
-    balance-asked (now (s .args .case)) (now (s .args .row)) (s .args .i) (h .loop .v)
+    balance-asked (now (s .args .case)) (now (s .args .rows)) (s .args .i) (h .loop .v)
     (toZ-pos w64 (omega (arith, small d)) ∙ ap pos (d .node-residual .ensures))
     ((read (m .at .ensures) (mass-sized (s .pre .0 .accepted)) tt) .val)
     (c .at-most .ensures)
@@ -110,8 +110,8 @@ returns c =
     let t = b .before .before .before in
     let h = t .before in
     let s = h .before .before .before in
-    ap (λ (x : Answer). steppedBy x (nodeResiduals (now (s .args .case)) (now (s .args .row)) (s .args .i)))
-    (sym (rest-no (balanceQuestions (now (s .args .case)) (now (s .args .row)) (s .args .i)) (h .loop .v) (s .args .layout .nodes) (h .loop .inv .2) (t .loop-test .taken) (question b (not-true _ (c .if1 .taken))) refl))
+    ap (λ (x : Answer). steppedBy x (nodeResiduals (now (s .args .case)) (now (s .args .rows)) (s .args .i)))
+    (sym (rest-no (balanceQuestions (now (s .args .case)) (now (s .args .rows)) (s .args .i)) (h .loop .v) (s .args .layout .nodes) (h .loop .inv .2) (t .loop-test .taken) (question b (not-true _ (c .if1 .taken))) refl))
 
 add-sum : tie.Need-add-sum Inv-loop μ-loop
 add-sum c =
@@ -136,7 +136,7 @@ loop-again c =
     let d = b .before in (
       h .loop .inv .0,
       turnN (h .loop .inv .1) (d .node-residual .ensures) (small d) (t .loop-test .taken),
-      rest-on (balanceQuestions (now (s .args .case)) (now (s .args .row)) (s .args .i)) (h .loop .v) (s .args .layout .nodes) (h .loop .inv .2) (t .loop-test .taken) (question b (not-false _ (c .if1 .left))) refl,
+      rest-on (balanceQuestions (now (s .args .case)) (now (s .args .rows)) (s .args .i)) (h .loop .v) (s .args .layout .nodes) (h .loop .inv .2) (t .loop-test .taken) (question b (not-false _ (c .if1 .left))) refl,
     )
 
 returns-2 : tie.Need-returns-2 Inv-loop μ-loop
@@ -144,10 +144,10 @@ unfolding nodeResiduals
 returns-2 c =
     let h = c .before in
     let s = h .before .before .before in
-    let f = nodeResidual (now (s .args .case)) (now (s .args .row)) (s .args .i) in
+    let f = nodeResidual (now (s .args .case)) (now (s .args .rows)) (s .args .i) in
     let e = endN (h .loop .inv .1) (c .loop-test .left) ∙ ap (λ (n : ℕ). sumN n f) (s .pre .0 .laid .nodes) in
     ap Kept e
-    ∙ ap (λ (x : Answer). steppedBy x (sumN (nodesOf (now (s .args .case))) f)) (sym (rest-end (balanceQuestions (now (s .args .case)) (now (s .args .row)) (s .args .i)) (h .loop .v) (s .args .layout .nodes) (h .loop .inv .2) (c .loop-test .left)))
+    ∙ ap (λ (x : Answer). steppedBy x (sumN (nodesOf (now (s .args .case))) f)) (sym (rest-end (balanceQuestions (now (s .args .case)) (now (s .args .rows)) (s .args .i)) (h .loop .v) (s .args .layout .nodes) (h .loop .inv .2) (c .loop-test .left)))
 
 pub balance-spec : {M : Type 1} → statement M
 balance-spec =

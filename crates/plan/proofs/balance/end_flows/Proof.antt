@@ -17,10 +17,10 @@ use Rattle.plan.proofs.NetFlows.{read}
 use Rattle.plan.proofs.balance.end_flows.Statement.{statement}
 use Rattle.plan.proofs.balance.end_flows.Tie as tie
 
-a-is : (c : tie.After-arc-row) → Held (toZ w64 (ofZ w64 (c .arc-row .result .a))) (arcRow (now (c .before .args .case)) (now (c .before .args .row)) (c .before .args .e) .a) 10000000
+a-is : (c : tie.After-arc-row) → Held (toZ w64 (ofZ w64 (c .arc-row .result .a))) (arcRow (now (c .before .args .case)) (now (c .before .args .rows)) (c .before .args .e) .a) 10000000
 a-is c = let s = c .before in read (ap (λ (r : ArcRow). r .a) (c .arc-row .ensures)) (s .pre .2 .each (s .args .e) (s .pre .1) .a) tt
 
-b-is : (c : tie.After-arc-row) → Held (toZ w64 (ofZ w64 (c .arc-row .result .b))) (arcRow (now (c .before .args .case)) (now (c .before .args .row)) (c .before .args .e) .b) 10000000
+b-is : (c : tie.After-arc-row) → Held (toZ w64 (ofZ w64 (c .arc-row .result .b))) (arcRow (now (c .before .args .case)) (now (c .before .args .rows)) (c .before .args .e) .b) 10000000
 b-is c = let s = c .before in read (ap (λ (r : ArcRow). r .b) (c .arc-row .ensures)) (s .pre .2 .each (s .args .e) (s .pre .1) .b) tt
 
 arc-row-requires : tie.Need-arc-row-requires

@@ -18,23 +18,23 @@ use Rattle.plan.proofs.balance.net_flows.Statement.{statement}
 use Rattle.plan.proofs.balance.net_flows.Tie as tie
 
 abbrev Inv-loop : tie.InvT-loop
-Inv-loop case row arcs net₀ e₀ net e = (e ≤ arcs) × Gathers net (nodePart case row) e × (length net ≡ 60)
+Inv-loop case rows arcs net₀ e₀ net e = (e ≤ arcs) × Gathers net (nodePart case rows) e × (length net ≡ 60)
 
 abbrev μ-loop : tie.MeasureT-loop
-μ-loop case row arcs net₀ e₀ net e = arcs - e
+μ-loop case rows arcs net₀ e₀ net e = arcs - e
 
 -- an arc of the case
 arc-in : (c : tie.In-loop Inv-loop μ-loop) → c .before .loop .e < arcsOf (now (c .before .before .args .case))
 arc-in c = rw (← (c .before .before .pre .1)) (c .loop-test .taken)
 
-from-is : (c : tie.After-end-flows Inv-loop μ-loop) → Held (toZ w64 (ofZ w64 (c .end-flows .result .from))) (flowAtFrom (now (c .before .before .before .before .args .case)) (now (c .before .before .before .before .args .row)) (c .before .before .before .loop .e)) 20000000
+from-is : (c : tie.After-end-flows Inv-loop μ-loop) → Held (toZ w64 (ofZ w64 (c .end-flows .result .from))) (flowAtFrom (now (c .before .before .before .before .args .case)) (now (c .before .before .before .before .args .rows)) (c .before .before .before .loop .e)) 20000000
 from-is c = let t = c .before .before in read (c .end-flows .ensures .0) (from-sized (t .before .before .pre .2) (t .before .loop .e) (arc-in t)) tt
 
-to-is : (c : tie.After-end-flows Inv-loop μ-loop) → Held (toZ w64 (ofZ w64 (c .end-flows .result .to))) (flowAtTo (now (c .before .before .before .before .args .case)) (now (c .before .before .before .before .args .row)) (c .before .before .before .loop .e)) 20000000
+to-is : (c : tie.After-end-flows Inv-loop μ-loop) → Held (toZ w64 (ofZ w64 (c .end-flows .result .to))) (flowAtTo (now (c .before .before .before .before .args .case)) (now (c .before .before .before .before .args .rows)) (c .before .before .before .loop .e)) 20000000
 to-is c = let t = c .before .before in read (c .end-flows .ensures .1) (to-sized (t .before .before .pre .2) (t .before .loop .e) (arc-in t)) tt
 
 loop-holds : tie.Need-loop-holds Inv-loop μ-loop
-loop-holds c = (omega arith, gathers-none (nodePart (now (c .args .case)) (now (c .args .row))), refl)
+loop-holds c = (omega arith, gathers-none (nodePart (now (c .args .case)) (now (c .args .rows))), refl)
 
 arc-requires : tie.Need-arc-requires Inv-loop μ-loop
 arc-requires c κs = (c .before .before .pre .0, arc-in c)
@@ -80,7 +80,7 @@ loop-again c =
     let s = h .before in
     let e = h .loop .e in
     let l = now (s .args .case) in
-    let r = now (s .args .row) in
+    let r = now (s .args .rows) in
     let from = ap (λ (x : Arc). x .from) (a .arc .ensures) in
     let to = ap (λ (x : Arc). x .to) (a .arc .ensures) in (
       omega arith,
@@ -94,7 +94,7 @@ returns c =
     let h = c .before in
     let s = h .before in
     let l = now (s .args .case) in
-    let r = now (s .args .row) in
+    let r = now (s .args .rows) in
     let e : h .loop .e ≡ arcsOf l = omega (arith, s .pre .1, h .loop .inv .0, c .loop-test .left) in
     record { each = λ i p. h .loop .inv .1 .each i (omega (arith, p, counted (s .pre .0) .nodes)) ∙ ap (λ (n : ℕ). sum n (nodePart l r i)) e ∙ net-flow l r i }
 

@@ -22,12 +22,12 @@ time-is : (c : tie.After-duration) → Held (toZ w64 (ofZ w64 (c .duration .resu
 time-is c = let s = c .before in read (c .duration .ensures) (duration-sized (s .pre .accepted) (s .args .i) (s .pre .step)) tt
 
 -- "flow out - flow in - d"
-left-is : (c : tie.After-node-row) → Held (toZ w64 (ofZ w64 (c .before .before .before .args .net)) -ℤ toZ w64 (ofZ w64 (c .node-row .result .d))) (nodeImbalance (now (c .before .before .before .args .case)) (now (c .before .before .before .args .row)) (c .before .before .before .args .v)) 4810000000
+left-is : (c : tie.After-node-row) → Held (toZ w64 (ofZ w64 (c .before .before .before .args .net)) -ℤ toZ w64 (ofZ w64 (c .node-row .result .d))) (nodeImbalance (now (c .before .before .before .args .case)) (now (c .before .before .before .args .rows)) (c .before .before .before .args .v)) 4810000000
 unfolding nodeImbalance
 left-is c =
     let s = c .before .before .before in
     read (s .pre .is) (net-sized (s .pre .flows) (s .pre .accepted) (s .args .v)) tt
-    -ʳ read (ap (λ (r : NodeRow). r .d) (c .node-row .ensures)) (s .pre .rows .each (s .args .v) (s .pre .node) .d) tt
+    -ʳ read (ap (λ (r : NodeRow). r .d) (c .node-row .ensures)) (s .pre .node-rows .each (s .args .v) (s .pre .node) .d) tt
 
 duration-requires : tie.Need-duration-requires
 duration-requires c κs = search needs
@@ -48,7 +48,7 @@ size-requires-2 c κs = let h = held (left-is (c .before .before)) tt in rw (h .
 first-is : (c : tie.After-size) → c .size .result ≡ natAbs (duration (now (c .before .before .args .case)) (c .before .before .args .i))
 first-is c = c .size .ensures ∙ ap natAbs (time-is (c .before) .val)
 
-second-is : (c : tie.After-size2) → c .size2 .result ≡ natAbs (nodeImbalance (now (c .before .before .before .before .before .before .args .case)) (now (c .before .before .before .before .before .before .args .row)) (c .before .before .before .before .before .before .args .v))
+second-is : (c : tie.After-size2) → c .size2 .result ≡ natAbs (nodeImbalance (now (c .before .before .before .before .before .before .args .case)) (now (c .before .before .before .before .before .before .args .rows)) (c .before .before .before .before .before .before .args .v))
 second-is c = c .size2 .ensures ∙ ap natAbs ((held (left-is (c .before .before .before)) tt) .val)
 
 mul-result : tie.Need-mul-result

@@ -15,7 +15,7 @@ use Rattle.case.specs.law.Layout.{numberAt, stepsOf}
 use Rattle.plan.specs.law.Compared.{same}
 use Rattle.plan.specs.inside.VerdictLaws.{head-length, head-yes, head-second, head-first}
 use Rattle.case.specs.declared.records.Layout.{Layout}
-use Rattle.case.specs.law.LayoutOf.{Laid}
+use Rattle.case.specs.law.LayoutOf.{LayoutOf}
 use Rattle.plan.specs.inside.Preconditions.{AcceptedCase}
 use Rattle.plan.specs.inside.CaseSizes.{counted}
 use borrow.Author.Needs.{needs}
@@ -28,7 +28,7 @@ record Small (l : Layout) : Type 0 where
   width : l .nodes * 6 + l .arcs * 4 + l .stations * 2 ≤ 856
   all : l .steps * (l .nodes * 6 + l .arcs * 4 + l .stations * 2) ≤ 41088
 
-small : {case : List ℤ} (l : Layout) → AcceptedCase case → Laid case l → Small l
+small : {case : List ℤ} (l : Layout) → AcceptedCase case → LayoutOf case l → Small l
 small l a d =
     let k = counted a in
     let s : l .steps ≤ 48 = omega (arith, d .steps, k .steps) in

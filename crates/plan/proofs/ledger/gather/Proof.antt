@@ -25,42 +25,42 @@ pressures-at-requires c κs = (c .pre .laid, omega (arith, c .pre .order, c .pre
 loop-holds : tie.Need-loop-holds Inv-loop μ-loop
 loop-holds c = (c .before .pre .order, gathering (c .pressures-at .ensures))
 
-mul-first : tie.Need-mul-first Inv-loop μ-loop
-mul-first c =
+mul-offset : tie.Need-mul-offset Inv-loop μ-loop
+mul-offset c =
     let l = c .before in
     let s = l .before .before in
     let w = step-within (s .pre .laid .rules) (s .pre .laid .wide) (l .loop .i) (omega (arith, s .pre .last, c .loop-test .taken)) in
     omega arith
 
-add-first : tie.Need-add-first Inv-loop μ-loop
-add-first c =
+add-offset : tie.Need-add-offset Inv-loop μ-loop
+add-offset c =
     let l = c .before in
     let s = l .before .before in
     let w = step-within (s .pre .laid .rules) (s .pre .laid .wide) (l .loop .i) (omega (arith, s .pre .last, c .loop-test .taken)) in
     omega arith
 
-add-row : tie.Need-add-row Inv-loop μ-loop
-add-row c =
+add-rows : tie.Need-add-rows Inv-loop μ-loop
+add-rows c =
     let l = c .before in
     let s = l .before .before in
     let w = step-within (s .pre .laid .rules) (s .pre .laid .wide) (l .loop .i) (omega (arith, s .pre .last, c .loop-test .taken)) in
     omega arith
 
-mul-row : tie.Need-mul-row Inv-loop μ-loop
-mul-row c =
+mul-rows : tie.Need-mul-rows Inv-loop μ-loop
+mul-rows c =
     let l = c .before in
     let s = l .before .before in
     let w = step-within (s .pre .laid .rules) (s .pre .laid .wide) (l .loop .i) (omega (arith, s .pre .last, c .loop-test .taken)) in
     omega arith
 
-sub-row : tie.Need-sub-row Inv-loop μ-loop
-sub-row c = omega arith
+sub-rows : tie.Need-sub-rows Inv-loop μ-loop
+sub-rows c = omega arith
 
-part-row-start : tie.Need-part-row-start Inv-loop μ-loop
-part-row-start c = omega arith
+part-rows-start : tie.Need-part-rows-start Inv-loop μ-loop
+part-rows-start c = omega arith
 
-part-row-end : tie.Need-part-row-end Inv-loop μ-loop
-part-row-end c =
+part-rows-end : tie.Need-part-rows-end Inv-loop μ-loop
+part-rows-end c =
     let l = c .before in
     let s = l .before .before in
     let w = step-within (s .pre .laid .rules) (s .pre .laid .wide) (l .loop .i) (omega (arith, s .pre .last, c .loop-test .taken)) in
@@ -107,13 +107,13 @@ gather-spec =
     μ-loop
     pressures-at-requires
     loop-holds
-    mul-first
-    add-first
-    add-row
-    mul-row
-    sub-row
-    part-row-start
-    part-row-end
+    mul-offset
+    add-offset
+    add-rows
+    mul-rows
+    sub-rows
+    part-rows-start
+    part-rows-end
     with-step-requires
     add-i
     loop-less

@@ -13,29 +13,29 @@ start-pressures-requires c κs = let s = c .before in let k = counted (record { 
 returns : tie.Need-returns
 returns c = let s = c .before .before in pressures-first (now (s .args .case)) (now (s .args .plan)) (s .pre .0 .counted) (c .before .if1 .taken) (c .start-pressures .ensures)
 
-sub-first : tie.Need-sub-first
-sub-first c = omega arith
+sub-offset : tie.Need-sub-offset
+sub-offset c = omega arith
 
-mul-first : tie.Need-mul-first
-mul-first c = let s = c .before in let w = step-within (s .pre .0 .rules) (s .pre .0 .wide) (s .args .time - 1) (omega arith) in omega arith
+mul-offset : tie.Need-mul-offset
+mul-offset c = let s = c .before in let w = step-within (s .pre .0 .rules) (s .pre .0 .wide) (s .args .time - 1) (omega arith) in omega arith
 
-add-first : tie.Need-add-first
-add-first c = let s = c .before in let w = step-within (s .pre .0 .rules) (s .pre .0 .wide) (s .args .time - 1) (omega arith) in omega arith
+add-offset : tie.Need-add-offset
+add-offset c = let s = c .before in let w = step-within (s .pre .0 .rules) (s .pre .0 .wide) (s .args .time - 1) (omega arith) in omega arith
 
-add-row : tie.Need-add-row
-add-row c = let s = c .before in let w = step-within (s .pre .0 .rules) (s .pre .0 .wide) (s .args .time - 1) (omega arith) in omega arith
+add-rows : tie.Need-add-rows
+add-rows c = let s = c .before in let w = step-within (s .pre .0 .rules) (s .pre .0 .wide) (s .args .time - 1) (omega arith) in omega arith
 
-mul-row : tie.Need-mul-row
-mul-row c = let s = c .before in let w = step-within (s .pre .0 .rules) (s .pre .0 .wide) (s .args .time - 1) (omega arith) in omega arith
+mul-rows : tie.Need-mul-rows
+mul-rows c = let s = c .before in let w = step-within (s .pre .0 .rules) (s .pre .0 .wide) (s .args .time - 1) (omega arith) in omega arith
 
-sub-row : tie.Need-sub-row
-sub-row c = search needs
+sub-rows : tie.Need-sub-rows
+sub-rows c = search needs
 
-part-row-start : tie.Need-part-row-start
-part-row-start c = search needs
+part-rows-start : tie.Need-part-rows-start
+part-rows-start c = search needs
 
-part-row-end : tie.Need-part-row-end
-part-row-end c = let s = c .before in let w = step-within (s .pre .0 .rules) (s .pre .0 .wide) (s .args .time - 1) (omega arith) in omega arith
+part-rows-end : tie.Need-part-rows-end
+part-rows-end c = let s = c .before in let w = step-within (s .pre .0 .rules) (s .pre .0 .wide) (s .args .time - 1) (omega arith) in omega arith
 
 row-pressures-requires : tie.Need-row-pressures-requires
 row-pressures-requires c κs = let s = c .before .before in let k = counted (record { yes = s .pre .0 .rules .case-yes }) in omega (arith, k .nodes, s .pre .0 .counted)
@@ -51,13 +51,13 @@ pressures-at-spec =
     (tie.spec
     start-pressures-requires
     returns
-    sub-first
-    mul-first
-    add-first
-    add-row
-    mul-row
-    sub-row
-    part-row-start
-    part-row-end
+    sub-offset
+    mul-offset
+    add-offset
+    add-rows
+    mul-rows
+    sub-rows
+    part-rows-start
+    part-rows-end
     row-pressures-requires
     returns-2)

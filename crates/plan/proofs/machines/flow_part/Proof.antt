@@ -26,7 +26,7 @@ returns c =
     let m = c .before in
     let d = m .before .before in
     let s = d .before in
-    kept _ (c .struct-told .given .0 .1) ∙ ap (λ (y : Machine). y .flow) (m .machine .ensures) ∙ taken-part (machineRow (now (s .args .case)) (s .args .first) (s .args .m) .flow) (d .member .ensures ∙ ap (λ (z : ℤ). memberOf z (s .args .m)) (toZ-ofZ (s .fits .set))) (m .before .if1 .taken)
+    kept _ (c .struct-told .given .0 .1) ∙ ap (λ (y : Machine). y .flow) (m .machine .ensures) ∙ taken-part (machineRow (now (s .args .case)) (s .args .offset) (s .args .m) .flow) (d .member .ensures ∙ ap (λ (z : ℤ). memberOf z (s .args .m)) (toZ-ofZ (s .fits .set))) (m .before .if1 .taken)
 
 returns-2 : tie.Need-returns-2
 unfolding flowPart
@@ -34,7 +34,7 @@ returns-2 c =
     let d = c .before in
     let s = d .before in
     let l = now (s .args .case) in
-    sym (left-part (machineRow l (s .args .first) (s .args .m) .flow) (d .member .ensures ∙ ap (λ (z : ℤ). memberOf z (s .args .m)) (toZ-ofZ (s .fits .set))) (c .if1 .left))
+    sym (left-part (machineRow l (s .args .offset) (s .args .m) .flow) (d .member .ensures ∙ ap (λ (z : ℤ). memberOf z (s .args .m)) (toZ-ofZ (s .fits .set))) (c .if1 .left))
 
 pub flow-part-spec : {M : Type 1} → statement M
 flow-part-spec = tie.close (tie.spec member-requires machine-requires returns returns-2)

@@ -33,7 +33,7 @@ returns c =
     let d = m .before .before in
     let s = d .before in
     held (got (ap (λ (y : Machine). y .ratio) (m .machine .ensures)) (s .pre .0 .ratio (s .args .m) (s .pre .1)) tt -ʳ literal (pos 1000)) tt .val
-    ∙ taken-part (machineRow (now (s .args .case)) (s .args .first) (s .args .m) .ratio -ℤ pos 1000) (d .member .ensures ∙ ap (λ (z : ℤ). memberOf z (s .args .m)) (toZ-ofZ (s .fits .set))) (m .before .if1 .taken)
+    ∙ taken-part (machineRow (now (s .args .case)) (s .args .offset) (s .args .m) .ratio -ℤ pos 1000) (d .member .ensures ∙ ap (λ (z : ℤ). memberOf z (s .args .m)) (toZ-ofZ (s .fits .set))) (m .before .if1 .taken)
 
 returns-2 : tie.Need-returns-2
 unfolding gainPart
@@ -41,7 +41,7 @@ returns-2 c =
     let d = c .before in
     let s = d .before in
     let l = now (s .args .case) in
-    sym (left-part (machineRow l (s .args .first) (s .args .m) .ratio -ℤ pos 1000) (d .member .ensures ∙ ap (λ (z : ℤ). memberOf z (s .args .m)) (toZ-ofZ (s .fits .set))) (c .if1 .left))
+    sym (left-part (machineRow l (s .args .offset) (s .args .m) .ratio -ℤ pos 1000) (d .member .ensures ∙ ap (λ (z : ℤ). memberOf z (s .args .m)) (toZ-ofZ (s .fits .set))) (c .if1 .left))
 
 pub gain-part-spec : {M : Type 1} → statement M
 gain-part-spec = tie.close (tie.spec member-requires machine-requires sub-result returns returns-2)

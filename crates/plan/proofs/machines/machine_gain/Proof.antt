@@ -20,10 +20,10 @@ use Rattle.plan.proofs.machines.machine_gain.Statement.{statement}
 use Rattle.plan.proofs.machines.machine_gain.Tie as tie
 
 abbrev Inv-loop : tie.InvT-loop
-Inv-loop case first set machines sum₀ m₀ sum m = (machines ≤ 12) × Adding (sum .value) (gainPart case first (toZ w64 set)) 11000 machines m
+Inv-loop case offset set machines sum₀ m₀ sum m = (machines ≤ 12) × Adding (sum .value) (gainPart case offset (toZ w64 set)) 11000 machines m
 
 abbrev μ-loop : tie.MeasureT-loop
-μ-loop case first set machines sum₀ m₀ sum m = machines - m
+μ-loop case offset set machines sum₀ m₀ sum m = machines - m
 
 station-requires : tie.Need-station-requires Inv-loop μ-loop
 station-requires c κs = search needs
@@ -45,7 +45,7 @@ add-sum c =
     let s = h .before .before in
     let i = h .loop .m in
     let p = g .before .loop-test .taken in
-    let q : i < machinesAt (now (s .args .case)) (s .args .first) = omega (arith, p, ap (λ (y : Station). y .machines) (h .before .station .ensures)) in
+    let q : i < machinesAt (now (s .args .case)) (s .args .offset) = omega (arith, p, ap (λ (y : Station). y .machines) (h .before .station .ensures)) in
     let k = got (g .gain-part .ensures) (record { bound = abs-only-le (memberOf (toZ w64 (ofZ w64 (s .args .set))) i) _ ((got refl (s .pre .ratio i q) tt -ʳ literal (pos 1000)) .bound) }) tt in
     fits (h .loop .inv .1) k p (omega (arith, h .loop .inv .0))
 
@@ -63,7 +63,7 @@ loop-again c =
     let s = h .before .before in
     let i = h .loop .m in
     let p = g .before .loop-test .taken in
-    let q : i < machinesAt (now (s .args .case)) (s .args .first) = omega (arith, p, ap (λ (y : Station). y .machines) (h .before .station .ensures)) in
+    let q : i < machinesAt (now (s .args .case)) (s .args .offset) = omega (arith, p, ap (λ (y : Station). y .machines) (h .before .station .ensures)) in
     let k = got (g .gain-part .ensures) (record { bound = abs-only-le (memberOf (toZ w64 (ofZ w64 (s .args .set))) i) _ ((got refl (s .pre .ratio i q) tt -ʳ literal (pos 1000)) .bound) }) tt in
     (h .loop .inv .0, turn (h .loop .inv .1) refl k p (omega (arith, h .loop .inv .0)))
 
@@ -75,8 +75,8 @@ returns c =
     let l = now (s .args .case) in
     kept _ (c .struct-told2 .given .0 .1)
     ∙ end (h .loop .inv .1) (c .before .loop-test .left)
-    ∙ ap (λ (n : ℕ). sum n (gainPart l (s .args .first) (toZ w64 (ofZ w64 (s .args .set))))) (ap (λ (y : Station). y .machines) (h .before .station .ensures))
-    ∙ ap (λ (y : ℤ). sum (machinesAt l (s .args .first)) (gainPart l (s .args .first) y)) (toZ-ofZ (s .fits .set))
+    ∙ ap (λ (n : ℕ). sum n (gainPart l (s .args .offset) (toZ w64 (ofZ w64 (s .args .set))))) (ap (λ (y : Station). y .machines) (h .before .station .ensures))
+    ∙ ap (λ (y : ℤ). sum (machinesAt l (s .args .offset)) (gainPart l (s .args .offset) y)) (toZ-ofZ (s .fits .set))
 
 pub machine-gain-spec : {M : Type 1} → statement M
 machine-gain-spec =

@@ -64,7 +64,7 @@ returns c =
     let a = c .before .before .before .before .before .before .before .before .before .args in
     let n = c .before .before .before .before .before .before .before .before .node .ensures in
     let r = c .before .before .before .before .before .before .before .node-row .ensures in
-    let k1 : nodeNumbersKept (nodeOf (now (a .case)) (a .v) (a .i)) (nodeRow (now (a .row)) (a .v)) ≡ true = rw (n, r) at (sym (c .before .before .before .before .before .before .numbers-kept .ensures) ∙ c .before .before .before .before .before .if1 .taken) in
+    let k1 : nodeNumbersKept (nodeOf (now (a .case)) (a .v) (a .i)) (nodeRow (now (a .rows)) (a .v)) ≡ true = rw (n, r) at (sym (c .before .before .before .before .before .before .numbers-kept .ensures) ∙ c .before .before .before .before .before .if1 .taken) in
     let k2 = c .before .before .before .before .demand-met .ensures ∙ ap₂ demandMet n r in
     let k3 = c .before .before .active-bounds-kept .ensures ∙ ap₂ activeBoundsKept n r in
     rw (k1, orElse-yes)
@@ -75,7 +75,7 @@ returns-2 : tie.Need-returns-2
 unfolding nodeQuestions
 returns-2 c =
     let a = c .before .before .before .before .args in
-    let k1 : nodeNumbersKept (nodeOf (now (a .case)) (a .v) (a .i)) (nodeRow (now (a .row)) (a .v)) ≡ false = rw (c .before .before .before .node .ensures, c .before .before .node-row .ensures) at (sym (c .before .numbers-kept .ensures) ∙ c .if1 .left) in
+    let k1 : nodeNumbersKept (nodeOf (now (a .case)) (a .v) (a .i)) (nodeRow (now (a .rows)) (a .v)) ≡ false = rw (c .before .before .before .node .ensures, c .before .before .node-row .ensures) at (sym (c .before .numbers-kept .ensures) ∙ c .if1 .left) in
     rw k1
 
 pub node-answer-spec : {M : Type 1} → statement M

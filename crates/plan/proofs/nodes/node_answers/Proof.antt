@@ -12,10 +12,10 @@ use Rattle.plan.proofs.nodes.node_answers.Statement.{statement}
 use Rattle.plan.proofs.nodes.node_answers.Tie as tie
 
 abbrev Inv-loop : tie.InvT-loop
-Inv-loop case row i nodes v₀ v = (v ≤ nodes) × (firstNo (over (nodeQuestions case row i) 0 nodes) ≡ rest (nodeQuestions case row i) v nodes)
+Inv-loop case rows i nodes v₀ v = (v ≤ nodes) × (firstNo (over (nodeQuestions case rows i) 0 nodes) ≡ rest (nodeQuestions case rows i) v nodes)
 
 abbrev μ-loop : tie.MeasureT-loop
-μ-loop case row i nodes v₀ v = nodes - v
+μ-loop case rows i nodes v₀ v = nodes - v
 
 loop-holds : tie.Need-loop-holds Inv-loop μ-loop
 loop-holds c = (omega arith, let e : c .args .nodes - 0 ≡ c .args .nodes = omega arith in rw e)
@@ -34,7 +34,7 @@ unfolding allNodeQuestions
 returns c =
     let h = c .before .before .before .before in
     let a = h .before .args in
-    let f = nodeQuestions (now (a .case)) (now (a .row)) (a .i) in
+    let f = nodeQuestions (now (a .case)) (now (a .rows)) (a .i) in
     rw (← h .before .pre .2) (sym (rest-no f (h .loop .v) (a .nodes) (h .loop .inv .1) (c .before .before .before .loop-test .taken) (c .before .before .node-answer .ensures) (c .enum-told2 .given .1)))
 
 add-v : tie.Need-add-v Inv-loop μ-loop
@@ -47,7 +47,7 @@ loop-again : tie.Need-loop-again Inv-loop μ-loop
 loop-again c =
     let h = c .before .before .before .before in
     let a = h .before .args in
-    let f = nodeQuestions (now (a .case)) (now (a .row)) (a .i) in
+    let f = nodeQuestions (now (a .case)) (now (a .rows)) (a .i) in
     (omega arith, rest-on f (h .loop .v) (a .nodes) (h .loop .inv .1) (c .before .before .before .loop-test .taken) (c .before .before .node-answer .ensures) (c .enum-told .given .1))
 
 returns-2 : tie.Need-returns-2 Inv-loop μ-loop
@@ -55,7 +55,7 @@ unfolding allNodeQuestions
 returns-2 c =
     let h = c .before in
     let a = h .before .args in
-    let f = nodeQuestions (now (a .case)) (now (a .row)) (a .i) in
+    let f = nodeQuestions (now (a .case)) (now (a .rows)) (a .i) in
     rw (← h .before .pre .2) (sym (rest-end f (h .loop .v) (a .nodes) (h .loop .inv .1) (c .loop-test .left)))
 
 pub node-answers-spec : {M : Type 1} → statement M

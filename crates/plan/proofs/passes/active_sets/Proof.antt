@@ -13,17 +13,17 @@ use Rattle.plan.proofs.passes.active_sets.Statement.{statement}
 use Rattle.plan.proofs.passes.active_sets.Tie as tie
 
 abbrev Inv-loop : tie.InvT-loop
-Inv-loop case row arcs sets₀ counts₀ e₀ sets counts e = (e ≤ arcs) × ActivePass case row sets counts e
+Inv-loop case rows arcs sets₀ counts₀ e₀ sets counts e = (e ≤ arcs) × ActivePass case rows sets counts e
 
 abbrev μ-loop : tie.MeasureT-loop
-μ-loop case row arcs sets₀ counts₀ e₀ sets counts e = arcs - e
+μ-loop case rows arcs sets₀ counts₀ e₀ sets counts e = arcs - e
 
 -- an arc of the case
 arc-in : (c : tie.In-loop Inv-loop μ-loop) → c .before .loop .e < arcsOf (now (c .before .before .args .case))
 arc-in c = rw (← (c .before .before .pre .1)) (c .loop-test .taken)
 
 loop-holds : tie.Need-loop-holds Inv-loop μ-loop
-loop-holds c = (omega arith, active-none (now (c .args .case)) (now (c .args .row)))
+loop-holds c = (omega arith, active-none (now (c .args .case)) (now (c .args .rows)))
 
 own-station-requires : tie.Need-own-station-requires Inv-loop μ-loop
 own-station-requires c κs = (c .before .before .pre .0, arc-in c)
@@ -94,7 +94,7 @@ returns c =
     let h = c .before in
     let s = h .before in
     let l = now (s .args .case) in
-    let r = now (s .args .row) in
+    let r = now (s .args .rows) in
     let e : h .loop .e ≡ arcsOf l = omega (arith, s .pre .1, h .loop .inv .0, c .loop-test .left) in
     record { each = λ i p. h .loop .inv .1 .sets-hold .each i (omega (arith, p, counted (s .pre .0) .stations)) ∙ ap (λ (n : ℕ). arcSet l i (activeIn l r) n) e }
 

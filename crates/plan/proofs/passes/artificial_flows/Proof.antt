@@ -21,24 +21,24 @@ use Rattle.plan.proofs.passes.artificial_flows.Statement.{statement}
 use Rattle.plan.proofs.passes.artificial_flows.Tie as tie
 
 abbrev Inv-loop : tie.InvT-loop
-Inv-loop case row arcs net₀ e₀ net e = (e ≤ arcs) × Gathers net (artificialPart case row) e × (length net ≡ 60)
+Inv-loop case rows arcs net₀ e₀ net e = (e ≤ arcs) × Gathers net (artificialPart case rows) e × (length net ≡ 60)
 
 abbrev μ-loop : tie.MeasureT-loop
-μ-loop case row arcs net₀ e₀ net e = arcs - e
+μ-loop case rows arcs net₀ e₀ net e = arcs - e
 
 -- an arc of the case
 arc-in : (c : tie.In-loop Inv-loop μ-loop) → c .before .loop .e < arcsOf (now (c .before .before .args .case))
 arc-in c = rw (← (c .before .before .pre .1)) (c .loop-test .taken)
 
 -- its flow
-flow-is : (t : tie.In-loop Inv-loop μ-loop) (r : ArcRow) → r ≡ arcRow (now (t .before .before .args .case)) (now (t .before .before .args .row)) (t .before .loop .e) →
-    Held (toZ w64 (ofZ w64 (r .a)) -ℤ toZ w64 (ofZ w64 (r .b))) (arcRow (now (t .before .before .args .case)) (now (t .before .before .args .row)) (t .before .loop .e) .a -ℤ arcRow (now (t .before .before .args .case)) (now (t .before .before .args .row)) (t .before .loop .e) .b) 20000000
+flow-is : (t : tie.In-loop Inv-loop μ-loop) (r : ArcRow) → r ≡ arcRow (now (t .before .before .args .case)) (now (t .before .before .args .rows)) (t .before .loop .e) →
+    Held (toZ w64 (ofZ w64 (r .a)) -ℤ toZ w64 (ofZ w64 (r .b))) (arcRow (now (t .before .before .args .case)) (now (t .before .before .args .rows)) (t .before .loop .e) .a -ℤ arcRow (now (t .before .before .args .case)) (now (t .before .before .args .rows)) (t .before .loop .e) .b) 20000000
 flow-is t r e =
     let z = t .before .before .pre .2 .each (t .before .loop .e) (arc-in t) in
     read (ap (λ (x : ArcRow). x .a) e) (z .a) tt -ʳ read (ap (λ (x : ArcRow). x .b) e) (z .b) tt
 
 loop-holds : tie.Need-loop-holds Inv-loop μ-loop
-loop-holds c = (omega arith, gathers-none (artificialPart (now (c .args .case)) (now (c .args .row))), refl)
+loop-holds c = (omega arith, gathers-none (artificialPart (now (c .args .case)) (now (c .args .rows))), refl)
 
 arc-requires : tie.Need-arc-requires Inv-loop μ-loop
 arc-requires c κs = (c .before .before .pre .0, arc-in c)
@@ -68,7 +68,7 @@ moved-requires c κs =
       h .loop .inv .2,
       rw (f .val) (record { bound = f .bound }),
       rw (f .val) (record { bound = f .bound }),
-      gathers-sized (h .loop .inv .1) (omega (arith, h .loop .inv .0, s .pre .1, n .arcs)) (λ i k q. artificial-sized (now (s .args .case)) (now (s .args .row)) k i (s .pre .2) (omega (arith, q, p))),
+      gathers-sized (h .loop .inv .1) (omega (arith, h .loop .inv .0, s .pre .1, n .arcs)) (λ i k q. artificial-sized (now (s .args .case)) (now (s .args .rows)) k i (s .pre .2) (omega (arith, q, p))),
     )
 
 add-e : tie.Need-add-e Inv-loop μ-loop
@@ -85,7 +85,7 @@ loop-again c =
     let s = h .before in
     let e = h .loop .e in
     let l = now (s .args .case) in
-    let r = now (s .args .row) in
+    let r = now (s .args .rows) in
     let kind = ap (λ (y : Arc). y .kind) (a .arc .ensures) in
     let from = ap (λ (y : Arc). y .from) (a .arc .ensures) in
     let to = ap (λ (y : Arc). y .to) (a .arc .ensures) in (
@@ -105,7 +105,7 @@ returns c =
     let h = c .before in
     let s = h .before in
     let l = now (s .args .case) in
-    let r = now (s .args .row) in
+    let r = now (s .args .rows) in
     let e : h .loop .e ≡ arcsOf l = omega (arith, s .pre .1, h .loop .inv .0, c .loop-test .left) in
     record { each = λ i p. h .loop .inv .1 .each i (omega (arith, p, counted (s .pre .0) .nodes)) ∙ ap (λ (n : ℕ). sum n (artificialPart l r i)) e }
 

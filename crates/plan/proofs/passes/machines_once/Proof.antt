@@ -15,21 +15,21 @@ use Rattle.plan.proofs.passes.machines_once.Statement.{statement}
 use Rattle.plan.proofs.passes.machines_once.Tie as tie
 
 abbrev Inv-loop : tie.InvT-loop
-Inv-loop case row arcs once₀ taken₀ e₀ once taken e = (e ≤ arcs) × OncePass case row once taken e
+Inv-loop case rows arcs once₀ taken₀ e₀ once taken e = (e ≤ arcs) × OncePass case rows once taken e
 
 abbrev μ-loop : tie.MeasureT-loop
-μ-loop case row arcs once₀ taken₀ e₀ once taken e = arcs - e
+μ-loop case rows arcs once₀ taken₀ e₀ once taken e = arcs - e
 
 -- an arc of the case
 arc-in : (c : tie.In-loop Inv-loop μ-loop) → c .before .loop .e < arcsOf (now (c .before .before .args .case))
 arc-in c = rw (← (c .before .before .pre .1)) (c .loop-test .taken)
 
 -- the machines that were read
-machines-are : (c : tie.After-index Inv-loop μ-loop) → c .index .result ≡ posPart (arcRow (now (c .before .before .before .before .before .before .before .args .case)) (now (c .before .before .before .before .before .before .before .args .row)) (c .before .before .before .before .before .before .loop .e) .machines)
+machines-are : (c : tie.After-index Inv-loop μ-loop) → c .index .result ≡ posPart (arcRow (now (c .before .before .before .before .before .before .before .args .case)) (now (c .before .before .before .before .before .before .before .args .rows)) (c .before .before .before .before .before .before .loop .e) .machines)
 machines-are c = c .index .ensures ∙ ap posPart (kept _ (c .before .struct-told .given .1 .1 .1 .0 .1) ∙ ap (λ (r : ArcRow). r .machines) (c .before .before .arc-row .ensures))
 
 loop-holds : tie.Need-loop-holds Inv-loop μ-loop
-loop-holds c = (omega arith, once-none (now (c .args .case)) (now (c .args .row)))
+loop-holds c = (omega arith, once-none (now (c .args .case)) (now (c .args .rows)))
 
 own-station-requires : tie.Need-own-station-requires Inv-loop μ-loop
 own-station-requires c κs = (c .before .before .pre .0, arc-in c)

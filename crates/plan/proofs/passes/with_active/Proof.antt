@@ -13,7 +13,7 @@ use Rattle.plan.specs.law.PlanRecords.{activeIn}
 use Rattle.plan.proofs.passes.with_active.Statement.{statement}
 use Rattle.plan.proofs.passes.with_active.Tie as tie
 
-active : (c : tie.After-at-most) → c .at-most .result ≡ activeIn (now (c .before .before .before .args .case)) (now (c .before .before .before .args .row)) (c .before .before .before .args .e)
+active : (c : tie.After-at-most) → c .at-most .result ≡ activeIn (now (c .before .before .before .args .case)) (now (c .before .before .before .args .rows)) (c .before .before .before .args .e)
 active c =
     c .at-most .ensures
     ∙ ap (leZ (pos 1)) (kept _ (c .before .struct-told .given .1 .1 .0 .1) ∙ ap (λ (r : ArcRow). r .setting) (c .before .before .arc-row .ensures))

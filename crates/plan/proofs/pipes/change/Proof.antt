@@ -10,7 +10,7 @@ use borrow.Author.Needs.{needs}
 use Rattle.plan.proofs.pipes.change.Statement.{statement}
 use Rattle.plan.proofs.pipes.change.Tie as tie
 
-moved : (c : tie.After-at) → Held (toZ w64 (ofZ w64 (c .before .pressure .result)) -ℤ toZ w64 (ofZ w64 (c .at .result))) (change (numberAt (now (c .before .before .args .old))) (now (c .before .before .args .row)) (c .before .before .args .v)) 400000
+moved : (c : tie.After-at) → Held (toZ w64 (ofZ w64 (c .before .pressure .result)) -ℤ toZ w64 (ofZ w64 (c .at .result))) (change (numberAt (now (c .before .before .args .old))) (now (c .before .before .args .rows)) (c .before .before .args .v)) 400000
 moved c = let s = c .before .before in read (c .before .pressure .ensures) (s .pre .2) tt -ʳ read (c .at .ensures) (s .pre .1) tt
 
 pressure-requires : tie.Need-pressure-requires

@@ -23,10 +23,10 @@ mass-small : (c : tie.After-pipe-residual) → c .pipe-residual .result ≤ 1000
 unfolding pipeResidual
 mass-small c = rw (c .pipe-residual .ensures) (imbalance-sized (c .before .pre) .bound)
 
-ends : (c : tie.After-pressure-balance) → Held (toZ w64 (ofZ w64 (c .pressure-balance .result))) (pressureBalance (now (c .before .before .args .case)) (now (c .before .before .args .row)) (c .before .before .args .e)) 300000000000000
+ends : (c : tie.After-pressure-balance) → Held (toZ w64 (ofZ w64 (c .pressure-balance .result))) (pressureBalance (now (c .before .before .args .case)) (now (c .before .before .args .rows)) (c .before .before .args .e)) 300000000000000
 ends c = read (c .pressure-balance .ensures) (balance-sized (c .before .before .pre)) tt
 
-ends-is : (c : tie.After-size) → c .size .result ≡ natAbs (pressureBalance (now (c .before .before .before .args .case)) (now (c .before .before .before .args .row)) (c .before .before .before .args .e))
+ends-is : (c : tie.After-size) → c .size .result ≡ natAbs (pressureBalance (now (c .before .before .before .args .case)) (now (c .before .before .before .args .rows)) (c .before .before .before .args .e))
 ends-is c = c .size .ensures ∙ ap natAbs (ends (c .before) .val)
 
 ends-small : (c : tie.After-size) → c .size .result ≤ 300000000000000

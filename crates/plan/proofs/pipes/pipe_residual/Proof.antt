@@ -17,14 +17,14 @@ use Rattle.plan.proofs.pipes.pipe_residual.Tie as tie
 abbrev start : tie.After-struct-told3 → tie.Start
 start c = c .before .before .before .before .before .before .before .before .before
 
-parts : (c : tie.After-struct-told3) → SumRead (c .before .before .before .before .duration .result) (c .before .before .before .before .before .before .before .arc-row .result .a) (c .before .before .before .before .before .before .before .arc-row .result .b) (c .before .before .before .pipe .result .c) (c .before .before .before .before .before .before .change .result) (c .before .before .before .before .before .change2 .result) (pipeImbalance (now (start c .args .case)) (numberAt (now (start c .args .old))) (now (start c .args .row)) (start c .args .i) (start c .args .e))
+parts : (c : tie.After-struct-told3) → SumRead (c .before .before .before .before .duration .result) (c .before .before .before .before .before .before .before .arc-row .result .a) (c .before .before .before .before .before .before .before .arc-row .result .b) (c .before .before .before .pipe .result .c) (c .before .before .before .before .before .before .change .result) (c .before .before .before .before .before .change2 .result) (pipeImbalance (now (start c .args .case)) (numberAt (now (start c .args .old))) (now (start c .args .rows)) (start c .args .i) (start c .args .e))
 parts c =
     let p = c .before .before .before in
     let y = p .before .before in
     let r = y .before .before in
     sum-read (start c .pre) (p .before .duration .ensures) (r .arc-row .ensures) (p .pipe .ensures) (r .before .arc .ensures) (y .before .change .ensures) (y .change2 .ensures)
 
-whole : (c : tie.After-imbalance) → Held (toZ w64 (ofZ w64 (c .imbalance .result))) (pipeImbalance (now (start (c .before) .args .case)) (numberAt (now (start (c .before) .args .old))) (now (start (c .before) .args .row)) (start (c .before) .args .i) (start (c .before) .args .e)) 100000000000000
+whole : (c : tie.After-imbalance) → Held (toZ w64 (ofZ w64 (c .imbalance .result))) (pipeImbalance (now (start (c .before) .args .case)) (numberAt (now (start (c .before) .args .old))) (now (start (c .before) .args .rows)) (start (c .before) .args .i) (start (c .before) .args .e)) 100000000000000
 whole c = let t = parts (c .before) .total in held (record { val = c .imbalance .ensures ∙ t .val; bound = t .bound }) tt
 
 arc-requires : tie.Need-arc-requires

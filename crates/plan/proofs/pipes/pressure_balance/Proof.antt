@@ -22,22 +22,22 @@ use Rattle.plan.proofs.pipes.pressure_balance.Tie as tie
 abbrev start : tie.After-pressure2 → tie.Start
 start c = c .before .before .before .before .before
 
-from : (c : tie.After-pressure2) → Held (toZ w64 (ofZ w64 (c .before .pressure .result))) (pressureIn (now (start c .args .row)) (arcOf (now (start c .args .case)) (start c .args .e) .from)) 200000
+from : (c : tie.After-pressure2) → Held (toZ w64 (ofZ w64 (c .before .pressure .result))) (pressureIn (now (start c .args .rows)) (arcOf (now (start c .args .case)) (start c .args .e) .from)) 200000
 from c =
     let s = start c in
     let a = s .pre .at in
-    read (c .before .pressure .ensures ∙ ap (λ (x : Arc). pressureIn (now (s .args .row)) (x .from)) (c .before .before .before .before .arc .ensures)) (a .pressures .each _ (from-node (a .accepted) (s .args .e) (a .arc))) tt
+    read (c .before .pressure .ensures ∙ ap (λ (x : Arc). pressureIn (now (s .args .rows)) (x .from)) (c .before .before .before .before .arc .ensures)) (a .pressures .each _ (from-node (a .accepted) (s .args .e) (a .arc))) tt
 
-to : (c : tie.After-pressure2) → Held (toZ w64 (ofZ w64 (c .pressure2 .result))) (pressureIn (now (start c .args .row)) (arcOf (now (start c .args .case)) (start c .args .e) .to)) 200000
+to : (c : tie.After-pressure2) → Held (toZ w64 (ofZ w64 (c .pressure2 .result))) (pressureIn (now (start c .args .rows)) (arcOf (now (start c .args .case)) (start c .args .e) .to)) 200000
 to c =
     let s = start c in
     let a = s .pre .at in
-    read (c .pressure2 .ensures ∙ ap (λ (x : Arc). pressureIn (now (s .args .row)) (x .to)) (c .before .before .before .before .arc .ensures)) (a .pressures .each _ (to-node (a .accepted) (s .args .e) (a .arc))) tt
+    read (c .pressure2 .ensures ∙ ap (λ (x : Arc). pressureIn (now (s .args .rows)) (x .to)) (c .before .before .before .before .arc .ensures)) (a .pressures .each _ (to-node (a .accepted) (s .args .e) (a .arc))) tt
 
-a : (c : tie.After-pressure2) → Held (toZ w64 (ofZ w64 (c .before .before .arc-row .result .a))) (arcRow (now (start c .args .case)) (now (start c .args .row)) (start c .args .e) .a) 10000000
+a : (c : tie.After-pressure2) → Held (toZ w64 (ofZ w64 (c .before .before .arc-row .result .a))) (arcRow (now (start c .args .case)) (now (start c .args .rows)) (start c .args .e) .a) 10000000
 a c = read (ap (λ (x : ArcRow). x .a) (c .before .before .arc-row .ensures)) (start c .pre .at .flows .a) tt
 
-b : (c : tie.After-pressure2) → Held (toZ w64 (ofZ w64 (c .before .before .arc-row .result .b))) (arcRow (now (start c .args .case)) (now (start c .args .row)) (start c .args .e) .b) 10000000
+b : (c : tie.After-pressure2) → Held (toZ w64 (ofZ w64 (c .before .before .arc-row .result .b))) (arcRow (now (start c .args .case)) (now (start c .args .rows)) (start c .args .e) .b) 10000000
 b c = read (ap (λ (x : ArcRow). x .b) (c .before .before .arc-row .ensures)) (start c .pre .at .flows .b) tt
 
 f : (c : tie.After-pressure2) → Held (toZ w64 (ofZ w64 (c .before .before .before .pipe .result .f))) (pipeOf (now (start c .args .case)) (start c .args .e) .f) 10000000

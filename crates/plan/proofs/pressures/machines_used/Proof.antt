@@ -18,7 +18,7 @@ use Rattle.plan.proofs.pressures.machines_used.Statement.{statement}
 use Rattle.plan.proofs.pressures.machines_used.Tie as tie
 
 setting-is : (c : tie.After-setting-of) → let s = c .before .before .before .before .before .before in
-    c .setting-of .result ≡ settingIn (now (s .args .case)) (now (s .args .row)) (s .args .e)
+    c .setting-of .result ≡ settingIn (now (s .args .case)) (now (s .args .rows)) (s .args .e)
 setting-is c =
     let a = c .before .before .before in
     let n = kept _ (c .before .struct-told2 .given .1 .1 .0 .1) ∙ ap (λ (x : ArcRow). x .setting) (a .before .arc-row .ensures) in
@@ -46,16 +46,16 @@ returns c =
     let s = r .before .before in
     let l = now (s .args .case) in
     let k : arcOf l (s .args .e) .kind ≤ 4 = omega (arith, ap (λ (x : Arc). x .kind) (a .arc .ensures), c .before .before .if1 .taken) in
-    let m : toZ w64 (ofZ w64 (r .arc-row .result .machines)) ≡ arcRow l (now (s .args .row)) (s .args .e) .machines =
+    let m : toZ w64 (ofZ w64 (r .arc-row .result .machines)) ≡ arcRow l (now (s .args .rows)) (s .args .e) .machines =
     kept _ (c .before .struct-told .given .1 .1 .1 .0 .1) ∙ ap (λ (x : ArcRow). x .machines) (r .arc-row .ensures) in
-    rw (machines-none l (now (s .args .row)) (s .args .e) k) (simp m at (c .same .ensures))
+    rw (machines-none l (now (s .args .rows)) (s .args .e) k) (simp m at (c .same .ensures))
 
 returns-2 : tie.Need-returns-2
 unfolding machinesUsed
 returns-2 c =
     let d = c .before in
     let s = d .before .before .before .before .before .before in
-    c .setting-machines .ensures ∙ ap (settingMachines (now (s .args .case)) (now (s .args .row)) (s .args .e)) (setting-is d)
+    c .setting-machines .ensures ∙ ap (settingMachines (now (s .args .case)) (now (s .args .rows)) (s .args .e)) (setting-is d)
 
 pub machines-used-spec : {M : Type 1} → statement M
 machines-used-spec =

@@ -8,7 +8,7 @@ use Rattle.plan.specs.declared.rows.ArcRow.{ArcRow}
 use Rattle.plan.specs.law.PlanRecords.{arcRow}
 use Rattle.plan.specs.law.ArcMachines.{machinesCarry}
 use Rattle.plan.specs.inside.CaseSizes.{counted}
-use Rattle.plan.proofs.ArcLaws.{home-is, home-machines}
+use Rattle.plan.proofs.ArcLaws.{offset-is, offset-machines}
 use borrow.Author.Needs.{needs}
 use Rattle.plan.proofs.pressures.mode_machines.Statement.{statement}
 use Rattle.plan.proofs.pressures.mode_machines.Tie as tie
@@ -19,16 +19,16 @@ enum-told c = search needs
 artificial-requires : tie.Need-artificial-requires
 artificial-requires c κs = search needs
 
-home-requires : tie.Need-home-requires
-home-requires c κs = search needs
+offset-of-requires : tie.Need-offset-of-requires
+offset-of-requires c κs = search needs
 
 machines-carry-requires : tie.Need-machines-carry-requires
 machines-carry-requires c κs =
     let s = c .before .before .before .before .before in
     let a = s .pre .0 in
     let k = s .pre .1 (c .before .before .enum-told .given .1) in
-    let h = home-is a k (c .before .artificial .ensures) (c .home .ensures) in
-    (a .at .accepted, a .arc, h, home-machines a k h)
+    let h = offset-is a k (c .before .artificial .ensures) (c .offset-of .ensures) in
+    (a .at .accepted, a .arc, h, offset-machines a k h)
 
 enum-told-2 : tie.Need-enum-told-2
 enum-told-2 c = search needs
@@ -52,18 +52,18 @@ returns : tie.Need-returns
 returns c =
     let s = c .before .before .before .before .before .before in
     rw (c .before .before .before .enum-told .given .1)
-    (c .machines-carry .ensures ∙ ap (machinesCarry (now (s .args .case)) (now (s .args .row)) (s .args .e)) (toZ-ofZ (s .fits .flow)))
+    (c .machines-carry .ensures ∙ ap (machinesCarry (now (s .args .case)) (now (s .args .rows)) (s .args .e)) (toZ-ofZ (s .fits .flow)))
 
 returns-2 : tie.Need-returns-2
 returns-2 c =
     let s = c .before .before .before .before .before .before in
-    let m : toZ w64 (ofZ w64 (c .before .before .arc-row .result .machines)) ≡ arcRow (now (s .args .case)) (now (s .args .row)) (s .args .e) .machines = kept _ (c .before .struct-told .given .1 .1 .1 .0 .1) ∙ ap (λ (x : ArcRow). x .machines) (c .before .before .arc-row .ensures) in
+    let m : toZ w64 (ofZ w64 (c .before .before .arc-row .result .machines)) ≡ arcRow (now (s .args .case)) (now (s .args .rows)) (s .args .e) .machines = kept _ (c .before .struct-told .given .1 .1 .1 .0 .1) ∙ ap (λ (x : ArcRow). x .machines) (c .before .before .arc-row .ensures) in
     rw (c .before .before .before .enum-told2 .given .1) (simp m at (c .same .ensures))
 
 returns-3 : tie.Need-returns-3
 returns-3 c =
     let s = c .before .before .before .before .before .before in
-    let m : toZ w64 (ofZ w64 (c .before .before .arc-row2 .result .machines)) ≡ arcRow (now (s .args .case)) (now (s .args .row)) (s .args .e) .machines = kept _ (c .before .struct-told2 .given .1 .1 .1 .0 .1) ∙ ap (λ (x : ArcRow). x .machines) (c .before .before .arc-row2 .ensures) in
+    let m : toZ w64 (ofZ w64 (c .before .before .arc-row2 .result .machines)) ≡ arcRow (now (s .args .case)) (now (s .args .rows)) (s .args .e) .machines = kept _ (c .before .struct-told2 .given .1 .1 .1 .0 .1) ∙ ap (λ (x : ArcRow). x .machines) (c .before .before .arc-row2 .ensures) in
     rw (c .before .before .before .enum-told3 .given .1) (simp m at (c .same2 .ensures))
 
 pub mode-machines-spec : {M : Type 1} → statement M
@@ -72,7 +72,7 @@ mode-machines-spec =
     (tie.spec
     enum-told
     artificial-requires
-    home-requires
+    offset-of-requires
     machines-carry-requires
     enum-told-2
     arc-row-requires

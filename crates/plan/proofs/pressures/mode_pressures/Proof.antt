@@ -7,7 +7,7 @@ use mir.Val.{toZ, ofZ}
 use Rattle.numbers.specs.inside.SignedLocals.{kept}
 use Rattle.plan.specs.law.PlanRecords.{pressureIn}
 use Rattle.plan.specs.inside.CaseSizes.{counted}
-use Rattle.plan.proofs.ArcLaws.{home-is, compresses}
+use Rattle.plan.proofs.ArcLaws.{offset-is, compresses}
 use borrow.Author.Needs.{needs}
 use Rattle.plan.proofs.pressures.mode_pressures.Statement.{statement}
 use Rattle.plan.proofs.pressures.mode_pressures.Tie as tie
@@ -48,27 +48,27 @@ enum-told-3 c = search needs
 artificial-requires : tie.Need-artificial-requires
 artificial-requires c κs = search needs
 
-home-requires : tie.Need-home-requires
-home-requires c κs = search needs
+offset-of-requires : tie.Need-offset-of-requires
+offset-of-requires c κs = search needs
 
 compression-kept-requires : tie.Need-compression-kept-requires
 compression-kept-requires c κs =
     let s = c .before .before .before .before .before in
     let k = s .pre .3 (c .before .before .enum-told3 .given .1) in
-    compresses (s .pre .0) k (home-is (s .pre .0) k (c .before .artificial .ensures) (c .home .ensures)) (s .pre .1) (s .pre .2)
+    compresses (s .pre .0) k (offset-is (s .pre .0) k (c .before .artificial .ensures) (c .offset-of .ensures)) (s .pre .1) (s .pre .2)
 
 returns : tie.Need-returns
 returns c =
     let s = c .before .before .before .before .before .before in
-    let p : toZ w64 (ofZ w64 (c .before .before .pressure .result)) ≡ pressureIn (now (s .args .row)) (s .args .u) = kept _ (c .before .before .pressure .ok) ∙ c .before .before .pressure .ensures in
-    let q : toZ w64 (ofZ w64 (c .before .pressure2 .result)) ≡ pressureIn (now (s .args .row)) (s .args .w) = kept _ (c .before .pressure2 .ok) ∙ c .before .pressure2 .ensures in
+    let p : toZ w64 (ofZ w64 (c .before .before .pressure .result)) ≡ pressureIn (now (s .args .rows)) (s .args .u) = kept _ (c .before .before .pressure .ok) ∙ c .before .before .pressure .ensures in
+    let q : toZ w64 (ofZ w64 (c .before .pressure2 .result)) ≡ pressureIn (now (s .args .rows)) (s .args .w) = kept _ (c .before .pressure2 .ok) ∙ c .before .pressure2 .ensures in
     rw (c .before .before .before .enum-told .given .1) (simp (p, q) at (c .same .ensures))
 
 returns-2 : tie.Need-returns-2
 returns-2 c =
     let s = c .before .before .before .before .before .before in
-    let p : toZ w64 (ofZ w64 (c .before .before .pressure3 .result)) ≡ pressureIn (now (s .args .row)) (s .args .w) = kept _ (c .before .before .pressure3 .ok) ∙ c .before .before .pressure3 .ensures in
-    let q : toZ w64 (ofZ w64 (c .before .pressure4 .result)) ≡ pressureIn (now (s .args .row)) (s .args .u) = kept _ (c .before .pressure4 .ok) ∙ c .before .pressure4 .ensures in
+    let p : toZ w64 (ofZ w64 (c .before .before .pressure3 .result)) ≡ pressureIn (now (s .args .rows)) (s .args .w) = kept _ (c .before .before .pressure3 .ok) ∙ c .before .before .pressure3 .ensures in
+    let q : toZ w64 (ofZ w64 (c .before .pressure4 .result)) ≡ pressureIn (now (s .args .rows)) (s .args .u) = kept _ (c .before .pressure4 .ok) ∙ c .before .pressure4 .ensures in
     rw (c .before .before .before .enum-told2 .given .1) (simp (p, q) at (c .at-most .ensures))
 
 returns-3 : tie.Need-returns-3
@@ -88,7 +88,7 @@ mode-pressures-spec =
     at-most-requires
     enum-told-3
     artificial-requires
-    home-requires
+    offset-of-requires
     compression-kept-requires
     returns
     returns-2

@@ -19,7 +19,7 @@ use borrow.Author.Needs.{needs}
 use Rattle.plan.proofs.pressures.pressures_kept.Statement.{statement}
 use Rattle.plan.proofs.pressures.pressures_kept.Tie as tie
 
-setting-is : (c : tie.After-setting-of) → c .setting-of .result ≡ settingIn (now (c .before .before .before .before .before .before .args .case)) (now (c .before .before .before .before .before .before .args .row)) (c .before .before .before .before .before .before .args .e)
+setting-is : (c : tie.After-setting-of) → c .setting-of .result ≡ settingIn (now (c .before .before .before .before .before .before .args .case)) (now (c .before .before .before .before .before .before .args .rows)) (c .before .before .before .before .before .before .args .e)
 setting-is c =
     let n = kept _ (c .before .struct-told .given .1 .1 .0 .1) ∙ ap (λ (x : ArcRow). x .setting) (c .before .before .arc-row .ensures) in
     c .setting-of .ensures ∙ ap₂ settingOf (ap (λ (x : Arc). x .kind) (c .before .before .before .before .arc .ensures)) n
@@ -62,8 +62,8 @@ returns c =
     let s = m .before .before .before in
     let x = m .before .arc .ensures in
     let k : eqb (arcOf (now (s .args .case)) (s .args .e) .kind) 1 ≡ true = eq-eqb _ 1 (sym (ap (λ (y : Arc). y .kind) x) ∙ m .match .keys1) in
-    let p : toZ w64 (ofZ w64 (c .before .before .pressure .result)) ≡ pressureIn (now (s .args .row)) (arcOf (now (s .args .case)) (s .args .e) .to) = kept _ (c .before .before .pressure .ok) ∙ c .before .before .pressure .ensures ∙ ap (λ (y : Arc). pressureIn (now (s .args .row)) (y .to)) x in
-    let q : toZ w64 (ofZ w64 (c .before .pressure2 .result)) ≡ pressureIn (now (s .args .row)) (arcOf (now (s .args .case)) (s .args .e) .from) = kept _ (c .before .pressure2 .ok) ∙ c .before .pressure2 .ensures ∙ ap (λ (y : Arc). pressureIn (now (s .args .row)) (y .from)) x in
+    let p : toZ w64 (ofZ w64 (c .before .before .pressure .result)) ≡ pressureIn (now (s .args .rows)) (arcOf (now (s .args .case)) (s .args .e) .to) = kept _ (c .before .before .pressure .ok) ∙ c .before .before .pressure .ensures ∙ ap (λ (y : Arc). pressureIn (now (s .args .rows)) (y .to)) x in
+    let q : toZ w64 (ofZ w64 (c .before .pressure2 .result)) ≡ pressureIn (now (s .args .rows)) (arcOf (now (s .args .case)) (s .args .e) .from) = kept _ (c .before .pressure2 .ok) ∙ c .before .pressure2 .ensures ∙ ap (λ (y : Arc). pressureIn (now (s .args .rows)) (y .from)) x in
     rw k (simp (p, q) at (c .at-most .ensures))
 
 returns-2 : tie.Need-returns-2
@@ -73,7 +73,7 @@ returns-2 c =
     let m = d .before .before .before in
     let s = m .before .before .before in
     let k : eqb (arcOf (now (s .args .case)) (s .args .e) .kind) 1 ≡ false = ne-eqb _ 1 (λ e. m .match .rest .1 (ap (λ (y : Arc). y .kind) (m .before .arc .ensures) ∙ e)) in
-    rw k (c .setting-pressures .ensures ∙ ap (settingPressures (now (s .args .case)) (now (s .args .row)) (s .args .i) (s .args .e)) (setting-is d))
+    rw k (c .setting-pressures .ensures ∙ ap (settingPressures (now (s .args .case)) (now (s .args .rows)) (s .args .i) (s .args .e)) (setting-is d))
 
 pub pressures-kept-spec : {M : Type 1} → statement M
 pressures-kept-spec =

@@ -15,7 +15,7 @@ use Rattle.plan.proofs.pressures.setting_machines.Tie as tie
 
 -- the arc's row of the step
 abbrev row-of : tie.After-arc-row → ArcRow
-row-of a = let s = a .before .before in arcRow (now (s .args .case)) (now (s .args .row)) (s .args .e)
+row-of a = let s = a .before .before in arcRow (now (s .args .case)) (now (s .args .rows)) (s .args .e)
 
 arc-row-requires : tie.Need-arc-row-requires
 arc-row-requires c κs = let a = c .before .pre .0 in (counted (a .at .accepted), a .arc)
@@ -76,7 +76,7 @@ returns-3 c =
     let s = a .before .before in
     let f = kept _ (c .before .struct-told3 .given .0 .1) ∙ ap (λ (x : ArcRow). x .a) (a .arc-row .ensures) in
     rw (t .setting .given .1, c .before .before .enum-told3 .given .1)
-    (c .mode-machines .ensures ∙ ap (modeMachines (now (s .args .case)) (now (s .args .row)) (s .args .e) (t .setting .given .0 .1 .0)) f)
+    (c .mode-machines .ensures ∙ ap (modeMachines (now (s .args .case)) (now (s .args .rows)) (s .args .e) (t .setting .given .0 .1 .0)) f)
 
 returns-4 : tie.Need-returns-4
 returns-4 c =
@@ -85,7 +85,7 @@ returns-4 c =
     let s = a .before .before in
     let f = kept _ (c .before .struct-told4 .given .1 .0 .1) ∙ ap (λ (x : ArcRow). x .b) (a .arc-row .ensures) in
     rw (t .setting .given .1, c .before .before .enum-told4 .given .1)
-    (c .mode-machines2 .ensures ∙ ap (modeMachines (now (s .args .case)) (now (s .args .row)) (s .args .e) (t .setting .given .0 .1 .0)) f)
+    (c .mode-machines2 .ensures ∙ ap (modeMachines (now (s .args .case)) (now (s .args .rows)) (s .args .e) (t .setting .given .0 .1 .0)) f)
 
 pub setting-machines-spec : {M : Type 1} → statement M
 setting-machines-spec =

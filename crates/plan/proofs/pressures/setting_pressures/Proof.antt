@@ -61,14 +61,14 @@ returns-3 c =
     let t = c .before .before .before .before .before in
     let s = t .before .before .before in
     rw (t .setting .given .1, c .before .enum-told3 .given .1)
-    (c .mode-pressures .ensures ∙ ap (λ (x : Arc). modePressures (now (s .args .case)) (now (s .args .row)) (s .args .i) (s .args .e) (t .setting .given .0 .1 .0) (x .from) (x .to)) (c .before .before .before .arc .ensures))
+    (c .mode-pressures .ensures ∙ ap (λ (x : Arc). modePressures (now (s .args .case)) (now (s .args .rows)) (s .args .i) (s .args .e) (t .setting .given .0 .1 .0) (x .from) (x .to)) (c .before .before .before .arc .ensures))
 
 returns-4 : tie.Need-returns-4
 returns-4 c =
     let t = c .before .before .before .before .before in
     let s = t .before .before .before in
     rw (t .setting .given .1, c .before .enum-told4 .given .1)
-    (c .mode-pressures2 .ensures ∙ ap (λ (x : Arc). modePressures (now (s .args .case)) (now (s .args .row)) (s .args .i) (s .args .e) (t .setting .given .0 .1 .0) (x .to) (x .from)) (c .before .before .before .arc .ensures))
+    (c .mode-pressures2 .ensures ∙ ap (λ (x : Arc). modePressures (now (s .args .case)) (now (s .args .rows)) (s .args .i) (s .args .e) (t .setting .given .0 .1 .0) (x .to) (x .from)) (c .before .before .before .arc .ensures))
 
 pub setting-pressures-spec : {M : Type 1} → statement M
 setting-pressures-spec =

@@ -27,7 +27,7 @@ returns c =
     let b = c .before .before .before in
     let s = b .before .before .before .before .before in
     let l = now (s .args .case) in
-    let r = now (s .args .row) in
+    let r = now (s .args .rows) in
     record {
       pressures = subst (λ (n : ℕ). Holds (pos 0) (b .row-pressures .result) (pressureIn r) n) (s .pre .1 .nodes) (b .row-pressures .ensures);
       active = subst (λ (n : ℕ). Holds false (c .before .before .row-active .result) (activeIn l r) n) (s .pre .1 .arcs) (c .before .before .row-active .ensures);

@@ -14,10 +14,10 @@ use Rattle.plan.proofs.previous.row_active.Statement.{statement}
 use Rattle.plan.proofs.previous.row_active.Tie as tie
 
 abbrev Inv-loop : tie.InvT-loop
-Inv-loop case row arcs on₀ e₀ on e = Filling false on (activeIn case row) 120 arcs e
+Inv-loop case rows arcs on₀ e₀ on e = Filling false on (activeIn case rows) 120 arcs e
 
 abbrev μ-loop : tie.MeasureT-loop
-μ-loop case row arcs on₀ e₀ on e = arcs - e
+μ-loop case rows arcs on₀ e₀ on e = arcs - e
 
 loop-holds : tie.Need-loop-holds Inv-loop μ-loop
 loop-holds c = start (c .good .0 .1 .0 .1)

@@ -10,10 +10,10 @@ use Rattle.plan.proofs.previous.row_pressures.Statement.{statement}
 use Rattle.plan.proofs.previous.row_pressures.Tie as tie
 
 abbrev Inv-loop : tie.InvT-loop
-Inv-loop row nodes pressures₀ v₀ pressures v = Filling (pos 0) pressures (pressureIn row) 60 nodes v
+Inv-loop rows nodes pressures₀ v₀ pressures v = Filling (pos 0) pressures (pressureIn rows) 60 nodes v
 
 abbrev μ-loop : tie.MeasureT-loop
-μ-loop row nodes pressures₀ v₀ pressures v = nodes - v
+μ-loop rows nodes pressures₀ v₀ pressures v = nodes - v
 
 loop-holds : tie.Need-loop-holds Inv-loop μ-loop
 loop-holds c = start (c .good .0 .1 .0 .1)

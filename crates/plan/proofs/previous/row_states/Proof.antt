@@ -12,10 +12,10 @@ use Rattle.plan.proofs.previous.row_states.Statement.{statement}
 use Rattle.plan.proofs.previous.row_states.Tie as tie
 
 abbrev Inv-loop : tie.InvT-loop
-Inv-loop case row stations states₀ s₀ states s = Filling 0 states (stateIn case row) 8 stations s
+Inv-loop case rows stations states₀ s₀ states s = Filling 0 states (stateIn case rows) 8 stations s
 
 abbrev μ-loop : tie.MeasureT-loop
-μ-loop case row stations states₀ s₀ states s = stations - s
+μ-loop case rows stations states₀ s₀ states s = stations - s
 
 loop-holds : tie.Need-loop-holds Inv-loop μ-loop
 loop-holds c = start (c .good .0 .1 .0 .1)

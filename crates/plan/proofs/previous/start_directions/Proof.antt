@@ -50,7 +50,7 @@ loop-again c =
     let l = now (s .args .case) in
     let p : h .loop .s < stationsOf l = omega (arith, c .before .before .loop-test .taken, s .pre .1 .stations) in
     turn (h .loop .inv) p (s .pre .0 .stations)
-    (ap (λ (x : Station). x .direction) (c .station .ensures) ∙ ap (λ (k : ℕ). stationRow l k .direction) (s .pre .1 .rows .each (h .loop .s) p))
+    (ap (λ (x : Station). x .direction) (c .station .ensures) ∙ ap (λ (k : ℕ). stationRow l k .direction) (s .pre .1 .offsets .each (h .loop .s) p))
 
 returns : tie.Need-returns Inv-loop μ-loop
 returns c = end (c .before .loop .inv) (omega (arith, c .loop-test .left, c .before .before .pre .1 .stations))

@@ -12,7 +12,7 @@ use Rattle.plan.proofs.region.brought_in.Statement.{statement}
 use Rattle.plan.proofs.region.brought_in.Tie as tie
 
 supplies-requires : tie.Need-supplies-requires
-supplies-requires c κs = let r = counted (c .pre .2 .accepted) in (c .pre .0, omega (arith, r .nodes, c .pre .0), c .pre .2 .kept .rows)
+supplies-requires c κs = let r = counted (c .pre .2 .accepted) in (c .pre .0, omega (arith, r .nodes, c .pre .0), c .pre .2 .kept .node-rows)
 
 edge-flows-requires : tie.Need-edge-flows-requires
 edge-flows-requires c κs = let s = c .before in (step-flows (s .pre .2), s .pre .1)
@@ -26,9 +26,9 @@ add-result c =
     let h = s .pre .2 in
     let r = counted (h .accepted) in
     let z = s .args .set in
-    let a : c .before .before .supplies .result ≡ suppliesIn (now (s .args .case)) z (now (s .args .row)) = c .before .before .supplies .ensures ∙ ap (λ (y : ℤ). suppliesIn (now (s .args .case)) y (now (s .args .row))) (toZ-ofZ (s .fits .set)) in
-    let b : c .before .edge-flows .result ≡ edgeFlows (now (s .args .case)) z (now (s .args .row)) = c .before .edge-flows .ensures ∙ ap (λ (y : ℤ). edgeFlows (now (s .args .case)) y (now (s .args .row))) (toZ-ofZ (s .fits .set)) in
-    let x = held (record { val = a; bound = supplies-small (h .kept .rows) (r .nodes) z }) tt in
+    let a : c .before .before .supplies .result ≡ suppliesIn (now (s .args .case)) z (now (s .args .rows)) = c .before .before .supplies .ensures ∙ ap (λ (y : ℤ). suppliesIn (now (s .args .case)) y (now (s .args .rows))) (toZ-ofZ (s .fits .set)) in
+    let b : c .before .edge-flows .result ≡ edgeFlows (now (s .args .case)) z (now (s .args .rows)) = c .before .edge-flows .ensures ∙ ap (λ (y : ℤ). edgeFlows (now (s .args .case)) y (now (s .args .rows))) (toZ-ofZ (s .fits .set)) in
+    let x = held (record { val = a; bound = supplies-small (h .kept .node-rows) (r .nodes) z }) tt in
     let y = held (record { val = b; bound = edges-small (step-flows h) z }) tt in
     held-fits (x +ʳ y) tt
 
@@ -38,9 +38,9 @@ mul-result c =
     let h = s .pre .2 in
     let r = counted (h .accepted) in
     let z = s .args .set in
-    let a : c .before .before .supplies .result ≡ suppliesIn (now (s .args .case)) z (now (s .args .row)) = c .before .before .supplies .ensures ∙ ap (λ (y : ℤ). suppliesIn (now (s .args .case)) y (now (s .args .row))) (toZ-ofZ (s .fits .set)) in
-    let b : c .before .edge-flows .result ≡ edgeFlows (now (s .args .case)) z (now (s .args .row)) = c .before .edge-flows .ensures ∙ ap (λ (y : ℤ). edgeFlows (now (s .args .case)) y (now (s .args .row))) (toZ-ofZ (s .fits .set)) in
-    let x = held (record { val = a; bound = supplies-small (h .kept .rows) (r .nodes) z }) tt in
+    let a : c .before .before .supplies .result ≡ suppliesIn (now (s .args .case)) z (now (s .args .rows)) = c .before .before .supplies .ensures ∙ ap (λ (y : ℤ). suppliesIn (now (s .args .case)) y (now (s .args .rows))) (toZ-ofZ (s .fits .set)) in
+    let b : c .before .edge-flows .result ≡ edgeFlows (now (s .args .case)) z (now (s .args .rows)) = c .before .edge-flows .ensures ∙ ap (λ (y : ℤ). edgeFlows (now (s .args .case)) y (now (s .args .rows))) (toZ-ofZ (s .fits .set)) in
+    let x = held (record { val = a; bound = supplies-small (h .kept .node-rows) (r .nodes) z }) tt in
     let y = held (record { val = b; bound = edges-small (step-flows h) z }) tt in
     let d = held (record { val = c .duration .ensures; bound = duration-sized (h .accepted) (s .args .i) (h .step) .bound }) tt in
     held-fits (d *ʳ held (x +ʳ y) tt) tt
@@ -52,9 +52,9 @@ returns c =
     let h = s .pre .2 in
     let r = counted (h .accepted) in
     let z = s .args .set in
-    let a : c .before .before .supplies .result ≡ suppliesIn (now (s .args .case)) z (now (s .args .row)) = c .before .before .supplies .ensures ∙ ap (λ (y : ℤ). suppliesIn (now (s .args .case)) y (now (s .args .row))) (toZ-ofZ (s .fits .set)) in
-    let b : c .before .edge-flows .result ≡ edgeFlows (now (s .args .case)) z (now (s .args .row)) = c .before .edge-flows .ensures ∙ ap (λ (y : ℤ). edgeFlows (now (s .args .case)) y (now (s .args .row))) (toZ-ofZ (s .fits .set)) in
-    let x = held (record { val = a; bound = supplies-small (h .kept .rows) (r .nodes) z }) tt in
+    let a : c .before .before .supplies .result ≡ suppliesIn (now (s .args .case)) z (now (s .args .rows)) = c .before .before .supplies .ensures ∙ ap (λ (y : ℤ). suppliesIn (now (s .args .case)) y (now (s .args .rows))) (toZ-ofZ (s .fits .set)) in
+    let b : c .before .edge-flows .result ≡ edgeFlows (now (s .args .case)) z (now (s .args .rows)) = c .before .edge-flows .ensures ∙ ap (λ (y : ℤ). edgeFlows (now (s .args .case)) y (now (s .args .rows))) (toZ-ofZ (s .fits .set)) in
+    let x = held (record { val = a; bound = supplies-small (h .kept .node-rows) (r .nodes) z }) tt in
     let y = held (record { val = b; bound = edges-small (step-flows h) z }) tt in
     let d = held (record { val = c .duration .ensures; bound = duration-sized (h .accepted) (s .args .i) (h .step) .bound }) tt in
     held (d *ʳ held (x +ʳ y) tt) tt .val

@@ -18,10 +18,10 @@ use Rattle.plan.proofs.region.edge_flows.Statement.{statement}
 use Rattle.plan.proofs.region.edge_flows.Tie as tie
 
 abbrev Inv-loop : tie.InvT-loop
-Inv-loop case set row arcs sum₀ e₀ sum e = (e ≤ arcs) × (sum .value ≡ total e (edgeFlow case (toZ w64 set) row))
+Inv-loop case set rows arcs sum₀ e₀ sum e = (e ≤ arcs) × (sum .value ≡ total e (edgeFlow case (toZ w64 set) rows))
 
 abbrev μ-loop : tie.MeasureT-loop
-μ-loop case set row arcs sum₀ e₀ sum e = arcs - e
+μ-loop case set rows arcs sum₀ e₀ sum e = arcs - e
 
 loop-holds : tie.Need-loop-holds Inv-loop μ-loop
 loop-holds c = (omega arith, sym (sum-none _))
@@ -34,7 +34,7 @@ add-sum c =
     let l = c .before .before .before .before in
     let s = l .before in
     let z = toZ w64 (ofZ w64 (s .args .set)) in
-    add-fits (edgeFlow (now (s .args .case)) z (now (s .args .row))) (arcsOf (now (s .args .case))) 20000000 (edge-small (s .pre .0) z)
+    add-fits (edgeFlow (now (s .args .case)) z (now (s .args .rows))) (arcsOf (now (s .args .case))) 20000000 (edge-small (s .pre .0) z)
     (omega (arith, mul-le-mul-right 20000000 (counted (s .pre .0 .accepted) .arcs))) (l .loop .e) (omega arith) (l .loop .inv .1) (c .before .before .edge-flow .ensures)
 
 add-e : tie.Need-add-e Inv-loop μ-loop
@@ -49,7 +49,7 @@ loop-again c =
     let s = l .before in
     let z = toZ w64 (ofZ w64 (s .args .set)) in (
       omega arith,
-      add-is (edgeFlow (now (s .args .case)) z (now (s .args .row))) (arcsOf (now (s .args .case))) 20000000 (edge-small (s .pre .0) z)
+      add-is (edgeFlow (now (s .args .case)) z (now (s .args .rows))) (arcsOf (now (s .args .case))) 20000000 (edge-small (s .pre .0) z)
           (omega (arith, mul-le-mul-right 20000000 (counted (s .pre .0 .accepted) .arcs))) (l .loop .e) (omega arith) (l .loop .inv .1) (c .before .before .edge-flow .ensures),
     )
 
@@ -59,9 +59,9 @@ returns c =
     let l = c .before .before in
     let s = l .before in
     let z = toZ w64 (ofZ w64 (s .args .set)) in
-    all-is (edgeFlow (now (s .args .case)) z (now (s .args .row))) (arcsOf (now (s .args .case))) 20000000 (edge-small (s .pre .0) z)
+    all-is (edgeFlow (now (s .args .case)) z (now (s .args .rows))) (arcsOf (now (s .args .case))) 20000000 (edge-small (s .pre .0) z)
     (omega (arith, mul-le-mul-right 20000000 (counted (s .pre .0 .accepted) .arcs))) (l .loop .e) (omega arith) (l .loop .inv .1)
-    ∙ ap (λ (y : ℤ). edgeFlows (now (s .args .case)) y (now (s .args .row))) (toZ-ofZ (s .fits .set))
+    ∙ ap (λ (y : ℤ). edgeFlows (now (s .args .case)) y (now (s .args .rows))) (toZ-ofZ (s .fits .set))
 
 pub edge-flows-spec : {M : Type 1} → statement M
 edge-flows-spec =

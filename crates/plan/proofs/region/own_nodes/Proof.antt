@@ -19,10 +19,10 @@ use Rattle.plan.proofs.region.own_nodes.Statement.{statement}
 use Rattle.plan.proofs.region.own_nodes.Tie as tie
 
 abbrev Inv-loop : tie.InvT-loop
-Inv-loop case set old row nodes arcs i net sum₀ v₀ sum v = (v ≤ nodes) × (sum ≡ sumN v (ownNode case (toZ w64 set) row i))
+Inv-loop case set old rows nodes arcs i net sum₀ v₀ sum v = (v ≤ nodes) × (sum ≡ sumN v (ownNode case (toZ w64 set) rows i))
 
 abbrev μ-loop : tie.MeasureT-loop
-μ-loop case set old row nodes arcs i net sum₀ v₀ sum v = nodes - v
+μ-loop case set old rows nodes arcs i net sum₀ v₀ sum v = nodes - v
 
 net-flows-requires : tie.Need-net-flows-requires Inv-loop μ-loop
 net-flows-requires c κs = let h = c .pre .2 in (h .accepted, c .pre .1, h .kept .flows)
@@ -46,7 +46,7 @@ own-node-requires c κs =
       step = h .step;
       node = omega arith;
       flows = h .kept .flows;
-      rows = h .kept .rows;
+      node-rows = h .kept .node-rows;
       is =
           toZ-ofZ {w = w64} {z = getD (l .before .net-flows .result) (l .loop .v) (pos 0)} (record { sfits = c .own-node-arg .given })
           ∙ l .before .net-flows .ensures .each (l .loop .v) (omega arith);
@@ -57,7 +57,7 @@ add-sum c =
     let l = c .before .before .before in
     let s = l .before .before in
     let z = toZ w64 (ofZ w64 (s .args .set)) in
-    addN-fits (ownNode (now (s .args .case)) z (now (s .args .row)) (s .args .i)) (nodesOf (now (s .args .case))) 1000000 (own-node-small (s .pre .2) z)
+    addN-fits (ownNode (now (s .args .case)) z (now (s .args .rows)) (s .args .i)) (nodesOf (now (s .args .case))) 1000000 (own-node-small (s .pre .2) z)
     (omega (arith, mul-le-mul-right 1000000 (counted (s .pre .2 .accepted) .nodes))) (l .loop .v) (omega arith) (l .loop .inv .1) (c .own-node .ensures)
 
 add-v : tie.Need-add-v Inv-loop μ-loop
@@ -71,7 +71,7 @@ loop-again c =
     let l = c .before .before .before in
     let s = l .before .before in
     let z = toZ w64 (ofZ w64 (s .args .set)) in
-    (omega arith, ap₂ _+_ (l .loop .inv .1) (c .own-node .ensures) ∙ sym (sumN-more (ownNode (now (s .args .case)) z (now (s .args .row)) (s .args .i)) (l .loop .v)))
+    (omega arith, ap₂ _+_ (l .loop .inv .1) (c .own-node .ensures) ∙ sym (sumN-more (ownNode (now (s .args .case)) z (now (s .args .rows)) (s .args .i)) (l .loop .v)))
 
 returns : tie.Need-returns Inv-loop μ-loop
 unfolding ownNodes
@@ -80,8 +80,8 @@ returns c =
     let s = l .before .before in
     let z = toZ w64 (ofZ w64 (s .args .set)) in
     let e : l .loop .v ≡ nodesOf (now (s .args .case)) = omega arith in
-    l .loop .inv .1 ∙ ap (λ (k : ℕ). sumN k (ownNode (now (s .args .case)) z (now (s .args .row)) (s .args .i))) e
-    ∙ ap (λ (y : ℤ). ownNodes (now (s .args .case)) y (now (s .args .row)) (s .args .i)) (toZ-ofZ (s .fits .set))
+    l .loop .inv .1 ∙ ap (λ (k : ℕ). sumN k (ownNode (now (s .args .case)) z (now (s .args .rows)) (s .args .i))) e
+    ∙ ap (λ (y : ℤ). ownNodes (now (s .args .case)) y (now (s .args .rows)) (s .args .i)) (toZ-ofZ (s .fits .set))
 
 pub own-nodes-spec : {M : Type 1} → statement M
 own-nodes-spec =

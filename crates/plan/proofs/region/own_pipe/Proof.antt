@@ -28,7 +28,7 @@ pipe-residual-requires c κs =
         step = h .step;
         arc = s .pre .1;
         before = h .kept .before;
-        pressures = record { each = λ u l. h .kept .rows .each u l .p };
+        pressures = record { each = λ u l. h .kept .node-rows .each u l .p };
         flows = h .kept .flows .each (s .args .e) (s .pre .1);
       };
       pipe = eqb-true _ _ (both-true (isPipe (now (s .args .case)) (s .args .e)) _ k);

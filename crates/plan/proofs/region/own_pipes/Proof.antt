@@ -18,10 +18,10 @@ use Rattle.plan.proofs.region.own_pipes.Statement.{statement}
 use Rattle.plan.proofs.region.own_pipes.Tie as tie
 
 abbrev Inv-loop : tie.InvT-loop
-Inv-loop case set old row arcs i sum₀ e₀ sum e = (e ≤ arcs) × (sum ≡ sumN e (ownPipe case (toZ w64 set) (numberAt old) row i))
+Inv-loop case set old rows arcs i sum₀ e₀ sum e = (e ≤ arcs) × (sum ≡ sumN e (ownPipe case (toZ w64 set) (numberAt old) rows i))
 
 abbrev μ-loop : tie.MeasureT-loop
-μ-loop case set old row arcs i sum₀ e₀ sum e = arcs - e
+μ-loop case set old rows arcs i sum₀ e₀ sum e = arcs - e
 
 loop-holds : tie.Need-loop-holds Inv-loop μ-loop
 loop-holds c = (omega arith, sym (sumN-none _))
@@ -34,7 +34,7 @@ add-sum c =
     let l = c .before .before in
     let s = l .before in
     let z = toZ w64 (ofZ w64 (s .args .set)) in
-    addN-fits (ownPipe (now (s .args .case)) z (numberAt (now (s .args .old))) (now (s .args .row)) (s .args .i)) (arcsOf (now (s .args .case))) 1000000 (own-pipe-small (s .pre .1) z)
+    addN-fits (ownPipe (now (s .args .case)) z (numberAt (now (s .args .old))) (now (s .args .rows)) (s .args .i)) (arcsOf (now (s .args .case))) 1000000 (own-pipe-small (s .pre .1) z)
     (omega (arith, mul-le-mul-right 1000000 (counted (s .pre .1 .accepted) .arcs))) (l .loop .e) (omega arith) (l .loop .inv .1) (c .own-pipe .ensures)
 
 add-e : tie.Need-add-e Inv-loop μ-loop
@@ -48,7 +48,7 @@ loop-again c =
     let l = c .before .before in
     let s = l .before in
     let z = toZ w64 (ofZ w64 (s .args .set)) in
-    (omega arith, ap₂ _+_ (l .loop .inv .1) (c .own-pipe .ensures) ∙ sym (sumN-more (ownPipe (now (s .args .case)) z (numberAt (now (s .args .old))) (now (s .args .row)) (s .args .i)) (l .loop .e)))
+    (omega arith, ap₂ _+_ (l .loop .inv .1) (c .own-pipe .ensures) ∙ sym (sumN-more (ownPipe (now (s .args .case)) z (numberAt (now (s .args .old))) (now (s .args .rows)) (s .args .i)) (l .loop .e)))
 
 returns : tie.Need-returns Inv-loop μ-loop
 unfolding ownPipes
@@ -57,8 +57,8 @@ returns c =
     let s = l .before in
     let z = toZ w64 (ofZ w64 (s .args .set)) in
     let e : l .loop .e ≡ arcsOf (now (s .args .case)) = omega arith in
-    l .loop .inv .1 ∙ ap (λ (k : ℕ). sumN k (ownPipe (now (s .args .case)) z (numberAt (now (s .args .old))) (now (s .args .row)) (s .args .i))) e
-    ∙ ap (λ (y : ℤ). ownPipes (now (s .args .case)) y (numberAt (now (s .args .old))) (now (s .args .row)) (s .args .i)) (toZ-ofZ (s .fits .set))
+    l .loop .inv .1 ∙ ap (λ (k : ℕ). sumN k (ownPipe (now (s .args .case)) z (numberAt (now (s .args .old))) (now (s .args .rows)) (s .args .i))) e
+    ∙ ap (λ (y : ℤ). ownPipes (now (s .args .case)) y (numberAt (now (s .args .old))) (now (s .args .rows)) (s .args .i)) (toZ-ofZ (s .fits .set))
 
 pub own-pipes-spec : {M : Type 1} → statement M
 own-pipes-spec =

@@ -17,10 +17,10 @@ use Rattle.plan.proofs.region.supplies.Statement.{statement}
 use Rattle.plan.proofs.region.supplies.Tie as tie
 
 abbrev Inv-loop : tie.InvT-loop
-Inv-loop case set row nodes sum₀ v₀ sum v = (v ≤ nodes) × (sum .value ≡ total v (regionSupply (toZ w64 set) row))
+Inv-loop case set rows nodes sum₀ v₀ sum v = (v ≤ nodes) × (sum .value ≡ total v (regionSupply (toZ w64 set) rows))
 
 abbrev μ-loop : tie.MeasureT-loop
-μ-loop case set row nodes sum₀ v₀ sum v = nodes - v
+μ-loop case set rows nodes sum₀ v₀ sum v = nodes - v
 
 loop-holds : tie.Need-loop-holds Inv-loop μ-loop
 loop-holds c = (omega arith, sym (sum-none _))
@@ -33,7 +33,7 @@ add-sum c =
     let l = c .before .before .before .before in
     let s = l .before in
     let z = toZ w64 (ofZ w64 (s .args .set)) in
-    add-fits (regionSupply z (now (s .args .row))) (nodesOf (now (s .args .case))) 10000000 (supply-small (s .pre .2) z)
+    add-fits (regionSupply z (now (s .args .rows))) (nodesOf (now (s .args .case))) 10000000 (supply-small (s .pre .2) z)
     (omega (arith, mul-le-mul-right {m = nodesOf (now (s .args .case))} {n = 60} 10000000 (omega arith))) (l .loop .v) (omega arith) (l .loop .inv .1) (c .before .before .supply .ensures)
 
 add-v : tie.Need-add-v Inv-loop μ-loop
@@ -48,7 +48,7 @@ loop-again c =
     let s = l .before in
     let z = toZ w64 (ofZ w64 (s .args .set)) in (
       omega arith,
-      add-is (regionSupply z (now (s .args .row))) (nodesOf (now (s .args .case))) 10000000 (supply-small (s .pre .2) z)
+      add-is (regionSupply z (now (s .args .rows))) (nodesOf (now (s .args .case))) 10000000 (supply-small (s .pre .2) z)
           (omega (arith, mul-le-mul-right {m = nodesOf (now (s .args .case))} {n = 60} 10000000 (omega arith))) (l .loop .v) (omega arith) (l .loop .inv .1) (c .before .before .supply .ensures),
     )
 
@@ -58,9 +58,9 @@ returns c =
     let l = c .before .before in
     let s = l .before in
     let z = toZ w64 (ofZ w64 (s .args .set)) in
-    all-is (regionSupply z (now (s .args .row))) (nodesOf (now (s .args .case))) 10000000 (supply-small (s .pre .2) z)
+    all-is (regionSupply z (now (s .args .rows))) (nodesOf (now (s .args .case))) 10000000 (supply-small (s .pre .2) z)
     (omega (arith, mul-le-mul-right {m = nodesOf (now (s .args .case))} {n = 60} 10000000 (omega arith))) (l .loop .v) (omega arith) (l .loop .inv .1)
-    ∙ ap (λ (y : ℤ). suppliesIn (now (s .args .case)) y (now (s .args .row))) (toZ-ofZ (s .fits .set))
+    ∙ ap (λ (y : ℤ). suppliesIn (now (s .args .case)) y (now (s .args .rows))) (toZ-ofZ (s .fits .set))
 
 pub supplies-spec : {M : Type 1} → statement M
 supplies-spec =

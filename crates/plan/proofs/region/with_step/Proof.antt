@@ -41,8 +41,8 @@ together-requires c κs =
     let s = o .before .before .before .before .before .before .before in
     let h = s .pre .2 in
     let q = residual-small h (s .args .set) in
-    let a = o .before .before .own-nodes .ensures ∙ ap (λ (y : ℤ). ownNodes (now (s .args .case)) y (now (s .args .row)) (s .args .i)) (toZ-ofZ (s .fits .set)) in
-    let b = o .own-pipes .ensures ∙ ap (λ (y : ℤ). ownPipes (now (s .args .case)) y (numberAt (s .args .g .pressures)) (now (s .args .row)) (s .args .i)) (toZ-ofZ (s .fits .set)) in
+    let a = o .before .before .own-nodes .ensures ∙ ap (λ (y : ℤ). ownNodes (now (s .args .case)) y (now (s .args .rows)) (s .args .i)) (toZ-ofZ (s .fits .set)) in
+    let b = o .own-pipes .ensures ∙ ap (λ (y : ℤ). ownPipes (now (s .args .case)) y (numberAt (s .args .g .pressures)) (now (s .args .rows)) (s .args .i)) (toZ-ofZ (s .fits .set)) in
     omega (arith, a, b, q)
 
 row-pressures-requires : tie.Need-row-pressures-requires
@@ -56,7 +56,7 @@ add-t21 c =
     let o = c .before .before .before .before .before in
     let s = o .before .before .before .before .before .before .before in
     let h = s .pre .2 in
-    let e = o .before .before .before .before .brought-in .ensures ∙ ap (λ (y : ℤ). broughtIn (now (s .args .case)) y (now (s .args .row)) (s .args .i)) (toZ-ofZ (s .fits .set)) in
+    let e = o .before .before .before .before .brought-in .ensures ∙ ap (λ (y : ℤ). broughtIn (now (s .args .case)) y (now (s .args .rows)) (s .args .i)) (toZ-ofZ (s .fits .set)) in
     let x = held (plain {z = s .args .g .brought} (s .pre .3 .brought .bound)) tt in
     let y = held (record { val = e; bound = brought-small h (s .args .set) }) tt in
     held-fits (x +ʳ y) tt
@@ -68,8 +68,8 @@ add-t22 c =
     let s = o .before .before .before .before .before .before .before in
     let h = s .pre .2 in
     let q = residual-small h (s .args .set) in
-    let a = o .before .before .own-nodes .ensures ∙ ap (λ (y : ℤ). ownNodes (now (s .args .case)) y (now (s .args .row)) (s .args .i)) (toZ-ofZ (s .fits .set)) in
-    let b = o .own-pipes .ensures ∙ ap (λ (y : ℤ). ownPipes (now (s .args .case)) y (numberAt (s .args .g .pressures)) (now (s .args .row)) (s .args .i)) (toZ-ofZ (s .fits .set)) in
+    let a = o .before .before .own-nodes .ensures ∙ ap (λ (y : ℤ). ownNodes (now (s .args .case)) y (now (s .args .rows)) (s .args .i)) (toZ-ofZ (s .fits .set)) in
+    let b = o .own-pipes .ensures ∙ ap (λ (y : ℤ). ownPipes (now (s .args .case)) y (numberAt (s .args .g .pressures)) (now (s .args .rows)) (s .args .i)) (toZ-ofZ (s .fits .set)) in
     record { fits = omega (arith, a, b, q, c .before .before .before .before .before .together .ensures, s .pre .3 .residual) }
 
 returns : tie.Need-returns
@@ -78,14 +78,14 @@ returns c =
     let o = c .before .before .before .before .before .before in
     let s = o .before .before .before .before .before .before .before in
     let h = s .pre .2 in
-    let e = o .before .before .before .before .brought-in .ensures ∙ ap (λ (y : ℤ). broughtIn (now (s .args .case)) y (now (s .args .row)) (s .args .i)) (toZ-ofZ (s .fits .set)) in
+    let e = o .before .before .before .before .brought-in .ensures ∙ ap (λ (y : ℤ). broughtIn (now (s .args .case)) y (now (s .args .rows)) (s .args .i)) (toZ-ofZ (s .fits .set)) in
     let x = held (plain {z = s .args .g .brought} (s .pre .3 .brought .bound)) tt in
     let y = held (record { val = e; bound = brought-small h (s .args .set) }) tt in
     let q = residual-small h (s .args .set) in
-    let a = o .before .before .own-nodes .ensures ∙ ap (λ (y : ℤ). ownNodes (now (s .args .case)) y (now (s .args .row)) (s .args .i)) (toZ-ofZ (s .fits .set)) in
-    let b = o .own-pipes .ensures ∙ ap (λ (y : ℤ). ownPipes (now (s .args .case)) y (numberAt (s .args .g .pressures)) (now (s .args .row)) (s .args .i)) (toZ-ofZ (s .fits .set)) in
+    let a = o .before .before .own-nodes .ensures ∙ ap (λ (y : ℤ). ownNodes (now (s .args .case)) y (now (s .args .rows)) (s .args .i)) (toZ-ofZ (s .fits .set)) in
+    let b = o .own-pipes .ensures ∙ ap (λ (y : ℤ). ownPipes (now (s .args .case)) y (numberAt (s .args .g .pressures)) (now (s .args .rows)) (s .args .i)) (toZ-ofZ (s .fits .set)) in
     record {
-      pressures = subst (λ (n : ℕ). Holds (pos 0) (c .before .before .before .row-pressures .result) (pressureIn (now (s .args .row))) n) (s .pre .0) (c .before .before .before .row-pressures .ensures);
+      pressures = subst (λ (n : ℕ). Holds (pos 0) (c .before .before .before .row-pressures .result) (pressureIn (now (s .args .rows))) n) (s .pre .0) (c .before .before .before .row-pressures .ensures);
       brought = held (x +ʳ y) tt .val;
       residual = ap (λ (n : ℕ). s .args .g .residual + n) (c .before .before .before .before .before .together .ensures ∙ ap₂ _+_ a b);
     }

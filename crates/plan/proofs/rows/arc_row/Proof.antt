@@ -22,14 +22,14 @@ at-requires c κs = search needs
 index-requires : tie.Need-index-requires
 index-requires c κs = search needs
 
-mul-first : tie.Need-mul-first
-mul-first c = let n = nodes-is c in omega (arith, n, c .before .before .pre .0 .nodes)
+mul-offset : tie.Need-mul-offset
+mul-offset c = let n = nodes-is c in omega (arith, n, c .before .before .pre .0 .nodes)
 
-mul-first-2 : tie.Need-mul-first-2
-mul-first-2 c = search needs
+mul-offset-2 : tie.Need-mul-offset-2
+mul-offset-2 c = search needs
 
-add-first : tie.Need-add-first
-add-first c = let n = nodes-is c in omega (arith, n, c .before .before .pre .0 .nodes, c .before .before .pre .0 .arcs, c .before .before .pre .1)
+add-offset : tie.Need-add-offset
+add-offset c = let n = nodes-is c in omega (arith, n, c .before .before .pre .0 .nodes, c .before .before .pre .0 .arcs, c .before .before .pre .1)
 
 at-requires-2 : tie.Need-at-requires-2
 at-requires-2 c κs = search needs
@@ -67,9 +67,9 @@ arc-row-spec =
     (tie.spec
     at-requires
     index-requires
-    mul-first
-    mul-first-2
-    add-first
+    mul-offset
+    mul-offset-2
+    add-offset
     at-requires-2
     add-at
     at-requires-3

@@ -31,20 +31,20 @@ at-requires-2 c κs = search needs
 index-requires-2 : tie.Need-index-requires-2
 index-requires-2 c κs = search needs
 
-mul-first : tie.Need-mul-first
-mul-first c = let n = nodes-is (c .before .before) in omega (arith, n, c .before .before .before .before .pre .0 .nodes)
+mul-offset : tie.Need-mul-offset
+mul-offset c = let n = nodes-is (c .before .before) in omega (arith, n, c .before .before .before .before .pre .0 .nodes)
 
-mul-first-2 : tie.Need-mul-first-2
-mul-first-2 c = let m = arcs-is c in omega (arith, m, c .before .before .before .before .pre .0 .arcs)
+mul-offset-2 : tie.Need-mul-offset-2
+mul-offset-2 c = let m = arcs-is c in omega (arith, m, c .before .before .before .before .pre .0 .arcs)
 
-add-first : tie.Need-add-first
-add-first c = let n = nodes-is (c .before .before) in let m = arcs-is c in omega (arith, n, m, c .before .before .before .before .pre .0 .nodes, c .before .before .before .before .pre .0 .arcs)
+add-offset : tie.Need-add-offset
+add-offset c = let n = nodes-is (c .before .before) in let m = arcs-is c in omega (arith, n, m, c .before .before .before .before .pre .0 .nodes, c .before .before .before .before .pre .0 .arcs)
 
-mul-first-3 : tie.Need-mul-first-3
-mul-first-3 c = search needs
+mul-offset-3 : tie.Need-mul-offset-3
+mul-offset-3 c = search needs
 
-add-first-2 : tie.Need-add-first-2
-add-first-2 c = let n = nodes-is (c .before .before) in let m = arcs-is c in omega (arith, n, m, c .before .before .before .before .pre .0 .nodes, c .before .before .before .before .pre .0 .arcs, c .before .before .before .before .pre .0 .stations, c .before .before .before .before .pre .1)
+add-offset-2 : tie.Need-add-offset-2
+add-offset-2 c = let n = nodes-is (c .before .before) in let m = arcs-is c in omega (arith, n, m, c .before .before .before .before .pre .0 .nodes, c .before .before .before .before .pre .0 .arcs, c .before .before .before .before .pre .0 .stations, c .before .before .before .before .pre .1)
 
 at-requires-3 : tie.Need-at-requires-3
 at-requires-3 c κs = search needs
@@ -71,11 +71,11 @@ choice-of-spec =
     index-requires
     at-requires-2
     index-requires-2
-    mul-first
-    mul-first-2
-    add-first
-    mul-first-3
-    add-first-2
+    mul-offset
+    mul-offset-2
+    add-offset
+    mul-offset-3
+    add-offset-2
     at-requires-3
     add-at
     at-requires-4

@@ -4,8 +4,8 @@ use borrow.Author.Needs.{needs}
 use Rattle.plan.proofs.rows.node_row.Statement.{statement}
 use Rattle.plan.proofs.rows.node_row.Tie as tie
 
-mul-first : tie.Need-mul-first
-mul-first c = search needs
+mul-offset : tie.Need-mul-offset
+mul-offset c = search needs
 
 at-requires : tie.Need-at-requires
 at-requires c κs = search needs
@@ -55,7 +55,7 @@ pub node-row-spec : {M : Type 1} → statement M
 node-row-spec =
     tie.close
     (tie.spec
-    mul-first
+    mul-offset
     at-requires
     add-at
     at-requires-2

@@ -20,10 +20,10 @@ use Rattle.plan.proofs.stations.fence_flows_kept.Statement.{statement}
 use Rattle.plan.proofs.stations.fence_flows_kept.Tie as tie
 
 abbrev Inv-loop : tie.InvT-loop
-Inv-loop case row i s flows chosen inside plain nodes v₀ v = (v ≤ nodes) × (every v (fenceKept case row s (directionIn case row s)) ≡ true)
+Inv-loop case rows i s flows chosen inside plain nodes v₀ v = (v ≤ nodes) × (every v (fenceKept case rows s (directionIn case rows s)) ≡ true)
 
 abbrev μ-loop : tie.MeasureT-loop
-μ-loop case row i s flows chosen inside plain nodes v₀ v = nodes - v
+μ-loop case rows i s flows chosen inside plain nodes v₀ v = nodes - v
 
 mul-direction : tie.Need-mul-direction Inv-loop μ-loop
 mul-direction c = let s = c in omega (arith, s .pre .0 .station, counted (s .pre .0 .at .accepted) .stations)
@@ -49,21 +49,21 @@ element-copy-out-inside c = let s = c .before .before .before .before .before in
 -- the chosen direction
 chosen-is : (c : tie.After-direction Inv-loop μ-loop) →
     c .direction .result ≡ directionOf (now (c .before .before .before .before .before .args .case)) (c .before .before .before .before .before .args .s)
-    (directionIn (now (c .before .before .before .before .before .args .case)) (now (c .before .before .before .before .before .args .row)) (c .before .before .before .before .before .args .s))
+    (directionIn (now (c .before .before .before .before .before .args .case)) (now (c .before .before .before .before .before .args .rows)) (c .before .before .before .before .before .args .s))
 chosen-is c =
     let x = c .before in
     let t = x .before in
     let s = t .before .before .before in
     c .direction .ensures
-    ∙ ap₂ (directionRow (now (s .args .case))) (s .pre .0 .at .laid .rows .each (s .args .s) (s .pre .0 .station)) (x .index .ensures ∙ ap posPart (kept _ (t .struct-told .given .0 .1) ∙ ap (λ (y : Choice). y .direction) (t .before .choice-of .ensures)))
+    ∙ ap₂ (directionRow (now (s .args .case))) (s .pre .0 .at .laid .offsets .each (s .args .s) (s .pre .0 .station)) (x .index .ensures ∙ ap posPart (kept _ (t .struct-told .given .0 .1) ∙ ap (λ (y : Choice). y .direction) (t .before .choice-of .ensures)))
 
 node-in : (c : tie.In-loop Inv-loop μ-loop) → c .before .loop .v < nodesOf (now (c .before .before .before .before .before .before .before .before .before .args .case))
 node-in c = rw (← (c .before .before .before .before .before .before .before .before .before .pre .0 .at .laid .nodes)) (c .loop-test .taken)
 
 -- what was found of the node
 found : (c : tie.After-fence-kept Inv-loop μ-loop) →
-    c .fence-kept .result ≡ fenceKept (now (c .before .before .before .before .before .before .before .before .before .before .before .args .case)) (now (c .before .before .before .before .before .before .before .before .before .before .before .args .row)) (c .before .before .before .before .before .before .before .before .before .before .before .args .s)
-    (directionIn (now (c .before .before .before .before .before .before .before .before .before .before .before .args .case)) (now (c .before .before .before .before .before .before .before .before .before .before .before .args .row)) (c .before .before .before .before .before .before .before .before .before .before .before .args .s)) (c .before .before .before .loop .v)
+    c .fence-kept .result ≡ fenceKept (now (c .before .before .before .before .before .before .before .before .before .before .before .args .case)) (now (c .before .before .before .before .before .before .before .before .before .before .before .args .rows)) (c .before .before .before .before .before .before .before .before .before .before .before .args .s)
+    (directionIn (now (c .before .before .before .before .before .before .before .before .before .before .before .args .case)) (now (c .before .before .before .before .before .before .before .before .before .before .before .args .rows)) (c .before .before .before .before .before .before .before .before .before .before .before .args .s)) (c .before .before .before .loop .v)
 found c =
     let a = c .before in
     let t = a .before in
@@ -73,7 +73,7 @@ found c =
     let d = n .before in
     let s = d .before .before .before .before .before in
     let l = now (s .args .case) in
-    let r = now (s .args .row) in
+    let r = now (s .args .rows) in
     let k = s .args .s in
     let y = s .pre .0 .at .laid in
     fence-node (s .pre .0 .at .accepted) r k (directionIn l r k) (h .loop .v) (node-in t) (s .pre .0 .station) (chosen-is d)
@@ -102,7 +102,7 @@ returns c =
     let h = t .before in
     let s = h .before .before .before .before .before .before .before .before in
     let l = now (s .args .case) in
-    let r = now (s .args .row) in
+    let r = now (s .args .rows) in
     let k = s .args .s in
     sym (every-not (nodesOf l) (fenceKept l r k (directionIn l r k)) (h .loop .v) (node-in t) (sym (found b) ∙ not-true _ (c .if1 .taken)))
 
@@ -118,7 +118,7 @@ loop-again c =
     let h = b .before .before .before in
     let s = h .before .before .before .before .before .before .before .before in
     let l = now (s .args .case) in
-    let r = now (s .args .row) in
+    let r = now (s .args .rows) in
     let k = s .args .s in
     (omega arith, every-more (h .loop .v) (fenceKept l r k (directionIn l r k)) (h .loop .inv .1) (sym (found b) ∙ not-false _ (c .if1 .left)))
 

@@ -11,12 +11,12 @@ use Rattle.plan.specs.law.StationRules.{obeyed}
 use Rattle.plan.proofs.stations.state_obeyed.Statement.{statement}
 use Rattle.plan.proofs.stations.state_obeyed.Tie as tie
 
-supports : (c : tie.After-member) → c .member .result ≡ memberOf (stateRow (now (c .before .before .before .args .case)) (c .before .before .before .args .first) (c .before .before .before .args .z) .directions) (c .before .before .before .args .f)
+supports : (c : tie.After-member) → c .member .result ≡ memberOf (stateRow (now (c .before .before .before .args .case)) (c .before .before .before .args .offset) (c .before .before .before .args .z) .directions) (c .before .before .before .args .f)
 supports c =
     let x = c .before in
     c .member .ensures ∙ ap (λ (z : ℤ). memberOf z (x .before .before .args .f)) (kept _ (x .struct-told .given .0 .1) ∙ ap (λ (y : State). y .directions) (x .before .state .ensures))
 
-all-on : (c : tie.After-subset) → c .subset .result ≡ subsetOf (stateRow (now (c .before .before .before .before .before .before .args .case)) (c .before .before .before .before .before .before .args .first) (c .before .before .before .before .before .before .args .z) .on) (c .before .before .before .before .before .before .args .active)
+all-on : (c : tie.After-subset) → c .subset .result ≡ subsetOf (stateRow (now (c .before .before .before .before .before .before .args .case)) (c .before .before .before .before .before .before .args .offset) (c .before .before .before .before .before .before .args .z) .on) (c .before .before .before .before .before .before .args .active)
 all-on c =
     let x = c .before in
     let r = x .before .before .before .before in

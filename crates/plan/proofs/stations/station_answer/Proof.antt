@@ -43,7 +43,7 @@ returns c =
     let x = y .before in
     let k = x .before in
     let s = k .before in
-    station-asked (now (s .args .case)) (now (s .args .row)) (s .args .i) (s .args .s) (k .choice-kept .ensures) (s .pre .2) (f .fence-flows-kept .ensures) (x .ask .ensures) (y .ask2 .ensures) (z .ask3 .ensures) (o .or-else .ensures) (c .or-else2 .ensures)
+    station-asked (now (s .args .case)) (now (s .args .rows)) (s .args .i) (s .args .s) (k .choice-kept .ensures) (s .pre .2) (f .fence-flows-kept .ensures) (x .ask .ensures) (y .ask2 .ensures) (z .ask3 .ensures) (o .or-else .ensures) (c .or-else2 .ensures)
 
 pub station-answer-spec : {M : Type 1} → statement M
 station-answer-spec =

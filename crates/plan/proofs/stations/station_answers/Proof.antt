@@ -15,10 +15,10 @@ use Rattle.plan.proofs.stations.station_answers.Statement.{statement}
 use Rattle.plan.proofs.stations.station_answers.Tie as tie
 
 abbrev Inv-loop : tie.InvT-loop
-Inv-loop case row layout i stations active once flows s₀ s = (s ≤ stations) × (firstNo (allStationQuestions case row i) ≡ rest (stationQuestions case row i) s stations)
+Inv-loop case rows layout i stations active once flows s₀ s = (s ≤ stations) × (firstNo (allStationQuestions case rows i) ≡ rest (stationQuestions case rows i) s stations)
 
 abbrev μ-loop : tie.MeasureT-loop
-μ-loop case row layout i stations active once flows s₀ s = stations - s
+μ-loop case rows layout i stations active once flows s₀ s = stations - s
 
 active-sets-requires : tie.Need-active-sets-requires Inv-loop μ-loop
 active-sets-requires c κs = (c .pre .0 .accepted, c .pre .0 .laid .arcs)
@@ -82,7 +82,7 @@ returns c =
     let t = b .before .before in
     let h = t .before in
     let a = h .before .before .before .before .args in
-    sym (rest-no (stationQuestions (now (a .case)) (now (a .row)) (a .i)) (h .loop .s) (a .layout .stations) (h .loop .inv .1) (t .loop-test .taken) (b .station-answer .ensures) (c .enum-told2 .given .1))
+    sym (rest-no (stationQuestions (now (a .case)) (now (a .rows)) (a .i)) (h .loop .s) (a .layout .stations) (h .loop .inv .1) (t .loop-test .taken) (b .station-answer .ensures) (c .enum-told2 .given .1))
 
 add-s : tie.Need-add-s Inv-loop μ-loop
 add-s c = omega arith
@@ -96,13 +96,13 @@ loop-again c =
     let t = b .before .before in
     let h = t .before in
     let a = h .before .before .before .before .args in
-    (omega arith, rest-on (stationQuestions (now (a .case)) (now (a .row)) (a .i)) (h .loop .s) (a .layout .stations) (h .loop .inv .1) (t .loop-test .taken) (b .station-answer .ensures) (c .enum-told .given .1))
+    (omega arith, rest-on (stationQuestions (now (a .case)) (now (a .rows)) (a .i)) (h .loop .s) (a .layout .stations) (h .loop .inv .1) (t .loop-test .taken) (b .station-answer .ensures) (c .enum-told .given .1))
 
 returns-2 : tie.Need-returns-2 Inv-loop μ-loop
 returns-2 c =
     let h = c .before in
     let a = h .before .before .before .before .args in
-    sym (rest-end (stationQuestions (now (a .case)) (now (a .row)) (a .i)) (h .loop .s) (a .layout .stations) (h .loop .inv .1) (c .loop-test .left))
+    sym (rest-end (stationQuestions (now (a .case)) (now (a .rows)) (a .i)) (h .loop .s) (a .layout .stations) (h .loop .inv .1) (c .loop-test .left))
 
 pub station-answers-spec : {M : Type 1} → statement M
 station-answers-spec =

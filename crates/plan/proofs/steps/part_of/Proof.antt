@@ -4,11 +4,11 @@ use borrow.Author.Needs.{needs}
 use Rattle.plan.proofs.steps.part_of.Statement.{statement}
 use Rattle.plan.proofs.steps.part_of.Tie as tie
 
-mul-first : tie.Need-mul-first
-mul-first c = search needs
+mul-offset : tie.Need-mul-offset
+mul-offset c = search needs
 
-add-first : tie.Need-add-first
-add-first c = search needs
+add-offset : tie.Need-add-offset
+add-offset c = search needs
 
 add-end : tie.Need-add-end
 add-end c = search needs
@@ -32,8 +32,8 @@ pub part-of-spec : {M : Type 1} → statement M
 part-of-spec =
     tie.close
     (tie.spec
-    mul-first
-    add-first
+    mul-offset
+    add-offset
     add-end
     mul-result
     sub-result

@@ -27,7 +27,7 @@ returns c =
     let n = e .before .before in
     let a = n .before .args in
     let l = now (a .case) in
-    let r = now (a .row) in
+    let r = now (a .rows) in
     stations-passed l r (a .i) (nodeResiduals l r (a .i)) (sym (n .station-answers .ensures) ∙ e .enum-told .given .1) (c .balance .ensures)
 
 returns-2 : tie.Need-returns-2
@@ -36,7 +36,7 @@ returns-2 c =
     let n = e .before .before in
     let a = n .before .args in
     let l = now (a .case) in
-    let r = now (a .row) in
+    let r = now (a .rows) in
     stations-stop l r (a .i) (nodeResiduals l r (a .i)) (e .enum-told2 .given .1) (c .stopped .ensures) (n .station-answers .ensures)
 
 pub past-arcs-spec : {M : Type 1} → statement M

@@ -14,24 +14,24 @@ use Rattle.plan.proofs.steps.step.Statement.{statement}
 use Rattle.plan.proofs.steps.step.Tie as tie
 
 -- past the nodes
-nodes-yes : (c : tie.After-enum-told) → let s = c .before .before .before .before in firstNo (allNodeQuestions (now (s .args .case)) (now (s .args .row)) (s .args .i)) ≡ Yes
+nodes-yes : (c : tie.After-enum-told) → let s = c .before .before .before .before in firstNo (allNodeQuestions (now (s .args .case)) (now (s .args .rows)) (s .args .i)) ≡ Yes
 nodes-yes c = sym (c .before .before .node-answers .ensures) ∙ c .enum-told .given .1
 
-nodes-are : (c : tie.After-enum-told) → let s = c .before .before .before .before in NodesSized (now (s .args .case)) (now (s .args .row))
+nodes-are : (c : tie.After-enum-told) → let s = c .before .before .before .before in NodesSized (now (s .args .case)) (now (s .args .rows))
 nodes-are c =
     let s = c .before .before .before .before in
     let p = s .pre .0 in
-    nodes-sized (now (s .args .case)) (now (s .args .row)) (s .args .i) (p .accepted) (p .step) (nodes-yes c)
+    nodes-sized (now (s .args .case)) (now (s .args .rows)) (s .args .i) (p .accepted) (p .step) (nodes-yes c)
 
 -- past the arcs
 arcs-yes : (c : tie.After-enum-told3) → let s = c .before .before .before .before .before .before .before .before in
-    firstNo (allArcQuestions (now (s .args .case)) (numberAt (s .args .previous .pressures)) (now (s .args .row)) (s .args .i)) ≡ Yes
+    firstNo (allArcQuestions (now (s .args .case)) (numberAt (s .args .previous .pressures)) (now (s .args .rows)) (s .args .i)) ≡ Yes
 arcs-yes c = sym (c .before .before .arc-answers .ensures) ∙ c .enum-told3 .given .1
 
-flows-are : (c : tie.After-enum-told3) → let s = c .before .before .before .before .before .before .before .before in FlowsSized (now (s .args .case)) (now (s .args .row))
+flows-are : (c : tie.After-enum-told3) → let s = c .before .before .before .before .before .before .before .before in FlowsSized (now (s .args .case)) (now (s .args .rows))
 flows-are c =
     let s = c .before .before .before .before .before .before .before .before in
-    flows-sized (now (s .args .case)) (numberAt (s .args .previous .pressures)) (now (s .args .row)) (s .args .i) (s .pre .0 .accepted) (arcs-yes c)
+    flows-sized (now (s .args .case)) (numberAt (s .args .previous .pressures)) (now (s .args .rows)) (s .args .i) (s .pre .0 .accepted) (arcs-yes c)
 
 node-answers-requires : tie.Need-node-answers-requires
 node-answers-requires c κs = search needs
@@ -51,7 +51,7 @@ returns c =
     let n = t .before .before in
     let a = n .before .before .args in
     let l = now (a .case) in
-    let r = now (a .row) in
+    let r = now (a .rows) in
     nodes-stop l (numberAt (a .previous .pressures)) r (a .i) (nodeResiduals l r (a .i)) (t .enum-told2 .given .1) (c .stopped .ensures) (n .node-answers .ensures)
 
 slice-aggregate-arc-answers : tie.Need-slice-aggregate-arc-answers
@@ -70,7 +70,7 @@ past-arcs-requires : tie.Need-past-arcs-requires
 past-arcs-requires c κs =
     let t = c .before .before .before .before in
     let s = t .before .before .before .before in
-    (s .pre .0, flows-are c, nodes-are t, machines-kept (now (s .args .case)) (numberAt (s .args .previous .pressures)) (now (s .args .row)) (s .args .i) (arcs-yes c))
+    (s .pre .0, flows-are c, nodes-are t, machines-kept (now (s .args .case)) (numberAt (s .args .previous .pressures)) (now (s .args .rows)) (s .args .i) (arcs-yes c))
 
 enum-told-4 : tie.Need-enum-told-4
 enum-told-4 c = search needs
@@ -84,7 +84,7 @@ returns-2 c =
     let t = e .before .before .before .before in
     let a = t .before .before .before .before .args in
     let l = now (a .case) in
-    let r = now (a .row) in
+    let r = now (a .rows) in
     arcs-passed l (numberAt (a .previous .pressures)) r (a .i) (nodeResiduals l r (a .i)) (nodes-yes t) (arcs-yes e) (c .past-arcs .ensures)
 
 returns-3 : tie.Need-returns-3
@@ -94,7 +94,7 @@ returns-3 c =
     let t = q .before .before in
     let a = t .before .before .before .before .args in
     let l = now (a .case) in
-    let r = now (a .row) in
+    let r = now (a .rows) in
     arcs-stop l (numberAt (a .previous .pressures)) r (a .i) (nodeResiduals l r (a .i)) (e .enum-told4 .given .1) (c .stopped2 .ensures) (nodes-yes t) (q .arc-answers .ensures)
 
 pub step-spec : {M : Type 1} → statement M

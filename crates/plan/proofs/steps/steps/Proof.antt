@@ -16,7 +16,7 @@ use Rattle.plan.specs.inside.CaseSizes.{counted}
 use Rattle.plan.specs.law.Step.{stepQuestions}
 use Rattle.plan.specs.inside.StepAnswer.{kept-yes, no-first}
 use Rattle.plan.specs.law.Totals.{nodeResiduals}
-use Rattle.plan.proofs.Going.{Going, going, held-sized, start-sized, part-within, part-is, width-is, kept, room, refused, went-on, finished}
+use Rattle.plan.proofs.StepsLoop.{Going, going, held-sized, start-sized, part-within, part-is, width-is, kept, room, refused, went-on, finished}
 use Rattle.plan.proofs.steps.steps.Statement.{statement}
 use Rattle.plan.proofs.steps.steps.Tie as tie
 

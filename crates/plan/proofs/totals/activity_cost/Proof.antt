@@ -44,7 +44,7 @@ returns c =
     let a = t .before .before in
     let s = a .before in
     let l = now (s .args .case) in
-    let x = activeIn l (now (s .args .row)) (s .args .e) in
+    let x = activeIn l (now (s .args .rows)) (s .args .e) in
     let w : m .at-most .result ≡ x = m .at-most .ensures ∙ ap (leZ (pos 1)) (kept _ (m .before .struct-told .given .1 .1 .0 .1) ∙ ap (λ (x : ArcRow). x .setting) (r .arc-row .ensures)) in
     let k : 3 ≤ arcOf l (s .args .e) .kind = omega (arith, t .if1 .taken, ap (λ (x : Arc). x .kind) (a .arc .ensures)) in
     ap (λ (x : Artificial). x .weight) (c .artificial .ensures)
@@ -60,7 +60,7 @@ returns-2 c =
     let a = t .before .before in
     let s = a .before in
     let l = now (s .args .case) in
-    let x = activeIn l (now (s .args .row)) (s .args .e) in
+    let x = activeIn l (now (s .args .rows)) (s .args .e) in
     let w : m .at-most .result ≡ x = m .at-most .ensures ∙ ap (leZ (pos 1)) (kept _ (m .before .struct-told .given .1 .1 .0 .1) ∙ ap (λ (x : ArcRow). x .setting) (r .arc-row .ensures)) in
     let k : 3 ≤ arcOf l (s .args .e) .kind = omega (arith, t .if1 .taken, ap (λ (x : Arc). x .kind) (a .arc .ensures)) in
     second-no (artificialOf l (s .args .e) .weight) (le-leb 3 _ k) (ap (changed (s .args .was)) (sym w) ∙ sym (d .changed .ensures) ∙ c .if2 .left)
@@ -72,7 +72,7 @@ returns-3 c =
     let s = a .before in
     let l = now (s .args .case) in
     let k : arcOf l (s .args .e) .kind < 3 = omega (arith, c .if1 .left, ap (λ (x : Arc). x .kind) (a .arc .ensures)) in
-    first-no (changed (s .args .was) (activeIn l (now (s .args .row)) (s .args .e))) (artificialOf l (s .args .e) .weight) (lt-leb 3 _ k)
+    first-no (changed (s .args .was) (activeIn l (now (s .args .rows)) (s .args .e))) (artificialOf l (s .args .e) .weight) (lt-leb 3 _ k)
 
 pub activity-cost-spec : {M : Type 1} → statement M
 activity-cost-spec =

@@ -14,10 +14,10 @@ use Rattle.plan.proofs.totals.activity_costs.Statement.{statement}
 use Rattle.plan.proofs.totals.activity_costs.Tie as tie
 
 abbrev Inv-loop : tie.InvT-loop
-Inv-loop case row arcs active sum₀ e₀ sum e = (arcs ≤ 120) × Counting sum (activityPart case (activeOf active) row) 1000000 arcs e
+Inv-loop case rows arcs active sum₀ e₀ sum e = (arcs ≤ 120) × Counting sum (activityPart case (activeOf active) rows) 1000000 arcs e
 
 abbrev μ-loop : tie.MeasureT-loop
-μ-loop case row arcs active sum₀ e₀ sum e = arcs - e
+μ-loop case rows arcs active sum₀ e₀ sum e = arcs - e
 
 loop-holds : tie.Need-loop-holds Inv-loop μ-loop
 loop-holds c = (omega (arith, counted (c .pre .0) .arcs, c .pre .1), startN)
@@ -34,7 +34,7 @@ add-sum c =
     let s = h .before in
     let i = h .loop .e in
     let p : i < arcsOf (now (s .args .case)) = omega (arith, c .before .loop-test .taken, s .pre .1) in
-    let b : c .activity-cost .result ≤ 1000000 = omega (arith, c .activity-cost .ensures, activity-le (s .pre .0) (activeOf (s .args .t2) i) (now (s .args .row)) i p) in
+    let b : c .activity-cost .result ≤ 1000000 = omega (arith, c .activity-cost .ensures, activity-le (s .pre .0) (activeOf (s .args .t2) i) (now (s .args .rows)) i p) in
     omega (arith, h .loop .inv .1 .small)
 
 add-e : tie.Need-add-e Inv-loop μ-loop
@@ -49,7 +49,7 @@ loop-again c =
     let s = h .before in
     let i = h .loop .e in
     let p : i < arcsOf (now (s .args .case)) = omega (arith, c .before .loop-test .taken, s .pre .1) in
-    let b : c .activity-cost .result ≤ 1000000 = omega (arith, c .activity-cost .ensures, activity-le (s .pre .0) (activeOf (s .args .t2) i) (now (s .args .row)) i p) in
+    let b : c .activity-cost .result ≤ 1000000 = omega (arith, c .activity-cost .ensures, activity-le (s .pre .0) (activeOf (s .args .t2) i) (now (s .args .rows)) i p) in
     (h .loop .inv .0, turnN (h .loop .inv .1) (c .activity-cost .ensures) b (c .before .loop-test .taken))
 
 returns : tie.Need-returns Inv-loop μ-loop
@@ -57,7 +57,7 @@ unfolding activityCosts
 returns c =
     let h = c .before in
     let s = h .before in
-    endN (h .loop .inv .1) (c .loop-test .left) ∙ ap (λ (n : ℕ). sumN n (activityPart (now (s .args .case)) (activeOf (s .args .t2)) (now (s .args .row)))) (s .pre .1)
+    endN (h .loop .inv .1) (c .loop-test .left) ∙ ap (λ (n : ℕ). sumN n (activityPart (now (s .args .case)) (activeOf (s .args .t2)) (now (s .args .rows)))) (s .pre .1)
 
 pub activity-costs-spec : {M : Type 1} → statement M
 activity-costs-spec =

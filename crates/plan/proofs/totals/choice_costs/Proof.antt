@@ -14,19 +14,19 @@ use Rattle.plan.proofs.totals.choice_costs.Statement.{statement}
 use Rattle.plan.proofs.totals.choice_costs.Tie as tie
 
 abbrev Inv-loop : tie.InvT-loop
-Inv-loop case row directions states layout stations sum₀ s₀ sum s = (stations ≤ 8) × Counting sum (choiceCost case (indexOf directions) (indexOf states) row) 2000000 stations s
+Inv-loop case rows directions states layout stations sum₀ s₀ sum s = (stations ≤ 8) × Counting sum (choiceCost case (indexOf directions) (indexOf states) rows) 2000000 stations s
 
 abbrev μ-loop : tie.MeasureT-loop
-μ-loop case row directions states layout stations sum₀ s₀ sum s = stations - s
+μ-loop case rows directions states layout stations sum₀ s₀ sum s = stations - s
 
 loop-holds : tie.Need-loop-holds Inv-loop μ-loop
 loop-holds c = (omega (arith, counted (c .pre .0) .stations, c .pre .1 .stations), startN)
 
-mul-first : tie.Need-mul-first Inv-loop μ-loop
-mul-first c = omega arith
+mul-offset : tie.Need-mul-offset Inv-loop μ-loop
+mul-offset c = omega arith
 
-element-copy-out-first : tie.Need-element-copy-out-first Inv-loop μ-loop
-element-copy-out-first c = omega arith
+element-copy-out-offset : tie.Need-element-copy-out-offset Inv-loop μ-loop
+element-copy-out-offset c = omega arith
 
 mul-direction-cost : tie.Need-mul-direction-cost Inv-loop μ-loop
 mul-direction-cost c = omega arith
@@ -39,7 +39,7 @@ direction-cost-requires c κs =
     let h = c .before .before in
     let s = h .before in
     let p : h .loop .s < stationsOf (now (s .args .case)) = omega (arith, c .before .loop-test .taken, s .pre .1 .stations) in
-    (s .pre .0, p, s .pre .1 .rows .each (h .loop .s) p)
+    (s .pre .0, p, s .pre .1 .offsets .each (h .loop .s) p)
 
 mul-state-cost : tie.Need-mul-state-cost Inv-loop μ-loop
 mul-state-cost c = omega arith
@@ -52,7 +52,7 @@ state-cost-requires c κs =
     let h = c .before .before .before in
     let s = h .before in
     let p : h .loop .s < stationsOf (now (s .args .case)) = omega (arith, c .before .before .loop-test .taken, s .pre .1 .stations) in
-    (s .pre .0, p, s .pre .1 .rows .each (h .loop .s) p)
+    (s .pre .0, p, s .pre .1 .offsets .each (h .loop .s) p)
 
 add-sum : tie.Need-add-sum Inv-loop μ-loop
 add-sum c =
@@ -95,7 +95,7 @@ loop-again c =
     let p : i < stationsOf l = omega (arith, g .loop-test .taken, s .pre .1 .stations) in
     let a : c .before .direction-cost .result ≤ 1000000 = omega (arith, c .before .direction-cost .ensures, direction-le (s .pre .0) (s .pre .2) i p (indexOf (s .args .t2) i)) in
     let b : c .state-cost .result ≤ 1000000 = omega (arith, c .state-cost .ensures, state-le (s .pre .0) (s .pre .2) i p (indexOf (s .args .t3) i)) in
-    let e : c .before .direction-cost .result + c .state-cost .result ≡ choiceCost l (indexOf (s .args .t2)) (indexOf (s .args .t3)) (now (s .args .row)) i = ap (λ (x : ℕ). x + c .state-cost .result) (c .before .direction-cost .ensures) ∙ ap (λ (x : ℕ). directionCost l (indexOf (s .args .t2) i) (now (s .args .row)) i + x) (c .state-cost .ensures) in
+    let e : c .before .direction-cost .result + c .state-cost .result ≡ choiceCost l (indexOf (s .args .t2)) (indexOf (s .args .t3)) (now (s .args .rows)) i = ap (λ (x : ℕ). x + c .state-cost .result) (c .before .direction-cost .ensures) ∙ ap (λ (x : ℕ). directionCost l (indexOf (s .args .t2) i) (now (s .args .rows)) i + x) (c .state-cost .ensures) in
     (h .loop .inv .0, turnN (h .loop .inv .1) e (omega arith) (g .loop-test .taken))
 
 returns : tie.Need-returns Inv-loop μ-loop
@@ -104,7 +104,7 @@ returns c =
     let h = c .before in
     let s = h .before in
     endN (h .loop .inv .1) (c .loop-test .left)
-    ∙ ap (λ (n : ℕ). sumN n (choiceCost (now (s .args .case)) (indexOf (s .args .t2)) (indexOf (s .args .t3)) (now (s .args .row)))) (s .pre .1 .stations)
+    ∙ ap (λ (n : ℕ). sumN n (choiceCost (now (s .args .case)) (indexOf (s .args .t2)) (indexOf (s .args .t3)) (now (s .args .rows)))) (s .pre .1 .stations)
 
 pub choice-costs-spec : {M : Type 1} → statement M
 choice-costs-spec =
@@ -113,8 +113,8 @@ choice-costs-spec =
     Inv-loop
     μ-loop
     loop-holds
-    mul-first
-    element-copy-out-first
+    mul-offset
+    element-copy-out-offset
     mul-direction-cost
     array-read-direction-cost
     direction-cost-requires

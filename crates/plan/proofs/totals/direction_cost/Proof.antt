@@ -30,7 +30,7 @@ returns c =
     let b = c .before in
     let d = b .before .before in
     let s = d .before in
-    let e : b .index .result ≡ directionIn (now (s .args .case)) (now (s .args .row)) (s .args .s) = b .index .ensures ∙ ap posPart (kept _ (b .before .struct-told .given .0 .1) ∙ ap (λ (x : Choice). x .direction) (d .choice-of .ensures)) in
+    let e : b .index .result ≡ directionIn (now (s .args .case)) (now (s .args .rows)) (s .args .s) = b .index .ensures ∙ ap posPart (kept _ (b .before .struct-told .given .0 .1) ∙ ap (λ (x : Choice). x .direction) (d .choice-of .ensures)) in
     cost-same _ (sym e ∙ c .if1 .taken)
 
 returns-2 : tie.Need-returns-2
@@ -40,7 +40,7 @@ returns-2 c =
     let d = b .before .before in
     let s = d .before in
     let l = now (s .args .case) in
-    let f = directionIn l (now (s .args .row)) (s .args .s) in
+    let f = directionIn l (now (s .args .rows)) (s .args .s) in
     let e : b .index .result ≡ f = b .index .ensures ∙ ap posPart (kept _ (b .before .struct-told .given .0 .1) ∙ ap (λ (x : Choice). x .direction) (d .choice-of .ensures)) in
     ap (λ (x : Direction). x .weight) (c .direction .ensures)
     ∙ ap (λ (k : ℕ). directionRow l k (b .index .result) .weight) (s .pre .2)

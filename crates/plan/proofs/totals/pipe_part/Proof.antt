@@ -25,7 +25,7 @@ pipe-residual-requires c κs =
         step = y .1;
         arc = y .2;
         before = y .3 .before;
-        pressures = record { each = λ v q. y .3 .rows .each v q .p };
+        pressures = record { each = λ v q. y .3 .node-rows .each v q .p };
         flows = y .3 .flows .each (s .args .e) (y .2);
       };
       pipe = sym (ap (λ (x : Arc). x .kind) (b .arc .ensures)) ∙ c .if1 .taken;

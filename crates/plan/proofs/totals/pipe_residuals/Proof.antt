@@ -12,10 +12,10 @@ use Rattle.plan.proofs.totals.pipe_residuals.Statement.{statement}
 use Rattle.plan.proofs.totals.pipe_residuals.Tie as tie
 
 abbrev Inv-loop : tie.InvT-loop
-Inv-loop case old row i arcs sum₀ e₀ sum e = (arcs ≤ 120) × Counting sum (pipePart case (numberAt old) row i) 1000000 arcs e
+Inv-loop case old rows i arcs sum₀ e₀ sum e = (arcs ≤ 120) × Counting sum (pipePart case (numberAt old) rows i) 1000000 arcs e
 
 abbrev μ-loop : tie.MeasureT-loop
-μ-loop case old row i arcs sum₀ e₀ sum e = arcs - e
+μ-loop case old rows i arcs sum₀ e₀ sum e = arcs - e
 
 loop-holds : tie.Need-loop-holds Inv-loop μ-loop
 loop-holds c = (omega (arith, counted (c .pre .0) .arcs, c .pre .2), startN)
@@ -53,7 +53,7 @@ returns c =
     let h = c .before in
     let s = h .before in
     endN (h .loop .inv .1) (c .loop-test .left)
-    ∙ ap (λ (n : ℕ). sumN n (pipePart (now (s .args .case)) (numberAt (now (s .args .old))) (now (s .args .row)) (s .args .i))) (s .pre .2)
+    ∙ ap (λ (n : ℕ). sumN n (pipePart (now (s .args .case)) (numberAt (now (s .args .old))) (now (s .args .rows)) (s .args .i))) (s .pre .2)
 
 pub pipe-residuals-spec : {M : Type 1} → statement M
 pipe-residuals-spec =

@@ -13,10 +13,10 @@ use Rattle.plan.proofs.totals.slacks_of.Statement.{statement}
 use Rattle.plan.proofs.totals.slacks_of.Tie as tie
 
 abbrev Inv-loop : tie.InvT-loop
-Inv-loop case row nodes sum₀ v₀ sum v = (nodes ≤ 60) × Adding (sum .pressure) (pressureSlackAt row) 800000 nodes v × Adding (sum .demand) (demandSlackAt row) 20000000 nodes v
+Inv-loop case rows nodes sum₀ v₀ sum v = (nodes ≤ 60) × Adding (sum .pressure) (pressureSlackAt rows) 800000 nodes v × Adding (sum .demand) (demandSlackAt rows) 20000000 nodes v
 
 abbrev μ-loop : tie.MeasureT-loop
-μ-loop case row nodes sum₀ v₀ sum v = nodes - v
+μ-loop case rows nodes sum₀ v₀ sum v = nodes - v
 
 loop-holds : tie.Need-loop-holds Inv-loop μ-loop
 loop-holds c = (omega (arith, counted (c .pre .0) .nodes, c .pre .1), start, start)
@@ -93,8 +93,8 @@ returns c =
     let h = c .before in
     let s = h .before in
     record {
-      pressure = end (h .loop .inv .1) (c .loop-test .left) ∙ ap (λ (n : ℕ). sum n (pressureSlackAt (now (s .args .row)))) (s .pre .1);
-      demand = end (h .loop .inv .2) (c .loop-test .left) ∙ ap (λ (n : ℕ). sum n (demandSlackAt (now (s .args .row)))) (s .pre .1);
+      pressure = end (h .loop .inv .1) (c .loop-test .left) ∙ ap (λ (n : ℕ). sum n (pressureSlackAt (now (s .args .rows)))) (s .pre .1);
+      demand = end (h .loop .inv .2) (c .loop-test .left) ∙ ap (λ (n : ℕ). sum n (demandSlackAt (now (s .args .rows)))) (s .pre .1);
     }
 
 pub slacks-of-spec : {M : Type 1} → statement M

@@ -35,34 +35,34 @@ module _ {case : List ℤ} (c : AcceptedCase case) (p q : ℕ → ℤ) (same : (
   unfolding gasAt gasPart
   gas-alike = sum-cong (arcsOf case) _ _ (λ e l. ap₂ (λ (x y : ℤ). only (isPipe case e) (pipeOf case e .c *ℤ (x +ℤ y))) (same (arcOf case e .from) (from-node c e l)) (same (arcOf case e .to) (to-node c e l)))
 
-  module _ (row : List ℤ) (i : ℕ) where
-    residual-alike : (e : ℕ) → e < arcsOf case → pipeResidual case p row i e ≡ pipeResidual case q row i e
+  module _ (rows : List ℤ) (i : ℕ) where
+    residual-alike : (e : ℕ) → e < arcsOf case → pipeResidual case p rows i e ≡ pipeResidual case q rows i e
     unfolding pipeResidual pipeImbalance
     residual-alike e l =
         ap₂ (λ (x y : ℤ).
-        natAbs (duration case i *ℤ (arcRow case row e .a -ℤ arcRow case row e .b)
-        -ℤ pipeOf case e .c *ℤ ((pressureIn row (arcOf case e .from) -ℤ x) +ℤ (pressureIn row (arcOf case e .to) -ℤ y))))
+        natAbs (duration case i *ℤ (arcRow case rows e .a -ℤ arcRow case rows e .b)
+        -ℤ pipeOf case e .c *ℤ ((pressureIn rows (arcOf case e .from) -ℤ x) +ℤ (pressureIn rows (arcOf case e .to) -ℤ y))))
         (same (arcOf case e .from) (from-node c e l)) (same (arcOf case e .to) (to-node c e l))
 
-    pub pipes-alike : pipeResiduals case p row i ≡ pipeResiduals case q row i
+    pub pipes-alike : pipeResiduals case p rows i ≡ pipeResiduals case q rows i
     unfolding pipeResiduals pipePart
     pipes-alike = sumN-cong (arcsOf case) _ _ (λ e l. ap (onlyN (isPipe case e)) (residual-alike e l))
 
-    arc-alike : (e : ℕ) → e < arcsOf case → arcQuestions case p row i e ≡ arcQuestions case q row i e
+    arc-alike : (e : ℕ) → e < arcsOf case → arcQuestions case p rows i e ≡ arcQuestions case q rows i e
     unfolding arcQuestions pipeQuestions pipeMassKept
     arc-alike e l = rw (residual-alike e l)
 
-    pub step-alike : firstNo (stepQuestions case p row i) ≡ firstNo (stepQuestions case q row i)
+    pub step-alike : firstNo (stepQuestions case p rows i) ≡ firstNo (stepQuestions case q rows i)
     unfolding stepQuestions allArcQuestions
     step-alike =
-        ap (λ (x : List Question). firstNo (allNodeQuestions case row i ++ (x ++ (allStationQuestions case row i ++ allBalanceQuestions case row i))))
-        (over-alike (arcQuestions case p row i) (arcQuestions case q row i) 0 (arcsOf case) (λ e l. arc-alike (0 + e) (omega (arith, l))))
+        ap (λ (x : List Question). firstNo (allNodeQuestions case rows i ++ (x ++ (allStationQuestions case rows i ++ allBalanceQuestions case rows i))))
+        (over-alike (arcQuestions case p rows i) (arcQuestions case q rows i) 0 (arcsOf case) (λ e l. arc-alike (0 + e) (omega (arith, l))))
 
-module _ (case row : List ℤ) where
-  pub choices-alike : (f g z w : ℕ → ℕ) → ((s : ℕ) → s < stationsOf case → f s ≡ g s) → ((s : ℕ) → s < stationsOf case → z s ≡ w s) → choiceCosts case f z row ≡ choiceCosts case g w row
+module _ (case rows : List ℤ) where
+  pub choices-alike : (f g z w : ℕ → ℕ) → ((s : ℕ) → s < stationsOf case → f s ≡ g s) → ((s : ℕ) → s < stationsOf case → z s ≡ w s) → choiceCosts case f z rows ≡ choiceCosts case g w rows
   unfolding choiceCosts choiceCost
-  choices-alike f g z w h k = sumN-cong (stationsOf case) _ _ (λ s l. ap₂ (λ (x y : ℕ). directionCost case x row s + stateCost case y row s) (h s l) (k s l))
+  choices-alike f g z w h k = sumN-cong (stationsOf case) _ _ (λ s l. ap₂ (λ (x y : ℕ). directionCost case x rows s + stateCost case y rows s) (h s l) (k s l))
 
-  pub activities-alike : (a b : ℕ → Bool) → ((e : ℕ) → e < arcsOf case → a e ≡ b e) → activityCosts case a row ≡ activityCosts case b row
+  pub activities-alike : (a b : ℕ → Bool) → ((e : ℕ) → e < arcsOf case → a e ≡ b e) → activityCosts case a rows ≡ activityCosts case b rows
   unfolding activityCosts
-  activities-alike a b h = sumN-cong (arcsOf case) _ _ (λ e l. ap (λ (x : Bool). activityCost case x row e) (h e l))
+  activities-alike a b h = sumN-cong (arcsOf case) _ _ (λ e l. ap (λ (x : Bool). activityCost case x rows e) (h e l))

@@ -16,7 +16,7 @@ use Rattle.numbers.specs.law.Sums.{sum, sumN}
 use Rattle.numbers.specs.declared.answer.Answer.{Answer}
 use Rattle.numbers.specs.declared.answer.Answer.the-variants.{Yes, No}
 use Rattle.case.specs.law.Layout.{numberAt, nodesOf, stepsOf}
-use Rattle.case.specs.law.LayoutOf.{Holds, Laid}
+use Rattle.case.specs.law.LayoutOf.{Holds, LayoutOf}
 use Rattle.case.specs.declared.records.Layout.{Layout}
 use Rattle.case.specs.law.States.{activeAtStart}
 use Rattle.plan.specs.declared.previous.Previous.{Previous}
@@ -35,7 +35,7 @@ use Rattle.plan.specs.law.Step.{stepQuestions}
 use Rattle.plan.specs.law.Totals.{gasAt, stepPressureSlack, stepDemandSlack, stepSwitching, stepResidual, totalsTo, totalsOf, pressureSlackIn, demandSlackIn, choiceCosts, activityCosts, pipeResiduals, nodeResiduals}
 use Rattle.plan.specs.law.Judged.{planStep, verdictOf}
 use Rattle.plan.specs.inside.StepSizes.{pressure-slack-sized, demand-slack-sized, choice-costs-le, activity-costs-le, pipe-residuals-le, node-residuals-le}
-use Rattle.plan.proofs.Alike.{step-alike, pipes-alike, gas-alike, choices-alike, activities-alike}
+use Rattle.plan.proofs.StepAlike.{step-alike, pipes-alike, gas-alike, choices-alike, activities-alike}
 
 -- the totals of the first i steps
 pub record Summed (case plan : List ℤ) (t : Totals) (i : ℕ) : Type 0 where
@@ -71,11 +71,11 @@ start-sized a = record { each = λ v l. node-sized a v l 0 (counted a .some-step
 pub part-within : (i k w : ℕ) → i < k → 2 + i * w + w ≤ 2 + k * w
 part-within i k w p = let e : i * w + w ≡ suc i * w = omega arith in omega (arith, e, mul-le-mul-right w p)
 
-pub part-is : (case plan : List ℤ) (i w : ℕ) {row : List ℤ} → w ≡ stepWidth case → row ≡ take w (drop (2 + i * w) plan) → row ≡ stepRow case plan i
+pub part-is : (case plan : List ℤ) (i w : ℕ) {rows : List ℤ} → w ≡ stepWidth case → rows ≡ take w (drop (2 + i * w) plan) → rows ≡ stepRow case plan i
 unfolding stepRow stepAt
 part-is case plan i w e h = h ∙ rw e
 
-pub width-is : {case : List ℤ} {l : Layout} {w : ℕ} → Laid case l → w ≡ l .nodes * 6 + l .arcs * 4 + l .stations * 2 → w ≡ stepWidth case
+pub width-is : {case : List ℤ} {l : Layout} {w : ℕ} → LayoutOf case l → w ≡ l .nodes * 6 + l .arcs * 4 + l .stations * 2 → w ≡ stepWidth case
 unfolding stepWidth
 width-is d e = e ∙ rw (d .nodes, d .arcs, d .stations)
 
@@ -103,16 +103,16 @@ module _ {case plan : List ℤ} (a : AcceptedCase case) where
   }
 
 -- one step whose questions are all answered yes
-module _ {case plan : List ℤ} (a : AcceptedCase case) {x : Previous} {t : Totals} {i : ℕ} (g : Going case plan x t i) (l : i < stepsOf case) {row : List ℤ} (r : row ≡ stepRow case plan i) where
+module _ {case plan : List ℤ} (a : AcceptedCase case) {x : Previous} {t : Totals} {i : ℕ} (g : Going case plan x t i) (l : i < stepsOf case) {rows : List ℤ} (r : rows ≡ stepRow case plan i) where
   -- the pressures of the array and of the plan ask the same
-  pub step-same : firstNo (stepQuestions case (numberAt (x .pressures)) row i) ≡ firstNo (planStep case plan i)
+  pub step-same : firstNo (stepQuestions case (numberAt (x .pressures)) rows i) ≡ firstNo (planStep case plan i)
   unfolding planStep
   step-same =
-      step-alike a (numberAt (x .pressures)) (pressureAt case plan i) (g .carried .pressures .each) row i
+      step-alike a (numberAt (x .pressures)) (pressureAt case plan i) (g .carried .pressures .each) rows i
       ∙ ap (λ (w : List ℤ). firstNo (stepQuestions case (pressureAt case plan i) w i)) r
 
-  pub kept : firstNo (stepQuestions case (numberAt (x .pressures)) row i) ≡ Yes → StepKept case (x .pressures) row i
-  kept y = step-kept case (x .pressures) row i a l (g .pressures) y
+  pub kept : firstNo (stepQuestions case (numberAt (x .pressures)) rows i) ≡ Yes → StepKept case (x .pressures) rows i
+  kept y = step-kept case (x .pressures) rows i a l (g .pressures) y
 
   pub room : TotalsSized t
   room =
@@ -125,11 +125,11 @@ module _ {case plan : List ℤ} (a : AcceptedCase case) {x : Previous} {t : Tota
         residual = omega (arith, s .residual);
       }
 
-  pub refused : {n s p : ℕ} {b : Answer} → b ≡ firstNo (stepQuestions case (numberAt (x .pressures)) row i) → b ≡ No n s p
+  pub refused : {n s p : ℕ} {b : Answer} → b ≡ firstNo (stepQuestions case (numberAt (x .pressures)) rows i) → b ≡ No n s p
       → Refused n s p ≡ verdictOf (firstNo (over (planStep case plan) 0 (stepsOf case))) (totalsOf case plan)
   refused {n} {s} {p} {b} e h = ap (λ (w : Answer). verdictOf w (totalsOf case plan)) (sym (rest-no (planStep case plan) i (stepsOf case) (g .asked) l (e ∙ step-same) h ∙ h))
 
-  module _ {u : Totals} (yes : firstNo (stepQuestions case (numberAt (x .pressures)) row i) ≡ Yes) (d : Added case row x i t u) where
+  module _ {u : Totals} (yes : firstNo (stepQuestions case (numberAt (x .pressures)) rows i) ≡ Yes) (d : Added case rows x i t u) where
     sums : Summed case plan u (i + 1)
     unfolding sum sumN stepPressureSlack stepDemandSlack stepSwitching stepResidual
     sums =
@@ -140,12 +140,12 @@ module _ {case plan : List ℤ} (a : AcceptedCase case) {x : Previous} {t : Tota
           demand = d .demand ∙ ap₂ (λ (w z : ℤ). w +ℤ z) (s .demand) (ap (demandSlackIn case) r);
           switching = d .switching ∙ ap₂ (λ (w z : ℕ). w + z) (s .switching)
               (ap₂ (λ (w z : ℕ). w + z)
-              (choices-alike case row (indexOf (x .directions)) (directionAt case plan i) (indexOf (x .states)) (stateAt case plan i) (h .directions .each) (h .states .each)
+              (choices-alike case rows (indexOf (x .directions)) (directionAt case plan i) (indexOf (x .states)) (stateAt case plan i) (h .directions .each) (h .states .each)
               ∙ ap (choiceCosts case (directionAt case plan i) (stateAt case plan i)) r)
-              (activities-alike case row (activeOf (x .active)) (activeAt case plan i) (h .active .each) ∙ ap (activityCosts case (activeAt case plan i)) r));
+              (activities-alike case rows (activeOf (x .active)) (activeAt case plan i) (h .active .each) ∙ ap (activityCosts case (activeAt case plan i)) r));
           residual = d .residual ∙ ap₂ (λ (w z : ℕ). w + z) (s .residual)
               (ap₂ (λ (w z : ℕ). w + z)
-              (pipes-alike a (numberAt (x .pressures)) (pressureAt case plan i) (h .pressures .each) row i ∙ ap (λ (w : List ℤ). pipeResiduals case (pressureAt case plan i) w i) r)
+              (pipes-alike a (numberAt (x .pressures)) (pressureAt case plan i) (h .pressures .each) rows i ∙ ap (λ (w : List ℤ). pipeResiduals case (pressureAt case plan i) w i) r)
               (ap (λ (w : List ℤ). nodeResiduals case w i) r));
           opening = d .opening ∙ s .opening;
         })
@@ -155,13 +155,13 @@ module _ {case plan : List ℤ} (a : AcceptedCase case) {x : Previous} {t : Tota
         let s = g .sized in
         let k = kept yes in
         record {
-          pressure = rw (d .pressure) (omega (arith, abs-add (t .pressure) (pressureSlackIn case row), s .pressure, pressure-slack-sized row a (k .rows) .bound));
-          demand = rw (d .demand) (omega (arith, abs-add (t .demand) (demandSlackIn case row), s .demand, demand-slack-sized row a (k .rows) .bound));
-          switching = omega (arith, d .switching, s .switching, choice-costs-le row a (k .choices) (indexOf (x .directions)) (indexOf (x .states)), activity-costs-le row a (activeOf (x .active)));
-          residual = omega (arith, d .residual, s .residual, pipe-residuals-le row a k, node-residuals-le row a k);
+          pressure = rw (d .pressure) (omega (arith, abs-add (t .pressure) (pressureSlackIn case rows), s .pressure, pressure-slack-sized rows a (k .node-rows) .bound));
+          demand = rw (d .demand) (omega (arith, abs-add (t .demand) (demandSlackIn case rows), s .demand, demand-slack-sized rows a (k .node-rows) .bound));
+          switching = omega (arith, d .switching, s .switching, choice-costs-le rows a (k .choices) (indexOf (x .directions)) (indexOf (x .states)), activity-costs-le rows a (activeOf (x .active)));
+          residual = omega (arith, d .residual, s .residual, pipe-residuals-le rows a k, node-residuals-le rows a k);
         }
 
-    pub went-on : {y : Previous} → Carried case y (pressureIn row) (activeIn case row) (directionIn case row) (stateIn case row) → Going case plan y u (i + 1)
+    pub went-on : {y : Previous} → Carried case y (pressureIn rows) (activeIn case rows) (directionIn case rows) (stateIn case rows) → Going case plan y u (i + 1)
     unfolding pressureAt activeAt directionAt stateAt
     went-on {y} h = record {
       upto = omega (arith, l);
@@ -172,7 +172,7 @@ module _ {case plan : List ℤ} (a : AcceptedCase case) {x : Previous} {t : Tota
         directions = record { each = λ z q. h .directions .each z q ∙ ap (λ (w : List ℤ). directionIn case w z) r };
         states = record { each = λ z q. h .states .each z q ∙ ap (λ (w : List ℤ). stateIn case w z) r };
       });
-      pressures = held-sized (h .pressures) (pressures-sized (kept yes .rows));
+      pressures = held-sized (h .pressures) (pressures-sized (kept yes .node-rows));
       summed = sums;
       sized = sizes;
     }

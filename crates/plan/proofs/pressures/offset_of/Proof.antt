@@ -2,8 +2,8 @@ use mathlib.Core.Path.{sym}
 use borrow.Author.Needs.{needs}
 use denote.Ref.{now}
 use lib.ListN.{List·getD-eq-default}
-use Rattle.plan.proofs.pressures.home.Statement.{statement}
-use Rattle.plan.proofs.pressures.home.Tie as tie
+use Rattle.plan.proofs.pressures.offset_of.Statement.{statement}
+use Rattle.plan.proofs.pressures.offset_of.Tie as tie
 
 mul-result : tie.Need-mul-result
 mul-result c = search needs
@@ -15,7 +15,7 @@ returns : tie.Need-returns
 returns c = search needs
 
 returns-2 : tie.Need-returns-2
-returns-2 c = sym (List·getD-eq-default (now (c .before .args .rows)) 0 (c .if1 .left))
+returns-2 c = sym (List·getD-eq-default (now (c .before .args .offsets)) 0 (c .if1 .left))
 
-pub home-spec : {M : Type 1} → statement M
-home-spec = tie.close (tie.spec mul-result shared-slice-read-result returns returns-2)
+pub offset-of-spec : {M : Type 1} → statement M
+offset-of-spec = tie.close (tie.spec mul-result shared-slice-read-result returns returns-2)
