@@ -1,1 +1,2 @@
+-- What users are told: theorems over the law.
 pub mod Examples

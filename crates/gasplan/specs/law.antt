@@ -1,1 +1,2 @@
+-- What a reader must believe: the definitions that public contracts rest on, and nothing else, in the order to read them in.
 pub mod Out

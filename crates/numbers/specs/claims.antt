@@ -1,3 +1,4 @@
+-- What users are told: theorems over the law.
 pub mod AllYes
 pub mod FirstNo
 pub mod CodecInputs

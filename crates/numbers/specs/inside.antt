@@ -1,3 +1,4 @@
+-- What proofs need: laws of the definitions, sizes, and what functions inside the crate ask of their callers.
 pub mod OverlayLaws
 pub mod QuestionLaws
 pub mod ItemLaws

@@ -1,3 +1,4 @@
+-- What a reader must believe: the definitions that public contracts rest on, and nothing else, in the order to read them in.
 pub mod PlanLayout
 pub mod PlanRecords
 pub mod Compared
