@@ -1,5 +1,6 @@
 //! SVG elements as text.
 
+use super::font::Font;
 use super::point::Point;
 
 /// What has been drawn.
@@ -7,22 +8,6 @@ use super::point::Point;
 pub struct Canvas {
     body: String,
 }
-
-/// A line of text: its size in pixels, weight, anchor and colour.
-#[derive(Clone, Copy)]
-pub struct Font {
-    pub size: u32,
-    pub bold: bool,
-    pub anchor: &'static str,
-    pub fill: &'static str,
-}
-
-pub const PLAIN: Font = Font {
-    size: 12,
-    bold: false,
-    anchor: "start",
-    fill: "#222",
-};
 
 /// Signs that mean something in SVG are written in another way.
 fn escaped(text: &str) -> String {
@@ -102,24 +87,4 @@ impl Canvas {
             self.body
         )
     }
-}
-
-/// Breaks a text into lines of at most so many signs, at spaces.
-pub fn wrapped(text: &str, most: usize) -> Vec<String> {
-    let mut lines = Vec::new();
-    for part in text.lines() {
-        let mut line = String::new();
-        for word in part.split(' ') {
-            let length = line.chars().count() + 1 + word.chars().count();
-            if !line.is_empty() && length > most {
-                lines.push(std::mem::take(&mut line));
-            }
-            if !line.is_empty() {
-                line.push(' ');
-            }
-            line.push_str(word);
-        }
-        lines.push(line);
-    }
-    lines
 }
