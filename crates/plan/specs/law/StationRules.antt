@@ -64,6 +64,7 @@ takenBy case rows v e =
     only (eqb (arcOf case e .from) v) (arcRow case rows e .a -ℤ arcRow case rows e .b)
     -ℤ only (eqb (arcOf case e .to) v) (arcRow case rows e .a -ℤ arcRow case rows e .b)
 
+-- the same of one of the station's arcs, and 0 of any other
 unfoldable pub stationPart : List ℤ → List ℤ → ℕ → ℕ → ℕ → ℤ
 stationPart case rows s v e = only (belongs case s e) (takenBy case rows v e)
 
