@@ -8,7 +8,7 @@ use lib.IntN.{ℤ}
 use Rattle.numbers.specs.law.Question.{firstNo, orElse}
 use Rattle.numbers.specs.inside.QuestionLaws.{firstNo-append}
 use Rattle.numbers.specs.declared.answer.Answer.{Answer}
-use Rattle.case.specs.law.Layout.{nodesOf, arcsOf, stepsOf, nodeAt, arcAt, directionsAt, directionAt, stateAt, machineAt, stationAt}
+use Rattle.case.specs.law.Layout.{nodesOf, arcsOf, stepsOf, nodeAt, arcAt, directionCount, directionAt, stateAt, machineAt, stationAt}
 use Rattle.case.specs.law.ArcFields.{endFields, kindFields, arcFields}
 use Rattle.case.proofs.Asked.{chain}
 
@@ -16,7 +16,7 @@ pub arc-row : (l : List ℤ) (e : ℕ) {first : ℕ} → first ≡ arcAt l 0 →
 unfolding arcAt
 arc-row l e h = omega (arith, h)
 
-pub state-row : (l : List ℤ) (offset z : ℕ) {d : ℕ} → d ≡ directionsAt l offset → offset + 5 + d * 3 + z * 4 ≡ stateAt l offset z
+pub state-row : (l : List ℤ) (offset z : ℕ) {d : ℕ} → d ≡ directionCount l offset → offset + 5 + d * 3 + z * 4 ≡ stateAt l offset z
 unfolding stateAt directionAt
 state-row l offset z h = rw h
 

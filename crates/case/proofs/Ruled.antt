@@ -11,7 +11,7 @@ use Rattle.numbers.specs.law.Sums.{count}
 use Rattle.numbers.specs.law.Question.{firstNo, answer}
 use Rattle.numbers.specs.declared.answer.Answer.the-variants.{Yes, No}
 use Rattle.case.specs.declared.records.Layout.{Layout}
-use Rattle.case.specs.law.Layout.{stationsOf, stationAt, directionsAt}
+use Rattle.case.specs.law.Layout.{stationsOf, stationAt, directionCount}
 use Rattle.case.specs.law.Records.{stationOf, directionRow}
 use Rattle.case.specs.law.LayoutOf.{LayoutOf}
 use Rattle.case.specs.inside.InSet.{inSet, inBoth}
@@ -46,7 +46,7 @@ size-yes l s e h = rw (← e, le-leb _ _ h)
 
 -- 16: the answer by what was found of all directions
 pub directions-asked : (l : List ℤ) (s offset : ℕ) (inside plain : ℤ) {b v : Bool} → offset ≡ stationAt l s → inside ≡ stationNodes l s → plain ≡ plainNodes l
-    → b ≡ every (directionsAt l offset) (λ f. setsKept (inBoth inside plain) (directionRow l offset f)) → b ≡ v → answer v 16 0 s ≡ firstNo (directionSets l s)
+    → b ≡ every (directionCount l offset) (λ f. setsKept (inBoth inside plain) (directionRow l offset f)) → b ≡ v → answer v 16 0 s ≡ firstNo (directionSets l s)
 unfolding directionSets
 directions-asked l s offset inside plain {b} {v} r i p e w =
     let k : b ≡ every (stationOf l s .directions) (directionKept l s) = rw (r, i, p) at e in

@@ -76,7 +76,7 @@ pub struct Layout {
     pub plain: i64, // the nodes that end an arc of kind 0 to 2, a node set
 }
 
-// The answer on a case, and its layout where that is yes.
+// The answer on a case, and its layout where 10 to 12 have let the list pass.
 pub struct Laying {
     pub answer: Answer,
     pub layout: Layout,

@@ -4,7 +4,7 @@ ghost use Prim.Native.Nat.{_<_, _≤_, _^_};
 ghost use Rattle.numbers.specs.law.Question.{firstNo};
 ghost use Rattle.numbers.specs.law.Signed.{posPart};
 ghost use Rattle.numbers.specs.law.Sums.{count};
-ghost use Rattle.case.specs.law.Layout.{arcsOf, stationAt, directionsAt, statesAt};
+ghost use Rattle.case.specs.law.Layout.{arcsOf, stationAt, directionCount, stateCount};
 ghost use Rattle.case.specs.law.Records.{directionRow};
 ghost use Rattle.case.specs.inside.Ranges.{DirectionRanges};
 ghost use Rattle.case.specs.law.LayoutOf.{LayoutOf};
@@ -141,7 +141,7 @@ fn direction_kept(case: &[i64], offset: usize, inside: i64, plain: i64, f: usize
 
 fn directions_kept(case: &[i64], offset: usize, inside: i64, plain: i64) -> bool
     requires { ⌜ DirectionsRanged (now case) offset ⌝ }
-    ensures { λ r. ⌜ r ≡ every (directionsAt (now (case .entry)) offset) (λ f. setsKept (inBoth inside plain) (directionRow (now (case .entry)) offset f)) ⌝ }
+    ensures { λ r. ⌜ r ≡ every (directionCount (now (case .entry)) offset) (λ f. setsKept (inBoth inside plain) (directionRow (now (case .entry)) offset f)) ⌝ }
 {
     let directions = station(case, offset).directions;
     let mut f: usize = 0;
@@ -192,7 +192,7 @@ fn state_kept(case: &[i64], offset: usize, own: i64, z: usize) -> bool
 }
 
 fn states_kept(case: &[i64], offset: usize, own: i64) -> bool
-    ensures { λ r. ⌜ r ≡ every (statesAt (now (case .entry)) offset) (stateKept (now (case .entry)) offset own) ⌝ }
+    ensures { λ r. ⌜ r ≡ every (stateCount (now (case .entry)) offset) (stateKept (now (case .entry)) offset own) ⌝ }
 {
     let states = station(case, offset).states;
     let mut z: usize = 0;

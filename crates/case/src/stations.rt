@@ -4,7 +4,7 @@ ghost use mathlib.Core.List.{_++_};
 ghost use Prim.Native.Nat.{_<_, _≤_};
 ghost use Rattle.numbers.specs.law.Question.{firstNo};
 ghost use Rattle.numbers.specs.law.Items.{over};
-ghost use Rattle.case.specs.law.Layout.{directionsAt, machineAt, stationEnd, stationAt, stationsOf};
+ghost use Rattle.case.specs.law.Layout.{directionCount, machineAt, stationEnd, stationAt, stationsOf};
 ghost use Rattle.case.specs.inside.Counts.{StationCounted};
 ghost use Rattle.case.specs.law.StationFields.{firstItems, stationHead, directionFields, stateRowFields, stateFields, machineFields, partFields, rowFields, allStationFields};
 ghost use Rattle.case.specs.law.Leftover.{leftover};
@@ -91,7 +91,7 @@ fn state_fields(case: &[i64], at: usize, sets: i64) -> Answer
 }
 
 fn state_rows(case: &[i64], offset: usize, directions: usize, states: usize) -> Answer
-    requires { ⌜ (offset < 10000) × (directions ≤ 8) × (directions ≡ directionsAt (now case) offset) × (states ≤ 16) ⌝ }
+    requires { ⌜ (offset < 10000) × (directions ≤ 8) × (directions ≡ directionCount (now case) offset) × (states ≤ 16) ⌝ }
     ensures { λ r. ⌜ r ≡ firstNo (over (stateFields (now (case .entry)) offset) 0 states) ⌝ }
 {
     let sets = first_items(directions);

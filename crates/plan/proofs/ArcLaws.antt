@@ -24,7 +24,7 @@ use Rattle.numbers.specs.declared.answer.Answer.the-variants.{Yes, No}
 use Rattle.case.specs.declared.records.Arc.{Arc}
 use Rattle.case.specs.declared.records.Pipe.{Pipe}
 use Rattle.case.specs.declared.records.Artificial.{Artificial}
-use Rattle.case.specs.law.Layout.{numberAt, nodesOf, machinesAt}
+use Rattle.case.specs.law.Layout.{numberAt, nodesOf, machineCount}
 use Rattle.case.specs.law.Records.{arcOf, pipeOf, artificialOf, machineRow}
 use Rattle.plan.specs.declared.rows.ArcRow.{ArcRow}
 use Rattle.plan.specs.declared.setting.Way.{Way}
@@ -59,9 +59,9 @@ sized b = plain (b .bound)
 pub gain-sized : {case : List ℤ} {first : ℕ} (set : ℤ) → MachinesSized case first → Bounded (machineGain case first set) 132000
 unfolding machineGain gainPart
 gain-sized {case} {first} set z =
-    let part : (m : ℕ) → m < machinesAt case first → natAbs (gainPart case first set m) ≤ 11000 =
+    let part : (m : ℕ) → m < machineCount case first → natAbs (gainPart case first set m) ≤ 11000 =
     λ m p. abs-only-le (memberOf set m) (machineRow case first m .ratio -ℤ pos 1000) ((sized (z .ratio m p) -ʳ literal (pos 1000)) .bound) in
-    record { bound = omega (arith, abs-sum-le (machinesAt case first) 11000 (gainPart case first set) part, z .count) }
+    record { bound = omega (arith, abs-sum-le (machineCount case first) 11000 (gainPart case first set) part, z .count) }
 
 -- ---- the station of an artificial arc
 

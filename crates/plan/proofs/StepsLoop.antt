@@ -22,9 +22,9 @@ use Rattle.case.specs.law.States.{activeAtStart}
 use Rattle.plan.specs.declared.previous.Previous.{Previous}
 use Rattle.plan.specs.declared.totals.Totals.{Totals}
 use Rattle.plan.specs.declared.verdict.Verdict.the-variants.{Accepted, Refused}
-use Rattle.plan.specs.law.PlanLayout.{stepAt, stepWidth, stepRow}
+use Rattle.plan.specs.law.PlanLayout.{stepAt, stepWidth, stepRows}
 use Rattle.plan.specs.law.PlanRecords.{pressureIn, activeIn, directionIn, stateIn}
-use Rattle.plan.specs.law.BeforeStep.{startPressure, startDirection, startState, pressureAt, activeAt, directionAt, stateAt}
+use Rattle.plan.specs.law.BeforeStep.{startPressure, startDirection, startState, pressureAt, activeAt, directionChosen, stateChosen}
 use Rattle.plan.specs.inside.PreviousHolds.{Carried, activeOf, indexOf}
 use Rattle.plan.specs.inside.Preconditions.{AcceptedCase, StepKept}
 use Rattle.plan.specs.inside.Sizes.{PressuresSized}
@@ -55,7 +55,7 @@ pub record Sized (t : Totals) (i : ℕ) : Type 0 where
 pub record Going (case plan : List ℤ) (x : Previous) (t : Totals) (i : ℕ) : Type 0 where
   pub upto : i ≤ stepsOf case
   pub asked : firstNo (over (planStep case plan) 0 (stepsOf case)) ≡ rest (planStep case plan) i (stepsOf case)
-  pub carried : Carried case x (pressureAt case plan i) (activeAt case plan i) (directionAt case plan i) (stateAt case plan i)
+  pub carried : Carried case x (pressureAt case plan i) (activeAt case plan i) (directionChosen case plan i) (stateChosen case plan i)
   pub pressures : PressuresSized (numberAt (x .pressures)) (nodesOf case)
   pub summed : Summed case plan t i
   pub sized : Sized t i
@@ -71,8 +71,8 @@ start-sized a = record { each = λ v l. node-sized a v l 0 (counted a .some-step
 pub part-within : (i k w : ℕ) → i < k → 2 + i * w + w ≤ 2 + k * w
 part-within i k w p = let e : i * w + w ≡ suc i * w = omega arith in omega (arith, e, mul-le-mul-right w p)
 
-pub part-is : (case plan : List ℤ) (i w : ℕ) {rows : List ℤ} → w ≡ stepWidth case → rows ≡ take w (drop (2 + i * w) plan) → rows ≡ stepRow case plan i
-unfolding stepRow stepAt
+pub part-is : (case plan : List ℤ) (i w : ℕ) {rows : List ℤ} → w ≡ stepWidth case → rows ≡ take w (drop (2 + i * w) plan) → rows ≡ stepRows case plan i
+unfolding stepRows stepAt
 part-is case plan i w e h = h ∙ rw e
 
 pub width-is : {case : List ℤ} {l : Layout} {w : ℕ} → LayoutOf case l → w ≡ l .nodes * 6 + l .arcs * 4 + l .stations * 2 → w ≡ stepWidth case
@@ -81,7 +81,7 @@ width-is d e = e ∙ rw (d .nodes, d .arcs, d .stations)
 
 module _ {case plan : List ℤ} (a : AcceptedCase case) where
   pub going : {x : Previous} {t : Totals} → Carried case x (startPressure case) (activeAtStart case) (startDirection case) (startState case) → Opened case (numberAt (x .pressures)) t → Going case plan x t 0
-  unfolding pressureAt activeAt directionAt stateAt sum sumN
+  unfolding pressureAt activeAt directionChosen stateChosen sum sumN
   going {x} {t} h o = record {
     upto = omega arith;
     asked = let e : stepsOf case - 0 ≡ stepsOf case = omega arith in rw e;
@@ -103,7 +103,7 @@ module _ {case plan : List ℤ} (a : AcceptedCase case) where
   }
 
 -- one step whose questions are all answered yes
-module _ {case plan : List ℤ} (a : AcceptedCase case) {x : Previous} {t : Totals} {i : ℕ} (g : Going case plan x t i) (l : i < stepsOf case) {rows : List ℤ} (r : rows ≡ stepRow case plan i) where
+module _ {case plan : List ℤ} (a : AcceptedCase case) {x : Previous} {t : Totals} {i : ℕ} (g : Going case plan x t i) (l : i < stepsOf case) {rows : List ℤ} (r : rows ≡ stepRows case plan i) where
   -- the pressures of the array and of the plan ask the same
   pub step-same : firstNo (stepQuestions case (numberAt (x .pressures)) rows i) ≡ firstNo (planStep case plan i)
   unfolding planStep
@@ -140,8 +140,8 @@ module _ {case plan : List ℤ} (a : AcceptedCase case) {x : Previous} {t : Tota
           demand = d .demand ∙ ap₂ (λ (w z : ℤ). w +ℤ z) (s .demand) (ap (demandSlackIn case) r);
           switching = d .switching ∙ ap₂ (λ (w z : ℕ). w + z) (s .switching)
               (ap₂ (λ (w z : ℕ). w + z)
-              (choices-alike case rows (indexOf (x .directions)) (directionAt case plan i) (indexOf (x .states)) (stateAt case plan i) (h .directions .each) (h .states .each)
-              ∙ ap (choiceCosts case (directionAt case plan i) (stateAt case plan i)) r)
+              (choices-alike case rows (indexOf (x .directions)) (directionChosen case plan i) (indexOf (x .states)) (stateChosen case plan i) (h .directions .each) (h .states .each)
+              ∙ ap (choiceCosts case (directionChosen case plan i) (stateChosen case plan i)) r)
               (activities-alike case rows (activeOf (x .active)) (activeAt case plan i) (h .active .each) ∙ ap (activityCosts case (activeAt case plan i)) r));
           residual = d .residual ∙ ap₂ (λ (w z : ℕ). w + z) (s .residual)
               (ap₂ (λ (w z : ℕ). w + z)
@@ -162,7 +162,7 @@ module _ {case plan : List ℤ} (a : AcceptedCase case) {x : Previous} {t : Tota
         }
 
     pub went-on : {y : Previous} → Carried case y (pressureIn rows) (activeIn case rows) (directionIn case rows) (stateIn case rows) → Going case plan y u (i + 1)
-    unfolding pressureAt activeAt directionAt stateAt
+    unfolding pressureAt activeAt directionChosen stateChosen
     went-on {y} h = record {
       upto = omega (arith, l);
       asked = rest-on (planStep case plan) i (stepsOf case) (g .asked) l refl (sym step-same ∙ yes);

@@ -1,7 +1,7 @@
 // Sums over the machines of a station that a set names. The station's rows begin at `offset`.
 ghost use mathlib.Core.Path.{_≡_};
 ghost use Prim.Native.Nat.{_<_};
-ghost use Rattle.case.specs.law.Layout.{machinesAt};
+ghost use Rattle.case.specs.law.Layout.{machineCount};
 ghost use Rattle.plan.specs.law.Machines.{flowPart, machineFlow, gainPart, machineGain};
 ghost use Rattle.plan.specs.inside.Sizes.{MachinesSized};
 use case::read::machine;
@@ -41,7 +41,7 @@ pub(crate) fn machine_flow(case: &[i64], offset: usize, set: i64) -> i64
 
 // What a machine's ratio is above 1,000, if the set names it.
 fn gain_part(case: &[i64], offset: usize, set: i64, m: usize) -> i64
-    requires { ⌜ (MachinesSized (now case) offset) × (m < machinesAt (now case) offset) ⌝ }
+    requires { ⌜ (MachinesSized (now case) offset) × (m < machineCount (now case) offset) ⌝ }
     ensures { λ r. ⌜ r ≡ gainPart (now (case .entry)) offset set m ⌝ }
 {
     if member(set, m) {

@@ -21,7 +21,7 @@ use Rattle.numbers.specs.inside.QuestionLaws.{told-same, all-yes, none-no}
 use Rattle.numbers.specs.law.Items.{over}
 use Rattle.numbers.specs.declared.answer.Answer.{Answer}
 use Rattle.numbers.specs.declared.answer.Answer.the-variants.{Yes}
-use Rattle.case.specs.law.Layout.{numberAt, countAt, nodesOf, arcsOf, stationsOf, stepsOf, massTolerance, pressureTolerance, timeAt, nodeAt, demandsAt, arcAt, directionsAt, statesAt, machinesAt, directionAt, stateAt, machineAt, stationAt, caseEnd}
+use Rattle.case.specs.law.Layout.{numberAt, countAt, nodesOf, arcsOf, stationsOf, stepsOf, massTolerance, pressureTolerance, timeAt, nodeAt, demandsAt, arcAt, directionCount, stateCount, machineCount, directionAt, stateAt, machineAt, stationAt, caseEnd}
 use Rattle.case.specs.law.Records.{timeOf, timeBefore, nodeOf, arcOf, pipeOf, artificialOf, stationOf, directionOf, stateOf}
 use Rattle.case.specs.inside.MachineOf.{machineOf}
 use Rattle.case.specs.law.Field.{field, lastOf, mostPressure, mostFlow, mostWeight}
@@ -329,8 +329,8 @@ module _ (case : List ℤ) (e : Accepted case) where
       let f = field-then case offset (pos 1) (pos 8) _ (first-yes (stationHead case offset) (partFields case offset) (station-yes case list-yes s p)) in
       let z = field-then case (offset + 1) (pos 1) (pos 16) _ (f .1) in
       let m = field-then case (offset + 2) (pos 0) (pos 12) _ (z .1) in
-      let d = field-then case (offset + 3) (pos 0) (lastOf (directionsAt case offset)) _ (m .1) in
-      let t = field-yes case (offset + 4) (pos 0) (lastOf (statesAt case offset)) (d .1) in
+      let d = field-then case (offset + 3) (pos 0) (lastOf (directionCount case offset)) _ (m .1) in
+      let t = field-yes case (offset + 4) (pos 0) (lastOf (stateCount case offset)) (d .1) in
       record {
         directions = count-most (f .0);
         some-direction = count-least (f .0);
@@ -349,9 +349,9 @@ module _ (case : List ℤ) (e : Accepted case) where
   state-ranges s z p q =
       let offset = stationAt case s in
       let i = stateAt case offset z in
-      let r = second-yes (over (directionFields case offset) 0 (directionsAt case offset)) _ (parts-yes case list-yes s p) in
-      let y = item-yes (stateFields case offset) (statesAt case offset) (first-yes (over (stateFields case offset) 0 (statesAt case offset)) _ r) z q in
-      let d = field-then case i (pos 0) (firstItems (directionsAt case offset)) _ y in
+      let r = second-yes (over (directionFields case offset) 0 (directionCount case offset)) _ (parts-yes case list-yes s p) in
+      let y = item-yes (stateFields case offset) (stateCount case offset) (first-yes (over (stateFields case offset) 0 (stateCount case offset)) _ r) z q in
+      let d = field-then case i (pos 0) (firstItems (directionCount case offset)) _ y in
       let t = fields-then case (i + 1) 2 (pos 0) (firstItems 30) _ (d .1) in
       record {
         directions-of = between (d .0);
@@ -365,8 +365,8 @@ module _ (case : List ℤ) (e : Accepted case) where
   machine-ranges s m p q =
       let offset = stationAt case s in
       let i = machineAt case offset m in
-      let r = second-yes (over (directionFields case offset) 0 (directionsAt case offset)) _ (parts-yes case list-yes s p) in
-      let y = item-yes (machineFields case offset) (machinesAt case offset) (second-yes (over (stateFields case offset) 0 (statesAt case offset)) _ r) m q in
+      let r = second-yes (over (directionFields case offset) 0 (directionCount case offset)) _ (parts-yes case list-yes s p) in
+      let y = item-yes (machineFields case offset) (machineCount case offset) (second-yes (over (stateFields case offset) 0 (stateCount case offset)) _ r) m q in
       let f = field-then case i (pos 0) mostFlow _ y in
       record { flow = between (f .0); ratio = between (field-yes case (i + 1) (pos 1001) (pos 10000) (f .1)) }
 

@@ -4,7 +4,7 @@ use mathlib.Core.Path.{_≡_}
 use mathlib.Core.List.{List}
 use Prim.Native.Nat.{ℕ, _<_, _≤_, _^_}
 use lib.IntN.{ℤ}
-use Rattle.case.specs.law.Layout.{countAt, nodesOf, arcsOf, stationsOf, stepsOf, directionsAt, statesAt, machinesAt, stationAt}
+use Rattle.case.specs.law.Layout.{countAt, nodesOf, arcsOf, stationsOf, stepsOf, directionCount, stateCount, machineCount, stationAt}
 use Rattle.case.specs.law.Records.{directionRow}
 use Rattle.case.specs.inside.Ranges.{DirectionRanges}
 use Rattle.case.specs.law.StationArcs.{stationArcs}
@@ -25,18 +25,18 @@ pub record Counted (case : List ℤ) : Type 0 where
 
 -- the counts of the station whose rows begin at `offset`
 pub record StationCounted (case : List ℤ) (offset : ℕ) : Type 0 where
-  pub directions : directionsAt case offset ≤ 8
-  pub some-direction : 1 ≤ directionsAt case offset
-  pub states : statesAt case offset ≤ 16
-  pub some-state : 1 ≤ statesAt case offset
-  pub machines : machinesAt case offset ≤ 12
+  pub directions : directionCount case offset ≤ 8
+  pub some-direction : 1 ≤ directionCount case offset
+  pub states : stateCount case offset ≤ 16
+  pub some-state : 1 ≤ stateCount case offset
+  pub machines : machineCount case offset ≤ 12
 
 pub record StationsCounted (case : List ℤ) : Type 0 where
   pub each : (s : ℕ) → s < stationsOf case → StationCounted case (stationAt case s)
 
 -- the directions of the station whose rows begin at `offset`, and of every station
 pub record DirectionsRanged (case : List ℤ) (offset : ℕ) : Type 0 where
-  pub each : (f : ℕ) → f < directionsAt case offset → DirectionRanges (directionRow case offset f)
+  pub each : (f : ℕ) → f < directionCount case offset → DirectionRanges (directionRow case offset f)
 
 pub record StationsRanged (case : List ℤ) : Type 0 where
   pub each : (s : ℕ) → s < stationsOf case → DirectionsRanged case (stationAt case s)

@@ -12,7 +12,7 @@ use Rattle.numbers.specs.law.Question.{firstNo}
 use Rattle.numbers.specs.inside.QuestionLaws.{all-yes}
 use Rattle.numbers.specs.law.Items.{over}
 use Rattle.numbers.specs.declared.answer.Answer.the-variants.{Yes}
-use Rattle.case.specs.law.Layout.{numberAt, arcsOf, stationsOf, stepsOf, nodeAt, arcAt, directionsAt, directionAt, stateAt, machineAt, stationEnd, stationAt}
+use Rattle.case.specs.law.Layout.{numberAt, arcsOf, stationsOf, stepsOf, nodeAt, arcAt, directionCount, directionAt, stateAt, machineAt, stationEnd, stationAt}
 use Rattle.case.specs.law.HeadFields.{countFields, toleranceFields, headFields}
 use Rattle.case.specs.law.TimeFields.{timeFields}
 use Rattle.case.specs.law.NodeFields.{allNodeFields}
@@ -83,7 +83,7 @@ module _ (case : List ℤ) where
   directions-ranged offset e = record {
     each = λ f q.
         let i = directionAt offset f in
-        let y = item-yes (directionFields case offset) (directionsAt case offset) (first-yes (over (directionFields case offset) 0 (directionsAt case offset)) _ e) f q in
+        let y = item-yes (directionFields case offset) (directionCount case offset) (first-yes (over (directionFields case offset) 0 (directionCount case offset)) _ e) f q in
         let t = fields-then case i 2 (pos 0) (firstItems 60) _ y in
         record {
           entry = between (at i (t .0 0 (omega arith)) (omega arith));

@@ -16,7 +16,7 @@ use Rattle.numbers.specs.law.Items.{over}
 use Rattle.numbers.specs.inside.SmallRefusals.{Small, AllSmall, small-append, small-over, all-small, all-append, all-over}
 use Rattle.numbers.specs.declared.answer.Answer.{Answer}
 use Rattle.numbers.specs.declared.answer.Answer.the-variants.{Yes, No}
-use Rattle.case.specs.law.Layout.{nodesOf, arcsOf, stationsOf, stepsOf, nodeAt, arcAt, stationAt, stationEnd, directionAt, stateAt, machineAt, directionsAt, statesAt, machinesAt, countAt, numberAt}
+use Rattle.case.specs.law.Layout.{nodesOf, arcsOf, stationsOf, stepsOf, nodeAt, arcAt, stationAt, stationEnd, directionAt, stateAt, machineAt, directionCount, stateCount, machineCount, countAt, numberAt}
 use Rattle.case.specs.law.Field.{field, fields, nextField}
 use Rattle.case.specs.law.HeadFields.{headFields, countFields, toleranceFields}
 use Rattle.case.specs.law.ArcFields.{allArcFields, arcFields, endFields, kindFields, pipeFields, memberFields, compressorFields}
@@ -94,11 +94,11 @@ module _ (case : List ℤ) where
   unfolding directionFields fields field directionAt
   direction-small offset f h k = search needs
 
-  state-small : (offset z : ℕ) → offset < 20000 → directionsAt case offset ≤ 8 → z < 16 → AllSmall limit (stateFields case offset z)
+  state-small : (offset z : ℕ) → offset < 20000 → directionCount case offset ≤ 8 → z < 16 → AllSmall limit (stateFields case offset z)
   unfolding stateFields stateRowFields fields field stateAt directionAt
   state-small offset z h d k = search needs
 
-  machine-small : (offset m : ℕ) → offset < 20000 → directionsAt case offset ≤ 8 → statesAt case offset ≤ 16 → m < 12 → AllSmall limit (machineFields case offset m)
+  machine-small : (offset m : ℕ) → offset < 20000 → directionCount case offset ≤ 8 → stateCount case offset ≤ 16 → m < 12 → AllSmall limit (machineFields case offset m)
   unfolding machineFields field machineAt stateAt directionAt
   machine-small offset m h d z k = search needs
 
@@ -150,11 +150,11 @@ module _ (case : List ℤ) where
     parts-small : (offset : ℕ) → offset < 10000 → StationCounted case offset → AllSmall limit (partFields case offset)
     unfolding partFields
     parts-small offset h d =
-        all-append limit (over (directionFields case offset) 0 (directionsAt case offset)) (over (stateFields case offset) 0 (statesAt case offset) ++ over (machineFields case offset) 0 (machinesAt case offset))
-        (all-over limit (directionFields case offset) 0 (directionsAt case offset) (λ f l. direction-small case offset (0 + f) (omega arith) (omega (arith, d .directions))))
-        (all-append limit (over (stateFields case offset) 0 (statesAt case offset)) (over (machineFields case offset) 0 (machinesAt case offset))
-        (all-over limit (stateFields case offset) 0 (statesAt case offset) (λ z l. state-small case offset (0 + z) (omega arith) (d .directions) (omega (arith, d .states))))
-        (all-over limit (machineFields case offset) 0 (machinesAt case offset) (λ m l. machine-small case offset (0 + m) (omega arith) (d .directions) (d .states) (omega (arith, d .machines)))))
+        all-append limit (over (directionFields case offset) 0 (directionCount case offset)) (over (stateFields case offset) 0 (stateCount case offset) ++ over (machineFields case offset) 0 (machineCount case offset))
+        (all-over limit (directionFields case offset) 0 (directionCount case offset) (λ f l. direction-small case offset (0 + f) (omega arith) (omega (arith, d .directions))))
+        (all-append limit (over (stateFields case offset) 0 (stateCount case offset)) (over (machineFields case offset) 0 (machineCount case offset))
+        (all-over limit (stateFields case offset) 0 (stateCount case offset) (λ z l. state-small case offset (0 + z) (omega arith) (d .directions) (omega (arith, d .states))))
+        (all-over limit (machineFields case offset) 0 (machineCount case offset) (λ m l. machine-small case offset (0 + m) (omega arith) (d .directions) (d .states) (omega (arith, d .machines)))))
 
     -- a station's rows, where those before it have no "no"
     station-small : (s : ℕ) → s < stationsOf case → ((m : ℕ) → m < s → firstNo (stationFields case m) ≡ Yes) → Small limit (firstNo (stationFields case s))

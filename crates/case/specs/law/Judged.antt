@@ -29,7 +29,7 @@ rowQuestions case =
 unfoldable pub listQuestions : List ℤ → List Question
 listQuestions case = headFields case ++ rowQuestions case
 
--- 13 to 17: "over all arcs, nodes or stations, one question after the other"; 17 stands apart, since the code asks it only of stations that 15 let pass
+-- 13 to 16: "over all arcs, nodes or stations, one question after the other"
 unfoldable pub earlyRules : List ℤ → List Question
 earlyRules case =
     allArcEnds case

@@ -174,53 +174,53 @@ startDirectionAt offset = offset + 3
 abbrev pub startStateAt : ℕ → ℕ
 startStateAt offset = offset + 4
 
-abbrev pub directionsAt : List ℤ → ℕ → ℕ
-directionsAt case offset = countAt case (directionCountAt offset)
+abbrev pub directionCount : List ℤ → ℕ → ℕ
+directionCount case offset = countAt case (directionCountAt offset)
 
-abbrev pub statesAt : List ℤ → ℕ → ℕ
-statesAt case offset = countAt case (stateCountAt offset)
+abbrev pub stateCount : List ℤ → ℕ → ℕ
+stateCount case offset = countAt case (stateCountAt offset)
 
-abbrev pub machinesAt : List ℤ → ℕ → ℕ
-machinesAt case offset = countAt case (machineCountAt offset)
+abbrev pub machineCount : List ℤ → ℕ → ℕ
+machineCount case offset = countAt case (machineCountAt offset)
 
--- a direction's row, which begins at `at`: entry set, exit set, weight
+-- a direction's row, which begins at `offset`: entry set, exit set, weight
 abbrev pub directionWidth : ℕ
 directionWidth = 3
 
 abbrev pub entryAt : ℕ → ℕ
-entryAt at = at
+entryAt offset = offset
 
 abbrev pub exitAt : ℕ → ℕ
-exitAt at = at + 1
+exitAt offset = offset + 1
 
 abbrev pub directionWeightAt : ℕ → ℕ
-directionWeightAt at = at + 2
+directionWeightAt offset = offset + 2
 
 -- a state's: direction set, on set, off set, weight
 abbrev pub stateWidth : ℕ
 stateWidth = 4
 
 abbrev pub directionSetAt : ℕ → ℕ
-directionSetAt at = at
+directionSetAt offset = offset
 
 abbrev pub onAt : ℕ → ℕ
-onAt at = at + 1
+onAt offset = offset + 1
 
 abbrev pub offAt : ℕ → ℕ
-offAt at = at + 2
+offAt offset = offset + 2
 
 abbrev pub stateWeightAt : ℕ → ℕ
-stateWeightAt at = at + 3
+stateWeightAt offset = offset + 3
 
 -- a machine's: flow Q, ratio R
 abbrev pub machineWidth : ℕ
 machineWidth = 2
 
 abbrev pub machineFlowAt : ℕ → ℕ
-machineFlowAt at = at
+machineFlowAt offset = offset
 
 abbrev pub ratioAt : ℕ → ℕ
-ratioAt at = at + 1
+ratioAt offset = offset + 1
 
 -- where the rows of directions, states and machines begin, by the index `offset` of the station's first number
 
@@ -228,14 +228,14 @@ unfoldable pub directionAt : ℕ → ℕ → ℕ
 directionAt offset f = offset + stationHeadWidth + f * directionWidth
 
 unfoldable pub stateAt : List ℤ → ℕ → ℕ → ℕ
-stateAt case offset z = directionAt offset (directionsAt case offset) + z * stateWidth
+stateAt case offset z = directionAt offset (directionCount case offset) + z * stateWidth
 
 unfoldable pub machineAt : List ℤ → ℕ → ℕ → ℕ
-machineAt case offset m = stateAt case offset (statesAt case offset) + m * machineWidth
+machineAt case offset m = stateAt case offset (stateCount case offset) + m * machineWidth
 
 -- the index past the station's last row
 abbrev pub stationEnd : List ℤ → ℕ → ℕ
-stationEnd case offset = machineAt case offset (machinesAt case offset)
+stationEnd case offset = machineAt case offset (machineCount case offset)
 
 -- "Station (each with all its rows before the following one)"
 unfoldable pub stationAt : List ℤ → ℕ → ℕ

@@ -7,7 +7,7 @@ use Prim.Native.Nat.{ℕ, _-_, _^_}
 use lib.IntN.{ℤ, pos}
 use Rattle.numbers.specs.law.Question.{Question}
 use Rattle.numbers.specs.law.Items.{over}
-use Rattle.case.specs.law.Layout.{directionsAt, statesAt, machinesAt, directionAt, stateAt, machineAt, stationAt, stationsOf, directionCountAt, stateCountAt, machineCountAt, startDirectionAt, startStateAt, entryAt, directionWeightAt, directionSetAt, onAt, stateWeightAt, machineFlowAt, ratioAt}
+use Rattle.case.specs.law.Layout.{directionCount, stateCount, machineCount, directionAt, stateAt, machineAt, stationAt, stationsOf, directionCountAt, stateCountAt, machineCountAt, startDirectionAt, startStateAt, entryAt, directionWeightAt, directionSetAt, onAt, stateWeightAt, machineFlowAt, ratioAt}
 use Rattle.case.specs.law.Field.{field, fields, lastOf, mostFlow, mostWeight}
 
 -- the set of the first n items
@@ -19,8 +19,8 @@ stationHead case offset =
     field case (directionCountAt offset) (pos 1) (pos 8)
     ++ (field case (stateCountAt offset) (pos 1) (pos 16)
     ++ (field case (machineCountAt offset) (pos 0) (pos 12)
-    ++ (field case (startDirectionAt offset) (pos 0) (lastOf (directionsAt case offset))
-    ++ field case (startStateAt offset) (pos 0) (lastOf (statesAt case offset)))))
+    ++ (field case (startDirectionAt offset) (pos 0) (lastOf (directionCount case offset))
+    ++ field case (startStateAt offset) (pos 0) (lastOf (stateCount case offset)))))
 
 -- entry set, exit set, weight
 unfoldable pub directionFields : List ℤ → ℕ → ℕ → List Question
@@ -28,15 +28,15 @@ directionFields case offset f =
     fields case (entryAt (directionAt offset f)) 2 (pos 0) (firstItems 60)
     ++ field case (directionWeightAt (directionAt offset f)) (pos 0) mostWeight
 
--- direction set, on set, off set, weight, from index `at` on
+-- direction set, on set, off set, weight of the row that begins at `offset`; `most` is the largest direction set
 unfoldable pub stateRowFields : List ℤ → ℕ → ℤ → List Question
-stateRowFields case at sets =
-    field case (directionSetAt at) (pos 0) sets
-    ++ (fields case (onAt at) 2 (pos 0) (firstItems 30)
-    ++ field case (stateWeightAt at) (pos 0) mostWeight)
+stateRowFields case offset most =
+    field case (directionSetAt offset) (pos 0) most
+    ++ (fields case (onAt offset) 2 (pos 0) (firstItems 30)
+    ++ field case (stateWeightAt offset) (pos 0) mostWeight)
 
 unfoldable pub stateFields : List ℤ → ℕ → ℕ → List Question
-stateFields case offset z = stateRowFields case (stateAt case offset z) (firstItems (directionsAt case offset))
+stateFields case offset z = stateRowFields case (stateAt case offset z) (firstItems (directionCount case offset))
 
 -- Q and R
 unfoldable pub machineFields : List ℤ → ℕ → ℕ → List Question
@@ -47,9 +47,9 @@ machineFields case offset m =
 -- the rows past the station's first
 unfoldable pub partFields : List ℤ → ℕ → List Question
 partFields case offset =
-    over (directionFields case offset) 0 (directionsAt case offset)
-    ++ (over (stateFields case offset) 0 (statesAt case offset)
-    ++ over (machineFields case offset) 0 (machinesAt case offset))
+    over (directionFields case offset) 0 (directionCount case offset)
+    ++ (over (stateFields case offset) 0 (stateCount case offset)
+    ++ over (machineFields case offset) 0 (machineCount case offset))
 
 -- all rows of the station whose first number has the index `offset`
 unfoldable pub rowFields : List ℤ → ℕ → List Question

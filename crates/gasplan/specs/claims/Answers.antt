@@ -1,13 +1,13 @@
--- What an export's number says: 0 exactly where the answer is yes, since no question has the number 0.
+-- What an export's number says: 0 exactly where there is no "no", since no question has the number 0. Where `out` is short it is -1.
 -- Assumes nothing.
 use mathlib.Core.Path.{_≡_, refl, ap, sym, _∙_}
-use mathlib.Core.Bool.{true}
-use mathlib.Core.List.{List, []}
+use mathlib.Core.Bool.{Bool, true, false, cond}
+use mathlib.Core.List.{List, [], _∷_}
 use Prim.Native.Nat.{ℕ, _≤_}
 use native.Mathlib.Omega.{arith}
 use borrow.Author.Tests.{le-leb}
 use lib.Dec.{leb}
-use lib.IntN.{ℤ, pos, natAbs}
+use lib.IntN.{ℤ, pos, negsuc, natAbs}
 use lib.ListN.{length}
 use Rattle.numbers.specs.declared.answer.Answer.{Answer}
 use Rattle.numbers.specs.declared.answer.Answer.the-variants.{Yes, No}
@@ -18,14 +18,25 @@ use Rattle.case.specs.law.Judged.{caseQuestions, judgedCase}
 use Rattle.case.specs.inside.SmallRefusals.{limit, case-small}
 use Rattle.plan.specs.declared.totals.Totals.{Totals}
 use Rattle.plan.specs.declared.verdict.Verdict.the-variants.{Accepted}
+use Rattle.plan.specs.declared.figures.Figures.{Figures}
+use Rattle.plan.specs.declared.figures.Ledger.the-variants.{Given}
 use Rattle.plan.specs.law.Totals.{totalsOf}
 use Rattle.plan.specs.law.Judged.{questions, verdictOf, verdictTold, judgeOf}
-use Rattle.plan.specs.inside.SmallRefusals.{judge-small}
+use Rattle.plan.specs.law.Ledger.{ledgerQuestions, ledgerBy, ledgerTold, ledgerOf}
+use Rattle.plan.specs.law.Vouched.{figuresFor}
+use Rattle.plan.specs.inside.SmallRefusals.{judge-small, ledger-small}
 use Rattle.gasplan.specs.law.Out.{codeOf}
 
--- with room in `out`, the number is what is told
-code-told : (out : List ℤ) (t : Told) → 6 ≤ length out → codeOf out t ≡ pos (t .number)
-code-told out t room = let e : leb 6 (length out) ≡ true = le-leb 6 (length out) room in rw e
+-- an answer 0 tells the number 0, and with 6 places in `out` the other way round
+pub code-zero : (out : List ℤ) (t : Told) → codeOf out t ≡ pos 0 → t .number ≡ 0
+code-zero out t e = go (leb 6 (length out)) e
+  where
+    go : (b : Bool) → cond b (pos (t .number)) (negsuc 0) ≡ pos 0 → t .number ≡ 0
+    go true e = ap natAbs e
+    go false e = let f : _≡_ {A = ℕ} 1 0 = ap natAbs e in let z : ⊥ = omega arith in absurd z
+
+pub zero-code : (out : List ℤ) (t : Told) → 6 ≤ length out → t .number ≡ 0 → codeOf out t ≡ pos 0
+zero-code out t room e = let b : leb 6 (length out) ≡ true = le-leb 6 (length out) room in rw (b, e)
 
 -- a refusal's number is not 0
 told-zero : (a : Answer) → Small limit a → told a .number ≡ 0 → a ≡ Yes
@@ -36,22 +47,35 @@ verdict-zero : (a : Answer) (t : Totals) → Small limit a → verdictTold (verd
 verdict-zero Yes t s e = refl
 verdict-zero (No n i p) t s e = let f : ⊥ = omega (arith, s .3, e) in absurd f
 
-module _ (case out : List ℤ) (room : 6 ≤ length out) where
-  -- `gasplan_case` answers 0 exactly where the case is accepted
-  pub case-zero : codeOf out (judgedCase case) ≡ pos 0 → judgedCase case ≡ gives []
-  unfolding judgedCase
-  case-zero e = ap told (told-zero (firstNo (caseQuestions case)) (case-small case) (ap natAbs (sym (code-told out (judgedCase case) room) ∙ e)))
+ledger-yes : (a : Answer) (f : Figures) → Small limit a → ledgerTold (ledgerBy a f) .number ≡ 0 → a ≡ Yes
+ledger-yes Yes f s e = refl
+ledger-yes (No n i p) f s e = let z : ⊥ = omega (arith, s .3, e) in absurd z
 
-  pub zero-case : judgedCase case ≡ gives [] → codeOf out (judgedCase case) ≡ pos 0
-  zero-case e = code-told out (judgedCase case) room ∙ ap (λ (t : Told). pos (t .number)) e
+-- Where `gasplan_case` answers 0 the case is accepted.
+pub case-zero : (case out : List ℤ) → codeOf out (judgedCase case) ≡ pos 0 → judgedCase case ≡ gives []
+unfolding judgedCase
+case-zero case out e = ap told (told-zero (firstNo (caseQuestions case)) (case-small case) (code-zero out (judgedCase case) e))
 
-  -- `gasplan_judge` answers 0 exactly where case and plan are accepted, and then it tells their totals
-  module _ (plan : List ℤ) where
-    pub judge-zero : codeOf out (judgeOf case plan) ≡ pos 0 → judgeOf case plan ≡ verdictTold (Accepted (totalsOf case plan))
-    unfolding judgeOf
-    judge-zero e =
-        let n : judgeOf case plan .number ≡ 0 = ap natAbs (sym (code-told out (judgeOf case plan) room) ∙ e) in
-        ap (λ (a : Answer). verdictTold (verdictOf a (totalsOf case plan))) (verdict-zero (firstNo (questions case plan)) (totalsOf case plan) (judge-small case plan) n)
+-- Where `gasplan_judge` answers 0 case and plan are accepted, and it tells their totals.
+pub judge-zero : (case plan out : List ℤ) → codeOf out (judgeOf case plan) ≡ pos 0 → judgeOf case plan ≡ verdictTold (Accepted (totalsOf case plan))
+unfolding judgeOf
+judge-zero case plan out e =
+    let n = code-zero out (judgeOf case plan) e in
+    ap (λ (a : Answer). verdictTold (verdictOf a (totalsOf case plan))) (verdict-zero (firstNo (questions case plan)) (totalsOf case plan) (judge-small case plan) n)
 
-    pub zero-judge : (totals : Totals) → judgeOf case plan ≡ verdictTold (Accepted totals) → codeOf out (judgeOf case plan) ≡ pos 0
-    zero-judge totals e = code-told out (judgeOf case plan) room ∙ ap (λ (t : Told). pos (t .number)) e
+-- Where `gasplan_ledger` answers 0 it tells the ledger's figures.
+pub ledger-zero : (case plan out : List ℤ) (set s t : ℤ) → codeOf out (ledgerOf case plan set s t) ≡ pos 0
+    → ledgerOf case plan set s t ≡ ledgerTold (Given (figuresFor case plan set s t))
+unfolding ledgerOf
+ledger-zero case plan out set s t e =
+    let f = figuresFor case plan set s t in
+    let n = code-zero out (ledgerOf case plan set s t) e in
+    ap (λ (a : Answer). ledgerTold (ledgerBy a f)) (ledger-yes (firstNo (ledgerQuestions case plan set s t)) f (ledger-small case plan set s t) n)
+
+-- With 6 places in `out` an accepted case or plan is answered by 0.
+pub zero-case : (case out : List ℤ) → 6 ≤ length out → judgedCase case ≡ gives [] → codeOf out (judgedCase case) ≡ pos 0
+zero-case case out room e = zero-code out (judgedCase case) room (ap (λ (t : Told). t .number) e)
+
+pub zero-judge : (case plan out : List ℤ) → 6 ≤ length out → (totals : Totals) → judgeOf case plan ≡ verdictTold (Accepted totals)
+    → codeOf out (judgeOf case plan) ≡ pos 0
+zero-judge case plan out room totals e = zero-code out (judgeOf case plan) room (ap (λ (t : Told). t .number) e)

@@ -5,9 +5,9 @@ use mathlib.Core.List.{List}
 use Prim.Native.Nat.{ℕ, _≤_}
 use borrow.Author.Tests.{le-leb}
 use lib.IntN.{ℤ, pos, natAbs, _+ℤ_, _-ℤ_, _*ℤ_}
-use lib.ListN.{length, getD}
+use lib.ListN.{length}
 use lib.Signed.{_≤ℤ_}
-use Rattle.case.specs.law.Layout.{massTolerance}
+use Rattle.case.specs.law.Layout.{numberAt, massTolerance}
 use Rattle.plan.specs.declared.totals.Totals.{Totals}
 use Rattle.plan.specs.declared.verdict.Verdict.the-variants.{Accepted}
 use Rattle.plan.specs.law.Judged.{verdictTold, judgeOf}
@@ -16,14 +16,10 @@ use Rattle.plan.specs.law.Vouched.{RegionOf}
 use Rattle.plan.specs.claims.Demand3.{demand3}
 use Rattle.gasplan.specs.law.Out.{codeOf, outOf}
 
--- the number at place i of a lent list
-abbrev pub place : List ℤ → ℕ → ℤ
-place list i = getD list i (pos 0)
-
 -- `out` after the call: its places are nodes, inner pipes, gas at s, gas at t, gas brought in and residual
 pub record OutBalanced (case : List ℤ) (s t : ℤ) (out : List ℤ) : Type 0 where
-  pub balance : pos (natAbs (place out 3 -ℤ place out 2 -ℤ place out 4)) ≤ℤ place out 5
-  pub bound : place out 5 ≤ℤ ((place out 0 +ℤ place out 1) *ℤ (t -ℤ s) *ℤ massTolerance case)
+  pub balance : pos (natAbs (numberAt out 3 -ℤ numberAt out 2 -ℤ numberAt out 4)) ≤ℤ numberAt out 5
+  pub bound : numberAt out 5 ≤ℤ ((numberAt out 0 +ℤ numberAt out 1) *ℤ (t -ℤ s) *ℤ massTolerance case)
 
 -- Where the verdict on case and plan is accepted, the set names only nodes, 0 ≤ s ≤ t ≤ k and `out` has 6 places or more, `gasplan_ledger` answers 0 and
 -- what it leaves in `out` balances.

@@ -1,4 +1,4 @@
--- The questions of one item after another, and what a loop over the items needs.
+-- The questions of one item after another.
 -- Assumes nothing.
 use mathlib.Core.List.{List, [], _++_}
 use Prim.Native.Nat.{ℕ, zero, suc}

@@ -17,7 +17,7 @@ use Rattle.numbers.specs.declared.reader.Number.the-variants.{Whole, Ref
 abbrev pub lastByte : ℕ → Number
 lastByte b = cond (eqb b 0) (Refused 2) (Whole b 1)
 
--- a group in front of the groups of `rest`
+-- a group in front of a number that was read
 abbrev pub inFront : ℕ → Number → Number
 inFront group (Whole value used) = Whole (group + 128 * value) (1 + used)
 inFront group (Refused number) = Refused number

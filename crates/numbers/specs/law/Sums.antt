@@ -1,4 +1,4 @@
--- Sums and counts over the indices 0 .. k - 1, the last term added last, as a loop makes them, and their laws.
+-- Sums and counts over the indices 0 .. k - 1, the last term added last.
 -- Assumes nothing.
 use Prim.Native.Nat.{ℕ, zero, suc, _+_}
 use mathlib.Core.Bool.{Bool, true, false}

@@ -20,7 +20,7 @@ use Rattle.case.specs.inside.FieldLaws.{first-yes, second-yes, item-yes}
 use Rattle.case.specs.law.Judged.{caseQuestions}
 use Rattle.plan.specs.declared.totals.Totals.{Totals}
 use Rattle.plan.specs.declared.verdict.Verdict.the-variants.{Accepted, Refused}
-use Rattle.plan.specs.law.PlanLayout.{stepRow}
+use Rattle.plan.specs.law.PlanLayout.{stepRows}
 use Rattle.plan.specs.law.PlanRecords.{nodeRow, arcRow}
 use Rattle.plan.specs.law.BeforeStep.{pressureAt}
 use Rattle.plan.specs.law.PlanHead.{headKept, headQuestion}
@@ -68,7 +68,7 @@ pub record StepRules (case : List ℤ) (old : ℕ → ℤ) (rows : List ℤ) (i 
 pub record PlanRules (case plan : List ℤ) : Type 0 where
   pub case-yes : firstNo (caseQuestions case) ≡ Yes
   pub rule20 : headKept case plan ≡ true
-  pub steps : (i : ℕ) → i < stepsOf case → StepRules case (pressureAt case plan i) (stepRow case plan i) i
+  pub steps : (i : ℕ) → i < stepsOf case → StepRules case (pressureAt case plan i) (stepRows case plan i) i
 
 -- ---- one step
 
@@ -132,7 +132,7 @@ module _ (case plan : List ℤ) where
       record {
         case-yes = first-yes (caseQuestions case) (planQuestions case plan) y;
         rule20 = all-yes (planQuestions case plan) p .0;
-        steps = λ i q. step-rules case (pressureAt case plan i) (stepRow case plan i) i (item-yes (planStep case plan) (stepsOf case) s i q);
+        steps = λ i q. step-rules case (pressureAt case plan i) (stepRows case plan i) i (item-yes (planStep case plan) (stepsOf case) s i q);
       }
 
   pub complete : PlanRules case plan → judgeOf case plan ≡ verdictTold (Accepted (totalsOf case plan))
@@ -143,7 +143,7 @@ module _ (case plan : List ℤ) where
         r .case-yes,
         r .rule20,
         over-all (planStep case plan) 0 (stepsOf case)
-            (λ i q. rw (zero i) (rules-step case (pressureAt case plan i) (stepRow case plan i) i (r .steps i q))),
+            (λ i q. rw (zero i) (rules-step case (pressureAt case plan i) (stepRows case plan i) i (r .steps i q))),
       )
     where
       zero : (n : ℕ) → 0 + n ≡ n

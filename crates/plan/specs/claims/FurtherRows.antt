@@ -7,7 +7,7 @@ use Prim.Native.Nat.{ℕ}
 use lib.IntN.{ℤ, pos}
 use Rattle.numbers.specs.law.Told.{gives, refuses}
 use Rattle.plan.specs.inside.Computed.{law}
-use Rattle.plan.specs.claims.TableT.{Row, judges, draws, judgesBytes, Holds, AllHold, minus, caseC, planP}
+use Rattle.plan.specs.claims.TableT.{Row, judges, draws, judgesBytes, RowHolds, AllHold, minus, caseC, planP}
 
 -- ---- a compressor that runs backward
 
@@ -90,5 +90,5 @@ furtherRows =
     ∷ []
 
 pub further : AllHold furtherRows
-unfolding AllHold Holds furtherRows law
+unfolding AllHold RowHolds furtherRows law
 further = (refl, (refl, (refl, (refl, (refl, (refl, (refl, (refl, (refl, (refl, (refl, (refl, (refl, tt)))))))))))))

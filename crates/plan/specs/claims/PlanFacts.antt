@@ -10,7 +10,7 @@ use Rattle.case.specs.law.Records.{nodeOf, arcOf, artificialOf, stationOf}
 use Rattle.case.specs.inside.AcceptedCase.{Accepted, node-ranges, arc-ranges}
 use Rattle.plan.specs.declared.totals.Totals.{Totals}
 use Rattle.plan.specs.declared.verdict.Verdict.the-variants as verdict
-use Rattle.plan.specs.law.PlanLayout.{stepRow}
+use Rattle.plan.specs.law.PlanLayout.{stepRows}
 use Rattle.plan.specs.law.PlanRecords.{nodeRow, arcRow, directionIn}
 use Rattle.plan.specs.law.BeforeStep.{pressureAt}
 use Rattle.plan.specs.law.Totals.{totalsOf}
@@ -24,23 +24,23 @@ use Rattle.plan.specs.claims.StationFacts.{Rule30, Rule31, Rule32, Rule3
 pub record PlanFacts (case plan : List ℤ) : Type 0 where
   pub accepted : Accepted case
   pub rule20 : Rule20 case plan
-  pub rule21 : (i v : ℕ) → i < stepsOf case → v < nodesOf case → Rule21 (nodeOf case v i) (nodeRow (stepRow case plan i) v)
-  pub rule22 : (i v : ℕ) → i < stepsOf case → v < nodesOf case → Rule22 (nodeOf case v i) (nodeRow (stepRow case plan i) v)
-  pub rule23 : (i v : ℕ) → i < stepsOf case → v < nodesOf case → Rule23 (nodeOf case v i) (nodeRow (stepRow case plan i) v)
-  pub rule24 : (i e : ℕ) → i < stepsOf case → e < arcsOf case → Rule24 (arcOf case e) (artificialOf case e) (arcRow case (stepRow case plan i) e)
-  pub rule25 : (i e : ℕ) → i < stepsOf case → e < arcsOf case → Rule25 (arcOf case e) (arcRow case (stepRow case plan i) e)
-  pub rule26 : (i e : ℕ) → i < stepsOf case → e < arcsOf case → Rule26 case (stepRow case plan i) i e
-  pub rule27 : (i e : ℕ) → i < stepsOf case → e < arcsOf case → Rule27 case (stepRow case plan i) e
-  pub rule28 : (i e : ℕ) → i < stepsOf case → e < arcsOf case → Rule28 case (pressureAt case plan i) (stepRow case plan i) i e
-  pub rule29 : (i e : ℕ) → i < stepsOf case → e < arcsOf case → Rule29 case (stepRow case plan i) e
-  pub rule30 : (i s : ℕ) → i < stepsOf case → s < stationsOf case → Rule30 case (stepRow case plan i) s
-  pub rule31 : (i s : ℕ) → i < stepsOf case → s < stationsOf case → Rule31 case (stepRow case plan i) s
-  pub rule32 : (i s : ℕ) → i < stepsOf case → s < stationsOf case → Rule32 case (stepRow case plan i) s
-  pub rule33 : (i v : ℕ) → i < stepsOf case → v < nodesOf case → Rule33 case (stepRow case plan i) i v
+  pub rule21 : (i v : ℕ) → i < stepsOf case → v < nodesOf case → Rule21 (nodeOf case v i) (nodeRow (stepRows case plan i) v)
+  pub rule22 : (i v : ℕ) → i < stepsOf case → v < nodesOf case → Rule22 (nodeOf case v i) (nodeRow (stepRows case plan i) v)
+  pub rule23 : (i v : ℕ) → i < stepsOf case → v < nodesOf case → Rule23 (nodeOf case v i) (nodeRow (stepRows case plan i) v)
+  pub rule24 : (i e : ℕ) → i < stepsOf case → e < arcsOf case → Rule24 (arcOf case e) (artificialOf case e) (arcRow case (stepRows case plan i) e)
+  pub rule25 : (i e : ℕ) → i < stepsOf case → e < arcsOf case → Rule25 (arcOf case e) (arcRow case (stepRows case plan i) e)
+  pub rule26 : (i e : ℕ) → i < stepsOf case → e < arcsOf case → Rule26 case (stepRows case plan i) i e
+  pub rule27 : (i e : ℕ) → i < stepsOf case → e < arcsOf case → Rule27 case (stepRows case plan i) e
+  pub rule28 : (i e : ℕ) → i < stepsOf case → e < arcsOf case → Rule28 case (pressureAt case plan i) (stepRows case plan i) i e
+  pub rule29 : (i e : ℕ) → i < stepsOf case → e < arcsOf case → Rule29 case (stepRows case plan i) e
+  pub rule30 : (i s : ℕ) → i < stepsOf case → s < stationsOf case → Rule30 case (stepRows case plan i) s
+  pub rule31 : (i s : ℕ) → i < stepsOf case → s < stationsOf case → Rule31 case (stepRows case plan i) s
+  pub rule32 : (i s : ℕ) → i < stepsOf case → s < stationsOf case → Rule32 case (stepRows case plan i) s
+  pub rule33 : (i v : ℕ) → i < stepsOf case → v < nodesOf case → Rule33 case (stepRows case plan i) i v
 
 module _ (case plan : List ℤ) where
   -- the direction that has passed 30 is one of the station's, which 32 leans on
-  chosen : (i s : ℕ) → Rule30 case (stepRow case plan i) s → directionIn case (stepRow case plan i) s < stationOf case s .directions
+  chosen : (i s : ℕ) → Rule30 case (stepRows case plan i) s → directionIn case (stepRows case plan i) s < stationOf case s .directions
   chosen i s f = in-one-of _ _ (f .direction)
 
   facts-of : PlanRules case plan → PlanFacts case plan

@@ -28,17 +28,17 @@ pub data Row : Type 0 where
   -- what is told of reading the bytes into a list of one place
   reads : List ℕ → Told → Row
 
-unfoldable pub Holds : Row → Type 0
-Holds (judges case plan told) = judgeOf case plan ≡ told
-Holds (draws case plan set s t told) = ledgerOf case plan set s t ≡ told
-Holds (judgesBytes caseBytes planBytes caseRoom planRoom told) =
+unfoldable pub RowHolds : Row → Type 0
+RowHolds (judges case plan told) = judgeOf case plan ≡ told
+RowHolds (draws case plan set s t told) = ledgerOf case plan set s t ≡ told
+RowHolds (judgesBytes caseBytes planBytes caseRoom planRoom told) =
     bytesJudged caseBytes planBytes (replicate caseRoom (pos 0)) (replicate planRoom (pos 0)) .told ≡ told
-Holds (codes list bytes) = (encode list ≡ bytes) × (readOf bytes (length list) ≡ record { stored = list; ended = all })
-Holds (reads bytes told) = readTold (readOf bytes 1) ≡ told
+RowHolds (codes list bytes) = (encode list ≡ bytes) × (readOf bytes (length list) ≡ record { stored = list; ended = all })
+RowHolds (reads bytes told) = readTold (readOf bytes 1) ≡ told
 
 unfoldable pub AllHold : List Row → Type 0
 AllHold [] = Unit {0}
-AllHold (r ∷ rows) = Holds r × AllHold rows
+AllHold (r ∷ rows) = RowHolds r × AllHold rows
 
 -- ---- the table's cases and plans
 
@@ -96,7 +96,7 @@ rows =
     ∷ judges (caseC (pos 59) (pos 1)) (planP (pos 901)) (refuses 28 1 0)
     -- "5. As 3, set {1}, 0 to 1: brought in 60, residual 60." The set {1} is the number 2. It is one node, with no inner pipe and so no gas.
     ∷ draws (caseC (pos 60) (pos 1)) (planP (pos 901)) (pos 2) (pos 0) (pos 1) (gives (pos 1 ∷ pos 0 ∷ pos 0 ∷ pos 0 ∷ pos 60 ∷ pos 60 ∷ []))
-    -- "6. [..] out 60,000 passes 26, 60,001 doesn't."
+    -- "6. [..] out 60,000 passes 26, 60,001 doesn't." The case and the plan around the row's figures are `case6` and `plan6` above.
     ∷ judges case6 (plan6 (pos 60000)) (gives (pos 0 ∷ pos 0 ∷ pos 7 ∷ pos 0 ∷ pos 0 ∷ pos 0 ∷ []))
     ∷ judges case6 (plan6 (pos 60001)) (refuses 26 1 0)
     -- "7. -900 is 87 0E; 64 is 80 01."
@@ -110,5 +110,5 @@ rows =
     ∷ []
 
 pub table : AllHold rows
-unfolding AllHold Holds rows law
+unfolding AllHold RowHolds rows law
 table = (refl, (refl, (refl, (refl, (refl, (refl, (refl, ((refl, refl), ((refl, refl), (refl, (refl, (refl, ((refl, refl), tt)))))))))))))

@@ -20,7 +20,7 @@ use Rattle.case.specs.law.StationSize.{stationSize, allStationSizes}
 use Rattle.case.specs.law.Directions.{setsKept, directionSets, allDirectionSets}
 use Rattle.case.specs.law.States.{stateKept, machinesKept, startKept, stationKept, stateSets, allStateSets}
 use Rattle.case.specs.law.Judged.{rowQuestions, listQuestions, earlyRules, ruleQuestions, caseQuestions}
-use Rattle.plan.specs.law.PlanLayout.{stepWidth, stepAt, stepRow}
+use Rattle.plan.specs.law.PlanLayout.{stepWidth, stepAt, stepRows}
 use Rattle.plan.specs.law.Setting.{directed, combinedOf, valveOf, activeOf, settingOf}
 use Rattle.plan.specs.law.BeforeStep as before
 use Rattle.plan.specs.law.PlanHead.{headKept}
@@ -49,7 +49,7 @@ codec = tt
 
 -- sums, and where rows stand
 unfoldable pub layout : Unit {0}
-unfolding sum sumN count ones nodeAt arcAt stationAt directionAt stateAt machineAt stepWidth stepAt stepRow
+unfolding sum sumN count ones nodeAt arcAt stationAt directionAt stateAt machineAt stepWidth stepAt stepRows
 layout = tt
 
 -- 10 to 12
@@ -68,7 +68,7 @@ caseRules = tt
 
 -- 20 to 29
 unfoldable pub nodesAndArcs : Unit {0}
-unfolding before.pressureAt before.activeAt before.directionAt before.stateAt directed combinedOf valveOf activeOf settingOf headKept
+unfolding before.pressureAt before.activeAt before.directionChosen before.stateChosen directed combinedOf valveOf activeOf settingOf headKept
     slacksKept boundaryFlowKept nodeNumbersKept demandMet activeBoundsKept nodeQuestions allNodeQuestions
     flowsKept machinesWithin arcNumbersKept flowAllowed flowPart machineFlow gainPart machineGain compressionKept pressuresKept machinesCarry machinesUsed
     duration pipeImbalance pipeResidual pipeMassKept pressureBalance pipePressuresKept

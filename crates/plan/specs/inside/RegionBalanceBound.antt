@@ -12,7 +12,7 @@ use Rattle.numbers.specs.law.Sets.{memberOf}
 use Rattle.numbers.specs.law.Sums.{count}
 use Rattle.numbers.specs.inside.SumLaws.{sumN-le, sumN-const, sumN-count}
 use Rattle.case.specs.law.Layout.{nodesOf, arcsOf}
-use Rattle.plan.specs.law.PlanLayout.{stepRow}
+use Rattle.plan.specs.law.PlanLayout.{stepRows}
 use Rattle.plan.specs.law.BeforeStep.{pressureAt}
 use Rattle.plan.specs.law.Pipes.{isPipe, pipeResidual}
 use Rattle.plan.specs.law.Balance.{nodeResidual}
@@ -25,16 +25,16 @@ first-of true b h = refl
 first-of false b h = absurd h
 
 module _ (case plan : List ℤ) (set : ℤ) (m s t : ℕ)
-    (nodes : (u i : ℕ) → u < nodesOf case → s ≤ i → i < t → nodeResidual case (stepRow case plan i) i u ≤ m)
-    (pipes : (e i : ℕ) → e < arcsOf case → isPipe case e ≡ true → s ≤ i → i < t → pipeResidual case (pressureAt case plan i) (stepRow case plan i) i e ≤ m) where
+    (nodes : (u i : ℕ) → u < nodesOf case → s ≤ i → i < t → nodeResidual case (stepRows case plan i) i u ≤ m)
+    (pipes : (e i : ℕ) → e < arcsOf case → isPipe case e ≡ true → s ≤ i → i < t → pipeResidual case (pressureAt case plan i) (stepRows case plan i) i e ≤ m) where
   step-bound : (j : ℕ) → j < t - s → residualAt case plan set s j ≤ (count (nodesOf case) (memberOf set) + innerPipes case set) * m
   unfolding residualAt regionResidual ownNodes ownPipes ownNode ownPipe innerPipes
   step-bound j l =
       let i = s + j in
       omega (
         arith,
-        sumN-count (nodesOf case) m (memberOf set) (λ u. nodeResidual case (stepRow case plan i) i u) (λ u b w. nodes u i b (omega arith) (omega arith)),
-        sumN-count (arcsOf case) m (innerPipe case set) (λ e. pipeResidual case (pressureAt case plan i) (stepRow case plan i) i e)
+        sumN-count (nodesOf case) m (memberOf set) (λ u. nodeResidual case (stepRows case plan i) i u) (λ u b w. nodes u i b (omega arith) (omega arith)),
+        sumN-count (arcsOf case) m (innerPipe case set) (λ e. pipeResidual case (pressureAt case plan i) (stepRows case plan i) i e)
             (λ e b w. pipes e i b (first-of (isPipe case e) (beginsIn case set e && endsIn case set e) w) (omega arith) (omega arith)),
       )
 

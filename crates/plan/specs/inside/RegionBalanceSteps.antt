@@ -8,7 +8,7 @@ use native.Mathlib.Nat.{le-trans, le-of-eq}
 use lib.IntN.{ℤ, natAbs, _-ℤ_}
 use Rattle.numbers.specs.law.Sums.{sum}
 use Rattle.numbers.specs.inside.SumLaws.{sum-sub, sum-tele, abs-sum, sumN-le}
-use Rattle.plan.specs.law.PlanLayout.{stepRow}
+use Rattle.plan.specs.law.PlanLayout.{stepRows}
 use Rattle.plan.specs.law.BeforeStep.{pressureAt}
 use Rattle.plan.specs.law.RegionFigures.{gasInside, broughtAt, residualAt, broughtOver, residualOver}
 use Rattle.plan.specs.inside.RegionBalance.{EndsAreNodes, step-balance}
@@ -22,7 +22,7 @@ module _ (case plan : List ℤ) (set : ℤ) (ends : EndsAreNodes case) (s : ℕ)
   unfolding leaves gasInside broughtAt residualAt pressureAt
   at-most j =
       let e : s + suc j ≡ suc (s + j) = omega arith in
-      rw e (step-balance case set (stepRow case plan (s + j)) (pressureAt case plan (s + j)) (s + j) ends)
+      rw e (step-balance case set (stepRows case plan (s + j)) (pressureAt case plan (s + j)) (s + j) ends)
 
   total : (k : ℕ) → gasInside case plan set (s + k) -ℤ gasInside case plan set s -ℤ sum k (broughtAt case plan set s) ≡ sum k leaves
   unfolding leaves

@@ -18,7 +18,7 @@ use Rattle.case.specs.law.Layout.{numberAt, nodesOf, stepsOf}
 use Rattle.case.specs.inside.FieldLaws.{and-second}
 use Rattle.case.specs.law.LayoutOf.{Holds}
 use Rattle.plan.specs.declared.region.Gathered.{Gathered}
-use Rattle.plan.specs.law.PlanLayout.{stepWidth, stepAt, stepRow}
+use Rattle.plan.specs.law.PlanLayout.{stepWidth, stepAt, stepRows}
 use Rattle.plan.specs.law.PlanRecords.{pressureIn}
 use Rattle.plan.specs.law.BeforeStep.{startPressure, pressureAt}
 use Rattle.plan.specs.law.Compared.{same}
@@ -53,11 +53,11 @@ module _ {case plan : List ℤ} (r : PlanRules case plan) where
   pub ends-of : EndsAreNodes case
   ends-of = ends-nodes accepted-case
 
-  step-yes : (i : ℕ) → i < stepsOf case → firstNo (stepQuestions case (pressureAt case plan i) (stepRow case plan i) i) ≡ Yes
-  step-yes i l = rules-step case (pressureAt case plan i) (stepRow case plan i) i (r .steps i l)
+  step-yes : (i : ℕ) → i < stepsOf case → firstNo (stepQuestions case (pressureAt case plan i) (stepRows case plan i) i) ≡ Yes
+  step-yes i l = rules-step case (pressureAt case plan i) (stepRows case plan i) i (r .steps i l)
 
-  rows-sized : (i : ℕ) → i < stepsOf case → NodesSized case (stepRow case plan i)
-  rows-sized i l = nodes-sized case (stepRow case plan i) i accepted-case l (nodes-yes case (pressureAt case plan i) (stepRow case plan i) i (step-yes i l))
+  rows-sized : (i : ℕ) → i < stepsOf case → NodesSized case (stepRows case plan i)
+  rows-sized i l = nodes-sized case (stepRows case plan i) i accepted-case l (nodes-yes case (pressureAt case plan i) (stepRows case plan i) i (step-yes i l))
 
   -- the pressures at every time are in range
   sized-at : (t : ℕ) → t ≤ stepsOf case → (u : ℕ) → u < nodesOf case → Bounded (pressureAt case plan t u) 200000
@@ -77,9 +77,9 @@ module _ {case plan : List ℤ} (r : PlanRules case plan) where
   gas-held {p} set t k = gas-same case (numberAt p) (pressureAt case plan t) ends-of (k .each) set
 
   -- a step, by pressures that an array holds
-  pub step-handed : {old : List ℤ} (i : ℕ) → i < stepsOf case → Holds (pos 0) old (pressureAt case plan i) (nodesOf case) → RegionStep case old (stepRow case plan i) i
+  pub step-handed : {old : List ℤ} (i : ℕ) → i < stepsOf case → Holds (pos 0) old (pressureAt case plan i) (nodesOf case) → RegionStep case old (stepRows case plan i) i
   step-handed {old} i l k =
-      let rows = stepRow case plan i in
+      let rows = stepRows case plan i in
       let p = pressureAt case plan i in
       let y = step-yes i l in
       let a = arcs-yes case p rows i y in
@@ -105,7 +105,7 @@ module _ {case plan : List ℤ} (r : PlanRules case plan) where
       }
 
   -- a turn
-  pub turn : {set : ℤ} {s i : ℕ} {g h : Gathered} {rows : List ℤ} → Gathering case plan set s i g → i < stepsOf case → rows ≡ stepRow case plan i
+  pub turn : {set : ℤ} {s i : ℕ} {g h : Gathered} {rows : List ℤ} → Gathering case plan set s i g → i < stepsOf case → rows ≡ stepRows case plan i
       → RegionAdded case set rows i g h → Gathering case plan set s (i + 1) h
   unfolding sum sumN broughtAt residualAt pressureAt
   turn {set} {s} {i} {g} {h} {rows} k l e d =
@@ -113,16 +113,16 @@ module _ {case plan : List ℤ} (r : PlanRules case plan) where
       let count : i + 1 - s ≡ suc (i - s) = omega (arith, k .from) in
       let here : s + (i - s) ≡ i = omega (arith, k .from) in
       let next : i + 1 ≡ suc i = omega arith in
-      let b : h .brought ≡ g .brought +ℤ broughtIn case set (stepRow case plan i) i = subst (λ (x : List ℤ). h .brought ≡ g .brought +ℤ broughtIn case set x i) e (d .brought) in
-      let c : h .residual ≡ g .residual + regionResidual case set (numberAt (g .pressures)) (stepRow case plan i) i
+      let b : h .brought ≡ g .brought +ℤ broughtIn case set (stepRows case plan i) i = subst (λ (x : List ℤ). h .brought ≡ g .brought +ℤ broughtIn case set x i) e (d .brought) in
+      let c : h .residual ≡ g .residual + regionResidual case set (numberAt (g .pressures)) (stepRows case plan i) i
       = subst (λ (x : List ℤ). h .residual ≡ g .residual + regionResidual case set (numberAt (g .pressures)) x i) e (d .residual) in
-      let same = residual-same case (numberAt (g .pressures)) (pressureAt case plan i) ends-of (k .held .each) (stepRow case plan i) i set in
+      let same = residual-same case (numberAt (g .pressures)) (pressureAt case plan i) ends-of (k .held .each) (stepRows case plan i) i set in
       record {
         from = omega (arith, k .from);
         held = rw next (record { each = λ u q. d .pressures .each u q ∙ ap (λ (x : List ℤ). pressureIn x u) e });
-        brought = rw (count, here) (b ∙ ap (λ (z : ℤ). z +ℤ broughtIn case set (stepRow case plan i) i) (k .brought));
+        brought = rw (count, here) (b ∙ ap (λ (z : ℤ). z +ℤ broughtIn case set (stepRows case plan i) i) (k .brought));
         residual = rw (count, here) (c ∙ ap₂ _+_ (k .residual) same);
-        brought-few = omega (arith, ap natAbs b, abs-add (g .brought) (broughtIn case set (stepRow case plan i) i), brought-small step set, k .brought-few);
+        brought-few = omega (arith, ap natAbs b, abs-add (g .brought) (broughtIn case set (stepRows case plan i) i), brought-small step set, k .brought-few);
         residual-few = omega (arith, c, residual-small step set, k .residual-few);
       }
 
@@ -159,8 +159,8 @@ module _ {case plan : List ℤ} {width : ℕ} (r : PlanRules case plan) (wide : 
       let b : stepsOf case * width ≤ 48 * 856 = mul-le-mul (n .steps) narrow in
       record { inside = omega (arith, long); near = omega arith }
 
-  pub row-is : (i : ℕ) → take (2 + i * width + width - (2 + i * width)) (drop (2 + i * width) plan) ≡ stepRow case plan i
-  unfolding stepRow stepAt
+  pub row-is : (i : ℕ) → take (2 + i * width + width - (2 + i * width)) (drop (2 + i * width) plan) ≡ stepRows case plan i
+  unfolding stepRows stepAt
   row-is i = rw (add-sub-cancel-left (2 + i * width) width, wide)
 
 -- ---- the pressures at a time, as an array holds them
@@ -169,7 +169,7 @@ pub pressures-first : (case plan : List ℤ) {p : List ℤ} {n t : ℕ} → n �
 unfolding pressureAt
 pressures-first case plan e z h = rw (z, ← e) h
 
-pub pressures-after : (case plan : List ℤ) {p rows : List ℤ} {n t : ℕ} → n ≡ nodesOf case → 0 < t → rows ≡ stepRow case plan (t - 1) → Holds (pos 0) p (pressureIn rows) n → Holds (pos 0) p (pressureAt case plan t) (nodesOf case)
+pub pressures-after : (case plan : List ℤ) {p rows : List ℤ} {n t : ℕ} → n ≡ nodesOf case → 0 < t → rows ≡ stepRows case plan (t - 1) → Holds (pos 0) p (pressureIn rows) n → Holds (pos 0) p (pressureAt case plan t) (nodesOf case)
 unfolding pressureAt
 pressures-after case plan {p} {rows} {n} {t} e z q h =
     let s : t ≡ suc (t - 1) = omega arith in

@@ -22,7 +22,7 @@ use Rattle.case.specs.inside.FieldLaws.{and-first, and-second}
 use Rattle.plan.specs.declared.figures.Ledger.the-variants.{Given}
 use Rattle.plan.specs.declared.totals.Totals.{Totals}
 use Rattle.plan.specs.declared.verdict.Verdict.the-variants.{Accepted}
-use Rattle.plan.specs.law.PlanLayout.{stepRow}
+use Rattle.plan.specs.law.PlanLayout.{stepRows}
 use Rattle.plan.specs.law.BeforeStep.{pressureAt}
 use Rattle.plan.specs.law.Pipes.{isPipe, pipeResidual, pipeMassKept}
 use Rattle.plan.specs.law.Balance.{nodeResidual, balanceKept}
@@ -71,8 +71,8 @@ product r m (pos s) (pos t) (negsuc e) h k l b = let f : ⊥ = omega ints in abs
 record Sound (case plan : List ℤ) : Type 0 where
   ends : EndsAreNodes case
   tolerance : leZ (pos 0) (massTolerance case) ≡ true
-  pipes : (i e : ℕ) → i < stepsOf case → e < arcsOf case → isPipe case e ≡ true → pipeResidual case (pressureAt case plan i) (stepRow case plan i) i e ≤ posPart (massTolerance case)
-  nodes : (i u : ℕ) → i < stepsOf case → u < nodesOf case → nodeResidual case (stepRow case plan i) i u ≤ posPart (massTolerance case)
+  pipes : (i e : ℕ) → i < stepsOf case → e < arcsOf case → isPipe case e ≡ true → pipeResidual case (pressureAt case plan i) (stepRows case plan i) i e ≤ posPart (massTolerance case)
+  nodes : (i u : ℕ) → i < stepsOf case → u < nodesOf case → nodeResidual case (stepRows case plan i) i u ≤ posPart (massTolerance case)
 
 or-second : (a b : Bool) → a ≡ true → not a || b ≡ true → b ≡ true
 or-second true b e h = h

@@ -7,7 +7,7 @@ use lib.IntN.{ℤ}
 use Rattle.numbers.specs.inside.SignedBounds.{Bounded}
 use Rattle.case.specs.declared.records.Node.{Node}
 use Rattle.case.specs.declared.records.Pipe.{Pipe}
-use Rattle.case.specs.law.Layout.{nodesOf, arcsOf, machinesAt}
+use Rattle.case.specs.law.Layout.{nodesOf, arcsOf, machineCount}
 use Rattle.case.specs.law.Records.{machineRow}
 use Rattle.plan.specs.declared.rows.NodeRow.{NodeRow}
 use Rattle.plan.specs.declared.rows.ArcRow.{ArcRow}
@@ -53,6 +53,6 @@ pub record PipeSized (x : Pipe) : Type 0 where
 
 -- the machines of the station whose rows begin at `offset`
 pub record MachinesSized (case : List ℤ) (offset : ℕ) : Type 0 where
-  pub count : machinesAt case offset ≤ 12
-  pub flow : (m : ℕ) → m < machinesAt case offset → Bounded (machineRow case offset m .flow) 10000000
-  pub ratio : (m : ℕ) → m < machinesAt case offset → Bounded (machineRow case offset m .ratio) 10000
+  pub count : machineCount case offset ≤ 12
+  pub flow : (m : ℕ) → m < machineCount case offset → Bounded (machineRow case offset m .flow) 10000000
+  pub ratio : (m : ℕ) → m < machineCount case offset → Bounded (machineRow case offset m .ratio) 10000

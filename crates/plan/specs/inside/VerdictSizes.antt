@@ -32,8 +32,8 @@ use Rattle.case.specs.inside.SmallRefusals.{limit, case-small}
 use Rattle.plan.specs.inside.Preconditions.{AcceptedCase}
 use Rattle.plan.specs.inside.CaseSizes.{counted, mass-sized}
 use Rattle.plan.specs.inside.AnsweredSizes.{arcs-yes, stations-yes, balances-yes, choices-kept, pipe-small, node-small}
-use Rattle.plan.specs.law.PlanLayout.{stepRow}
-use Rattle.plan.specs.law.BeforeStep.{pressureAt, activeAt, directionAt, stateAt}
+use Rattle.plan.specs.law.PlanLayout.{stepRows}
+use Rattle.plan.specs.law.BeforeStep.{pressureAt, activeAt, directionChosen, stateChosen}
 use Rattle.plan.specs.law.PlanHead.{headQuestion}
 use Rattle.plan.specs.law.Step.{stepQuestions}
 use Rattle.plan.specs.law.Balance.{nodeResidual}
@@ -64,7 +64,7 @@ module _ (case plan : List ℤ) (y : firstNo (questions case plan) ≡ Yes) wher
   unfolding questions
   accepted = record { yes = first-yes (caseQuestions case) (planQuestions case plan) y }
 
-  step-yes : (i : ℕ) → i < stepsOf case → firstNo (stepQuestions case (pressureAt case plan i) (stepRow case plan i) i) ≡ Yes
+  step-yes : (i : ℕ) → i < stepsOf case → firstNo (stepQuestions case (pressureAt case plan i) (stepRows case plan i) i) ≡ Yes
   unfolding questions planQuestions planStep
   step-yes i l = item-yes (planStep case plan) (stepsOf case) (second-yes (headQuestion case plan ∷ []) (over (planStep case plan) 0 (stepsOf case)) (second-yes (caseQuestions case) (planQuestions case plan) y)) i l
 
@@ -72,8 +72,8 @@ module _ (case plan : List ℤ) (y : firstNo (questions case plan) ≡ Yes) wher
   unfolding totalsOf totalsTo stepSwitching
   switching-small =
       let b = sumN-bound (stepsOf case) 136000000 (stepSwitching case plan) (λ i l.
-      let rows = stepRow case plan i in
-      omega (arith, choice-costs-le rows accepted (choices-kept case rows i (stations-yes case (pressureAt case plan i) rows i (step-yes i l))) (directionAt case plan i) (stateAt case plan i), activity-costs-le rows accepted (activeAt case plan i))) in
+      let rows = stepRows case plan i in
+      omega (arith, choice-costs-le rows accepted (choices-kept case rows i (stations-yes case (pressureAt case plan i) rows i (step-yes i l))) (directionChosen case plan i) (stateChosen case plan i), activity-costs-le rows accepted (activeAt case plan i))) in
       omega (arith, b, counted accepted .steps)
 
   residual-small : totalsOf case plan .residual ≤ 8640000000
@@ -81,7 +81,7 @@ module _ (case plan : List ℤ) (y : firstNo (questions case plan) ≡ Yes) wher
   residual-small =
       let b = sumN-bound (stepsOf case) 180000000 (stepResidual case plan) (λ i l.
       let old = pressureAt case plan i in
-      let rows = stepRow case plan i in
+      let rows = stepRows case plan i in
       let p = sumN-bound (arcsOf case) 1000000 (pipePart case old rows i) (pipe-small case old rows i accepted (arcs-yes case old rows i (step-yes i l))) in
       let n = sumN-bound (nodesOf case) 1000000 (nodeResidual case rows i) (node-small case rows i accepted (balances-yes case old rows i (step-yes i l))) in
       omega (arith, p, n, counted accepted .arcs, counted accepted .nodes)) in

@@ -42,7 +42,7 @@ netFlow case rows v = outflow case rows v -ℤ inflow case rows v
 unfoldable pub nodeImbalance : List ℤ → List ℤ → ℕ → ℤ
 nodeImbalance case rows v = netFlow case rows v -ℤ nodeRow rows v .d
 
--- the left side of 33
+-- the left side of 33, of which dt is at least 1
 unfoldable pub nodeResidual : List ℤ → List ℤ → ℕ → ℕ → ℕ
 nodeResidual case rows i v = natAbs (duration case i) * natAbs (nodeImbalance case rows v)
 

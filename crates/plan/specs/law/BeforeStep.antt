@@ -6,7 +6,7 @@ use Prim.Native.Nat.{ℕ, zero, suc}
 use lib.IntN.{ℤ}
 use Rattle.case.specs.law.Records.{nodeOf, stationOf}
 use Rattle.case.specs.law.States.{activeAtStart}
-use Rattle.plan.specs.law.PlanLayout.{stepRow}
+use Rattle.plan.specs.law.PlanLayout.{stepRows}
 use Rattle.plan.specs.law.PlanRecords.{pressureIn, activeIn, directionIn, stateIn}
 
 abbrev pub startPressure : List ℤ → ℕ → ℤ
@@ -20,16 +20,16 @@ startState case s = stationOf case s .state
 
 unfoldable pub pressureAt : List ℤ → List ℤ → ℕ → ℕ → ℤ
 pressureAt case plan zero v = startPressure case v
-pressureAt case plan (suc i) v = pressureIn (stepRow case plan i) v
+pressureAt case plan (suc i) v = pressureIn (stepRows case plan i) v
 
 unfoldable pub activeAt : List ℤ → List ℤ → ℕ → ℕ → Bool
 activeAt case plan zero e = activeAtStart case e
-activeAt case plan (suc i) e = activeIn case (stepRow case plan i) e
+activeAt case plan (suc i) e = activeIn case (stepRows case plan i) e
 
-unfoldable pub directionAt : List ℤ → List ℤ → ℕ → ℕ → ℕ
-directionAt case plan zero s = startDirection case s
-directionAt case plan (suc i) s = directionIn case (stepRow case plan i) s
+unfoldable pub directionChosen : List ℤ → List ℤ → ℕ → ℕ → ℕ
+directionChosen case plan zero s = startDirection case s
+directionChosen case plan (suc i) s = directionIn case (stepRows case plan i) s
 
-unfoldable pub stateAt : List ℤ → List ℤ → ℕ → ℕ → ℕ
-stateAt case plan zero s = startState case s
-stateAt case plan (suc i) s = stateIn case (stepRow case plan i) s
+unfoldable pub stateChosen : List ℤ → List ℤ → ℕ → ℕ → ℕ
+stateChosen case plan zero s = startState case s
+stateChosen case plan (suc i) s = stateIn case (stepRows case plan i) s

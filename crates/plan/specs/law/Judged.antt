@@ -13,7 +13,7 @@ use Rattle.case.specs.law.Judged.{caseQuestions}
 use Rattle.plan.specs.declared.totals.Totals.{Totals}
 use Rattle.plan.specs.declared.verdict.Verdict.{Verdict}
 use Rattle.plan.specs.declared.verdict.Verdict.the-variants.{Accepted, Refused}
-use Rattle.plan.specs.law.PlanLayout.{stepRow}
+use Rattle.plan.specs.law.PlanLayout.{stepRows}
 use Rattle.plan.specs.law.PlanHead.{headQuestion}
 use Rattle.plan.specs.law.BeforeStep.{pressureAt}
 use Rattle.plan.specs.law.Step.{stepQuestions}
@@ -21,7 +21,7 @@ use Rattle.plan.specs.law.Totals.{totalsOf}
 
 -- the questions of the step with index i of the plan
 unfoldable pub planStep : List ℤ → List ℤ → ℕ → List Question
-planStep case plan i = stepQuestions case (pressureAt case plan i) (stepRow case plan i) i
+planStep case plan i = stepQuestions case (pressureAt case plan i) (stepRows case plan i) i
 
 -- 20 to 33: "Each step from 1 to k"
 unfoldable pub planQuestions : List ℤ → List ℤ → List Question

@@ -5,7 +5,7 @@ use Prim.Native.Nat.{ℕ}
 use lib.IntN.{ℤ, pos, _-ℤ_}
 use Rattle.numbers.specs.law.Sets.{memberOf}
 use Rattle.numbers.specs.law.Sums.{sum, only}
-use Rattle.case.specs.law.Layout.{machinesAt}
+use Rattle.case.specs.law.Layout.{machineCount}
 use Rattle.case.specs.law.Records.{machineRow}
 
 -- a machine's flow Q, if the set names it
@@ -14,7 +14,7 @@ flowPart case offset set m = only (memberOf set m) (machineRow case offset m .fl
 
 -- the sum of their Q
 unfoldable pub machineFlow : List ℤ → ℕ → ℤ → ℤ
-machineFlow case offset set = sum (machinesAt case offset) (flowPart case offset set)
+machineFlow case offset set = sum (machineCount case offset) (flowPart case offset set)
 
 -- what a machine's ratio R is above 1,000, if the set names it
 unfoldable pub gainPart : List ℤ → ℕ → ℤ → ℕ → ℤ
@@ -22,4 +22,4 @@ gainPart case offset set m = only (memberOf set m) (machineRow case offset m .ra
 
 -- the sum of (R - 1,000) over its machines
 unfoldable pub machineGain : List ℤ → ℕ → ℤ → ℤ
-machineGain case offset set = sum (machinesAt case offset) (gainPart case offset set)
+machineGain case offset set = sum (machineCount case offset) (gainPart case offset set)

@@ -30,8 +30,8 @@ unfoldable pub stepAt : List ℤ → ℕ → ℕ
 stepAt case i = planHeadWidth + i * stepWidth case
 
 -- the part of the plan that is the step's
-unfoldable pub stepRow : List ℤ → List ℤ → ℕ → List ℤ
-stepRow case plan i = take (stepWidth case) (drop (stepAt case i) plan)
+unfoldable pub stepRows : List ℤ → List ℤ → ℕ → List ℤ
+stepRows case plan i = take (stepWidth case) (drop (stepAt case i) plan)
 
 -- ---- in the part of one step
 

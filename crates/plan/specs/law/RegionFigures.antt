@@ -6,7 +6,7 @@ use lib.IntN.{ℤ}
 use Rattle.numbers.specs.law.Sets.{countOf}
 use Rattle.numbers.specs.law.Sums.{sum, sumN}
 use Rattle.plan.specs.declared.figures.Figures.{Figures}
-use Rattle.plan.specs.law.PlanLayout.{stepRow}
+use Rattle.plan.specs.law.PlanLayout.{stepRows}
 use Rattle.plan.specs.law.BeforeStep.{pressureAt}
 use Rattle.plan.specs.law.Region.{innerPipes, regionGas, broughtIn}
 use Rattle.plan.specs.law.RegionResidual.{regionResidual}
@@ -17,10 +17,10 @@ gasInside case plan set t = regionGas case set (pressureAt case plan t)
 
 -- what the step with index s + j brings in, and its residual
 unfoldable pub broughtAt : List ℤ → List ℤ → ℤ → ℕ → ℕ → ℤ
-broughtAt case plan set s j = broughtIn case set (stepRow case plan (s + j)) (s + j)
+broughtAt case plan set s j = broughtIn case set (stepRows case plan (s + j)) (s + j)
 
 unfoldable pub residualAt : List ℤ → List ℤ → ℤ → ℕ → ℕ → ℕ
-residualAt case plan set s j = regionResidual case set (pressureAt case plan (s + j)) (stepRow case plan (s + j)) (s + j)
+residualAt case plan set s j = regionResidual case set (pressureAt case plan (s + j)) (stepRows case plan (s + j)) (s + j)
 
 unfoldable pub broughtOver : List ℤ → List ℤ → ℤ → ℕ → ℕ → ℤ
 broughtOver case plan set s t = sum (t - s) (broughtAt case plan set s)

@@ -9,9 +9,9 @@ use Rattle.numbers.specs.law.Sums.{sum, sumN, only, onlyN}
 use Rattle.case.specs.law.Layout.{nodesOf, arcsOf, stationsOf, stepsOf}
 use Rattle.case.specs.law.Records.{arcOf, pipeOf, artificialOf, directionOf, stateOf}
 use Rattle.plan.specs.declared.totals.Totals.{Totals}
-use Rattle.plan.specs.law.PlanLayout.{stepRow}
+use Rattle.plan.specs.law.PlanLayout.{stepRows}
 use Rattle.plan.specs.law.PlanRecords.{nodeRow, activeIn, directionIn, stateIn}
-use Rattle.plan.specs.law.BeforeStep.{pressureAt, activeAt, directionAt, stateAt}
+use Rattle.plan.specs.law.BeforeStep.{pressureAt, activeAt, directionChosen, stateChosen}
 use Rattle.plan.specs.law.Pipes.{isPipe, pipeResidual}
 use Rattle.plan.specs.law.Balance.{nodeResidual}
 
@@ -78,19 +78,19 @@ gasAt case p = sum (arcsOf case) (gasPart case p)
 -- ---- what the step with index i adds
 
 unfoldable pub stepPressureSlack : List ℤ → List ℤ → ℕ → ℤ
-stepPressureSlack case plan i = pressureSlackIn case (stepRow case plan i)
+stepPressureSlack case plan i = pressureSlackIn case (stepRows case plan i)
 
 unfoldable pub stepDemandSlack : List ℤ → List ℤ → ℕ → ℤ
-stepDemandSlack case plan i = demandSlackIn case (stepRow case plan i)
+stepDemandSlack case plan i = demandSlackIn case (stepRows case plan i)
 
 unfoldable pub stepSwitching : List ℤ → List ℤ → ℕ → ℕ
 stepSwitching case plan i =
-    choiceCosts case (directionAt case plan i) (stateAt case plan i) (stepRow case plan i)
-    + activityCosts case (activeAt case plan i) (stepRow case plan i)
+    choiceCosts case (directionChosen case plan i) (stateChosen case plan i) (stepRows case plan i)
+    + activityCosts case (activeAt case plan i) (stepRows case plan i)
 
 unfoldable pub stepResidual : List ℤ → List ℤ → ℕ → ℕ
 stepResidual case plan i =
-    pipeResiduals case (pressureAt case plan i) (stepRow case plan i) i + nodeResiduals case (stepRow case plan i) i
+    pipeResiduals case (pressureAt case plan i) (stepRows case plan i) i + nodeResiduals case (stepRows case plan i) i
 
 -- the totals of the first t steps: the gas at time t is the closing gas
 unfoldable pub totalsTo : List ℤ → List ℤ → ℕ → Totals

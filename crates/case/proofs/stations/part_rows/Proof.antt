@@ -3,7 +3,7 @@ use native.Mathlib.Omega.{arith}
 use borrow.Author.Needs.{needs}
 use denote.Ref.{now}
 use Rattle.numbers.specs.inside.QuestionLaws.{firstNo-append}
-use Rattle.case.specs.law.Layout.{directionsAt, statesAt, machinesAt, directionAt, stateAt, machineAt}
+use Rattle.case.specs.law.Layout.{directionCount, stateCount, machineCount, directionAt, stateAt, machineAt}
 use Rattle.case.specs.law.StationFields.{partFields}
 use Rattle.case.proofs.Asked.{chain}
 use Rattle.case.proofs.Counting.{first-is}
@@ -24,9 +24,9 @@ direction-rows-requires c κs = let s = c .before .before .before in
     let p = s .pre .1 in
     let l = now (s .args .case) in
     let offset = s .args .offset in
-    let d : c .before .before .count .result ≡ directionsAt l offset = first-is offset (c .before .before .count .ensures) in
-    let z : c .before .count2 .result ≡ statesAt l offset = c .before .count2 .ensures .value in
-    let m : c .count3 .result ≡ machinesAt l offset = c .count3 .ensures .value in
+    let d : c .before .before .count .result ≡ directionCount l offset = first-is offset (c .before .before .count .ensures) in
+    let z : c .before .count2 .result ≡ stateCount l offset = c .before .count2 .ensures .value in
+    let m : c .count3 .result ≡ machineCount l offset = c .count3 .ensures .value in
     (s .pre .0, omega arith)
 
 state-rows-requires : tie.Need-state-rows-requires
@@ -34,9 +34,9 @@ state-rows-requires c κs = let s = c .before .before .before .before in
     let p = s .pre .1 in
     let l = now (s .args .case) in
     let offset = s .args .offset in
-    let d : c .before .before .before .count .result ≡ directionsAt l offset = first-is offset (c .before .before .before .count .ensures) in
-    let z : c .before .before .count2 .result ≡ statesAt l offset = c .before .before .count2 .ensures .value in
-    let m : c .before .count3 .result ≡ machinesAt l offset = c .before .count3 .ensures .value in
+    let d : c .before .before .before .count .result ≡ directionCount l offset = first-is offset (c .before .before .before .count .ensures) in
+    let z : c .before .before .count2 .result ≡ stateCount l offset = c .before .before .count2 .ensures .value in
+    let m : c .before .count3 .result ≡ machineCount l offset = c .before .count3 .ensures .value in
     (s .pre .0, omega arith, d, omega arith)
 
 add-machine-rows : tie.Need-add-machine-rows
@@ -47,9 +47,9 @@ mul-machine-rows c = let s = c .before .before .before .before .before in
     let p = s .pre .1 in
     let l = now (s .args .case) in
     let offset = s .args .offset in
-    let d : c .before .before .before .before .count .result ≡ directionsAt l offset = first-is offset (c .before .before .before .before .count .ensures) in
-    let z : c .before .before .before .count2 .result ≡ statesAt l offset = c .before .before .before .count2 .ensures .value in
-    let m : c .before .before .count3 .result ≡ machinesAt l offset = c .before .before .count3 .ensures .value in
+    let d : c .before .before .before .before .count .result ≡ directionCount l offset = first-is offset (c .before .before .before .before .count .ensures) in
+    let z : c .before .before .before .count2 .result ≡ stateCount l offset = c .before .before .before .count2 .ensures .value in
+    let m : c .before .before .count3 .result ≡ machineCount l offset = c .before .before .count3 .ensures .value in
     omega arith
 
 add-machine-rows-2 : tie.Need-add-machine-rows-2
@@ -57,9 +57,9 @@ add-machine-rows-2 c = let s = c .before .before .before .before .before in
     let p = s .pre .1 in
     let l = now (s .args .case) in
     let offset = s .args .offset in
-    let d : c .before .before .before .before .count .result ≡ directionsAt l offset = first-is offset (c .before .before .before .before .count .ensures) in
-    let z : c .before .before .before .count2 .result ≡ statesAt l offset = c .before .before .before .count2 .ensures .value in
-    let m : c .before .before .count3 .result ≡ machinesAt l offset = c .before .before .count3 .ensures .value in
+    let d : c .before .before .before .before .count .result ≡ directionCount l offset = first-is offset (c .before .before .before .before .count .ensures) in
+    let z : c .before .before .before .count2 .result ≡ stateCount l offset = c .before .before .before .count2 .ensures .value in
+    let m : c .before .before .count3 .result ≡ machineCount l offset = c .before .before .count3 .ensures .value in
     omega arith
 
 mul-machine-rows-2 : tie.Need-mul-machine-rows-2
@@ -70,9 +70,9 @@ add-machine-rows-3 c = let s = c .before .before .before .before .before in
     let p = s .pre .1 in
     let l = now (s .args .case) in
     let offset = s .args .offset in
-    let d : c .before .before .before .before .count .result ≡ directionsAt l offset = first-is offset (c .before .before .before .before .count .ensures) in
-    let z : c .before .before .before .count2 .result ≡ statesAt l offset = c .before .before .before .count2 .ensures .value in
-    let m : c .before .before .count3 .result ≡ machinesAt l offset = c .before .before .count3 .ensures .value in
+    let d : c .before .before .before .before .count .result ≡ directionCount l offset = first-is offset (c .before .before .before .before .count .ensures) in
+    let z : c .before .before .before .count2 .result ≡ stateCount l offset = c .before .before .before .count2 .ensures .value in
+    let m : c .before .before .count3 .result ≡ machineCount l offset = c .before .before .count3 .ensures .value in
     omega arith
 
 machine-rows-requires : tie.Need-machine-rows-requires
@@ -81,9 +81,9 @@ machine-rows-requires c κs = let s = c .before .before .before .before .before 
     let p = s .pre .1 in
     let l = now (s .args .case) in
     let offset = s .args .offset in
-    let d : c .before .before .before .before .count .result ≡ directionsAt l offset = first-is offset (c .before .before .before .before .count .ensures) in
-    let z : c .before .before .before .count2 .result ≡ statesAt l offset = c .before .before .before .count2 .ensures .value in
-    let m : c .before .before .count3 .result ≡ machinesAt l offset = c .before .before .count3 .ensures .value in
+    let d : c .before .before .before .before .count .result ≡ directionCount l offset = first-is offset (c .before .before .before .before .count .ensures) in
+    let z : c .before .before .before .count2 .result ≡ stateCount l offset = c .before .before .before .count2 .ensures .value in
+    let m : c .before .before .count3 .result ≡ machineCount l offset = c .before .before .count3 .ensures .value in
     (omega arith, omega arith, omega arith)
 
 or-else-requires : tie.Need-or-else-requires
@@ -98,9 +98,9 @@ returns c = let s = c .before .before .before .before .before .before .before .b
     let p = s .pre .1 in
     let l = now (s .args .case) in
     let offset = s .args .offset in
-    let d : c .before .before .before .before .before .before .before .count .result ≡ directionsAt l offset = first-is offset (c .before .before .before .before .before .before .before .count .ensures) in
-    let z : c .before .before .before .before .before .before .count2 .result ≡ statesAt l offset = c .before .before .before .before .before .before .count2 .ensures .value in
-    let m : c .before .before .before .before .before .count3 .result ≡ machinesAt l offset = c .before .before .before .before .before .count3 .ensures .value in
+    let d : c .before .before .before .before .before .before .before .count .result ≡ directionCount l offset = first-is offset (c .before .before .before .before .before .before .before .count .ensures) in
+    let z : c .before .before .before .before .before .before .count2 .result ≡ stateCount l offset = c .before .before .before .before .before .before .count2 .ensures .value in
+    let m : c .before .before .before .before .before .count3 .result ≡ machineCount l offset = c .before .before .before .before .before .count3 .ensures .value in
     simp firstNo-append
     (chain (c .or-else2 .ensures) (simp d at (c .before .before .before .before .direction-rows .ensures))
     (chain (c .before .or-else .ensures) (simp z at (c .before .before .before .state-rows .ensures)) (simp m at (c .before .before .machine-rows .ensures))))

@@ -8,7 +8,7 @@ use mir.Val.{toZ, ofZ}
 use Rattle.numbers.specs.law.Items.{over}
 use Rattle.numbers.specs.inside.ItemLaws.{rest, rest-on, rest-no, rest-end}
 use Rattle.numbers.specs.law.Question.{firstNo}
-use Rattle.case.specs.law.Layout.{directionsAt}
+use Rattle.case.specs.law.Layout.{directionCount}
 use Rattle.case.specs.law.StationFields.{stateFields, firstItems}
 use Rattle.numbers.specs.inside.SignedLocals.{kept}
 use Rattle.case.proofs.Rows.{state-row}
@@ -60,7 +60,7 @@ returns c = let b = c .before .before in
     let a = s .args in
     let l = now (a .case) in
     let q : b .state-fields .result ≡ firstNo (stateFields l (a .offset) (h .loop .z)) =
-    let y : toZ w64 (ofZ w64 (h .before .first-items .result)) ≡ firstItems (directionsAt l (a .offset)) = kept _ (h .before .first-items .ok) ∙ h .before .first-items .ensures ∙ ap firstItems (s .pre .2) in
+    let y : toZ w64 (ofZ w64 (h .before .first-items .result)) ≡ firstItems (directionCount l (a .offset)) = kept _ (h .before .first-items .ok) ∙ h .before .first-items .ensures ∙ ap firstItems (s .pre .2) in
     rw (← state-row l (a .offset) (h .loop .z) (s .pre .2), ← y) (b .state-fields .ensures) in
     sym (rest-no (stateFields l (a .offset)) (h .loop .z) (a .states) (h .loop .inv .1) (t .loop-test .taken) q (c .enum-told2 .given .1))
 
@@ -79,7 +79,7 @@ loop-again c = let b = c .before .before in
     let a = s .args in
     let l = now (a .case) in
     let q : b .state-fields .result ≡ firstNo (stateFields l (a .offset) (h .loop .z)) =
-    let y : toZ w64 (ofZ w64 (h .before .first-items .result)) ≡ firstItems (directionsAt l (a .offset)) = kept _ (h .before .first-items .ok) ∙ h .before .first-items .ensures ∙ ap firstItems (s .pre .2) in
+    let y : toZ w64 (ofZ w64 (h .before .first-items .result)) ≡ firstItems (directionCount l (a .offset)) = kept _ (h .before .first-items .ok) ∙ h .before .first-items .ensures ∙ ap firstItems (s .pre .2) in
     rw (← state-row l (a .offset) (h .loop .z) (s .pre .2), ← y) (b .state-fields .ensures) in
     (omega arith, rest-on (stateFields l (a .offset)) (h .loop .z) (a .states) (h .loop .inv .1) (t .loop-test .taken) q (c .enum-told .given .1))
 

@@ -5,7 +5,7 @@ use mir.Syntax.{w64}
 use mir.Val.{toZ, ofZ}
 use Rattle.numbers.specs.inside.QuestionLaws.{firstNo-append}
 use Rattle.case.specs.law.Field.{lastOf}
-use Rattle.case.specs.law.Layout.{directionsAt, statesAt}
+use Rattle.case.specs.law.Layout.{directionCount, stateCount}
 use Rattle.case.specs.law.StationFields.{stationHead}
 use Rattle.case.proofs.Asked.{chain}
 use Rattle.case.proofs.Counting.{first-is}
@@ -69,8 +69,8 @@ unfolding stationHead
 returns c = let u = c .before .before .before .before .before .before .before .before .before in
     let t = u .before .before in
     let s = t .before .before in
-    let e : toZ w64 (ofZ w64 (t .last .result)) ≡ lastOf (directionsAt (now (s .args .case)) (s .args .offset)) = kept _ (t .last .ok) ∙ t .last .ensures ∙ ap lastOf (first-is (s .args .offset) (t .before .count .ensures)) in
-    let d : toZ w64 (ofZ w64 (u .last2 .result)) ≡ lastOf (statesAt (now (s .args .case)) (s .args .offset)) = kept _ (u .last2 .ok) ∙ u .last2 .ensures ∙ ap lastOf (u .before .count2 .ensures .value) in
+    let e : toZ w64 (ofZ w64 (t .last .result)) ≡ lastOf (directionCount (now (s .args .case)) (s .args .offset)) = kept _ (t .last .ok) ∙ t .last .ensures ∙ ap lastOf (first-is (s .args .offset) (t .before .count .ensures)) in
+    let d : toZ w64 (ofZ w64 (u .last2 .result)) ≡ lastOf (stateCount (now (s .args .case)) (s .args .offset)) = kept _ (u .last2 .ok) ∙ u .last2 .ensures ∙ ap lastOf (u .before .count2 .ensures .value) in
     simp firstNo-append
     (chain (c .or-else4 .ensures) (c .before .before .before .before .before .before .before .before .field .ensures)
     (chain (c .before .or-else3 .ensures) (c .before .before .before .before .before .before .before .field2 .ensures)

@@ -12,7 +12,7 @@ use Rattle.numbers.specs.law.Sums.{sum}
 use Rattle.numbers.specs.inside.SumLaws.{abs-only-le}
 use Rattle.numbers.specs.law.Sets.{memberOf}
 use Rattle.case.specs.declared.records.Station.{Station}
-use Rattle.case.specs.law.Layout.{machinesAt}
+use Rattle.case.specs.law.Layout.{machineCount}
 use Rattle.numbers.specs.inside.SignedLocals.{kept}
 use Rattle.plan.proofs.Adding.{Adding, start, fits, turn, end, got}
 use Rattle.plan.specs.law.Machines.{flowPart, machineFlow}
@@ -42,7 +42,7 @@ add-sum c =
     let s = h .before .before in
     let i = h .loop .m in
     let p = g .before .loop-test .taken in
-    let q : i < machinesAt (now (s .args .case)) (s .args .offset) = omega (arith, p, ap (λ (y : Station). y .machines) (h .before .station .ensures)) in
+    let q : i < machineCount (now (s .args .case)) (s .args .offset) = omega (arith, p, ap (λ (y : Station). y .machines) (h .before .station .ensures)) in
     let k = got (g .flow-part .ensures) (record { bound = abs-only-le (memberOf (toZ w64 (ofZ w64 (s .args .set))) i) _ (s .pre .flow i q .bound) }) tt in
     fits (h .loop .inv .1) k p (omega (arith, h .loop .inv .0))
 
@@ -60,7 +60,7 @@ loop-again c =
     let s = h .before .before in
     let i = h .loop .m in
     let p = g .before .loop-test .taken in
-    let q : i < machinesAt (now (s .args .case)) (s .args .offset) = omega (arith, p, ap (λ (y : Station). y .machines) (h .before .station .ensures)) in
+    let q : i < machineCount (now (s .args .case)) (s .args .offset) = omega (arith, p, ap (λ (y : Station). y .machines) (h .before .station .ensures)) in
     let k = got (g .flow-part .ensures) (record { bound = abs-only-le (memberOf (toZ w64 (ofZ w64 (s .args .set))) i) _ (s .pre .flow i q .bound) }) tt in
     (h .loop .inv .0, turn (h .loop .inv .1) refl k p (omega (arith, h .loop .inv .0)))
 
@@ -73,7 +73,7 @@ returns c =
     kept _ (c .struct-told2 .given .0 .1)
     ∙ end (h .loop .inv .1) (c .before .loop-test .left)
     ∙ ap (λ (n : ℕ). sum n (flowPart l (s .args .offset) (toZ w64 (ofZ w64 (s .args .set))))) (ap (λ (y : Station). y .machines) (h .before .station .ensures))
-    ∙ ap (λ (y : ℤ). sum (machinesAt l (s .args .offset)) (flowPart l (s .args .offset) y)) (toZ-ofZ (s .fits .set))
+    ∙ ap (λ (y : ℤ). sum (machineCount l (s .args .offset)) (flowPart l (s .args .offset) y)) (toZ-ofZ (s .fits .set))
 
 pub machine-flow-spec : {M : Type 1} → statement M
 machine-flow-spec =

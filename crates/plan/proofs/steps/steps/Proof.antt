@@ -11,7 +11,7 @@ use Rattle.numbers.specs.law.Question.{firstNo}
 use Rattle.numbers.specs.declared.answer.Answer.the-variants.{Yes}
 use Rattle.case.specs.law.Layout.{numberAt, stepsOf}
 use Rattle.plan.specs.inside.Preconditions.{AtStep}
-use Rattle.plan.specs.law.PlanLayout.{stepAt, stepWidth, stepRow}
+use Rattle.plan.specs.law.PlanLayout.{stepAt, stepWidth, stepRows}
 use Rattle.plan.specs.inside.CaseSizes.{counted}
 use Rattle.plan.specs.law.Step.{stepQuestions}
 use Rattle.plan.specs.inside.StepAnswer.{kept-yes, no-first}
@@ -36,7 +36,7 @@ width : (w : tie.After-step-width Inv-loop μ-loop) → w .step-width .result �
 width w = width-is (w .before .pre .1) (w .step-width .ensures)
 
 row-is : (p : tie.After-part-of Inv-loop μ-loop) → let s = p .before .before .before .before .before .before in
-    now (p .part-of .result) ≡ stepRow (now (s .args .case)) (now (s .args .plan)) (p .before .before .loop .i)
+    now (p .part-of .result) ≡ stepRows (now (s .args .case)) (now (s .args .plan)) (p .before .before .loop .i)
 row-is p =
     let l = p .before .before in
     let w = l .before .before .before in
