@@ -10,6 +10,7 @@ pub mod damage;
 pub mod generate;
 pub mod model;
 pub mod rng;
+pub mod rounding;
 pub mod slips;
 pub mod table_t;
 

@@ -5,6 +5,8 @@ use std::ops::RangeInclusive;
 pub const MOST_FLOW: i64 = 10_000_000;
 pub const MOST_PRESSURE: i64 = 200_000;
 pub const MOST_WEIGHT: i64 = 1_000_000;
+pub const MOST_MASS_TOLERANCE: i64 = 1_000_000;
+pub const MOST_PRESSURE_TOLERANCE: i64 = 1_000;
 
 pub const INNER: i64 = 0;
 pub const SOURCE: i64 = 1;
@@ -179,8 +181,8 @@ impl Case {
         fields.put("A", self.arcs.len() as i64, 0..=120);
         fields.put("S", self.stations.len() as i64, 0..=8);
         fields.put("k", self.times.len() as i64, 1..=48);
-        fields.put("E", self.mass_tolerance, 0..=1_000_000);
-        fields.put("H", self.pressure_tolerance, 0..=1_000);
+        fields.put("E", self.mass_tolerance, 0..=MOST_MASS_TOLERANCE);
+        fields.put("H", self.pressure_tolerance, 0..=MOST_PRESSURE_TOLERANCE);
         let mut before = 0;
         for &time in &self.times {
             fields.put("time", time, before + 1..=before + 86_400);
