@@ -57,7 +57,7 @@ fn hex(list: &[i64]) -> String {
 }
 
 /// The program's line for a reply on two lists.
-fn verdict(reply: &Reply) -> String {
+pub(crate) fn verdict(reply: &Reply) -> String {
     let words = |numbers: &[i64]| {
         let texts: Vec<String> = numbers.iter().map(i64::to_string).collect();
         texts.join(" ")

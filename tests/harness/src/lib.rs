@@ -11,6 +11,7 @@ pub mod demand_3;
 pub mod document;
 pub mod files;
 pub mod lent;
+pub mod optimisers;
 pub mod rounds;
 pub mod tally;
 

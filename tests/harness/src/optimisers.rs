@@ -1,0 +1,232 @@
+//! docs/OPTIMISERS.md: its example, line by line, and its bounds on plans from seeds.
+
+use std::fs;
+use std::path::Path;
+
+use inputs::aimed::sides::{left_28, left_29, left_33};
+use inputs::model::{C, MOST_MASS_TOLERANCE, PIPE};
+use inputs::rounding::bounds::{Rounded, twice_covered};
+use inputs::rounding::errors::off_by_one;
+use inputs::rounding::example::{
+    AT_THE_REACH, MASS_TOLERANCE, PRESSURE_TOLERANCE, Solution, UNIT, WITH_A_MBAR_LEFT, hide_slack,
+    judged,
+};
+use inputs::{Pair, Rng, generate};
+
+use crate::beside::{Beside, Difference};
+use crate::document::verdict;
+
+const PAGE: &str = "../../docs/OPTIMISERS.md";
+const SECTION: &str = "\n## An example\n";
+
+/// The lines that the page's example shows.
+///
+/// # Errors
+/// Where the page or its section cannot be found.
+pub fn lines_of_page() -> Result<Vec<String>, String> {
+    let path = Path::new(env!("CARGO_MANIFEST_DIR")).join(PAGE);
+    let page = fs::read_to_string(&path).map_err(|why| format!("{}: {why}", path.display()))?;
+    let (_, section) = page.split_once(SECTION).ok_or("the example is missing")?;
+    let section = section.split("\n## ").next().unwrap_or_default();
+    let shown = section.lines().filter_map(|line| line.strip_prefix("    "));
+    Ok(shown.map(str::to_string).collect())
+}
+
+/// The lines that the example has to show.
+pub fn lines_of_example(beside: &mut Beside) -> Result<Vec<String>, Difference> {
+    let pair = judged(&WITH_A_MBAR_LEFT);
+    let mut lines = rows_of_case(&pair);
+    lines.extend(numbers(&WITH_A_MBAR_LEFT, &pair));
+    lines.push(largest_left_sides(&pair));
+    lines.push(stored(&pair));
+    lines.push(reached());
+    lines.extend(verdicts(beside, &pair)?);
+    Ok(lines)
+}
+
+/// The case list, row by row.
+fn rows_of_case(pair: &Pair) -> Vec<String> {
+    let list = pair.case.list();
+    let mut rest = list.iter().map(i64::to_string);
+    let names = [
+        ("head", 7),
+        ("times", 2),
+        ("node 0", 8),
+        ("node 1", 8),
+        ("node 2", 8),
+        ("node 3", 8),
+        ("arc 0", 11),
+        ("arc 1", 11),
+        ("arc 2", 11),
+        ("station", 5),
+        ("direction", 3),
+        ("state", 4),
+        ("machine", 2),
+    ];
+    let row = |(name, width): (&str, usize)| {
+        let numbers: Vec<String> = rest.by_ref().take(width).collect();
+        format!("{name:<11}{}", numbers.join(" "))
+    };
+    let mut lines: Vec<String> = names.into_iter().map(row).collect();
+    lines.extend(rest);
+    lines
+}
+
+/// Each number of the solution, and the whole one of the plan, in both steps.
+fn numbers(solution: &Solution, pair: &Pair) -> Vec<String> {
+    let line = |name: String, exact: [i64; 2], whole: [i64; 2]| {
+        let pairs = exact.into_iter().zip(whole);
+        let texts = pairs.map(|(exact, whole)| format!("{:>12}{whole:>7}", decimal(exact)));
+        format!("{name:<21}{}", texts.collect::<String>())
+    };
+    let mut lines: Vec<String> = (0..pair.case.nodes.len())
+        .map(|node| {
+            let exact = [0, 1].map(|step| solution.pressures[step][node]);
+            let whole = [1, 2].map(|step| pair.node(step, node).p);
+            line(format!("p of node {node}"), exact, whole)
+        })
+        .collect();
+    let arc = |arc: usize| [1, 2].map(|step| pair.arc(step, arc));
+    lines.push(line(
+        "into pipe 0".to_string(),
+        solution.supplied,
+        arc(0).map(|row| row.a),
+    ));
+    lines.push(line(
+        "through arc 1".to_string(),
+        solution.passed,
+        arc(1).map(|row| row.a),
+    ));
+    lines.push(line(
+        "out of pipe 2".to_string(),
+        solution.delivered,
+        arc(2).map(|row| row.b),
+    ));
+    let demands = &pair.case.nodes[3].demands;
+    let short = [0, 1].map(|step| -UNIT * demands[step] - solution.delivered[step]);
+    let slack = [1, 2].map(|step| pair.node(step, 3).s_minus);
+    lines.push(line("s- of node 3".to_string(), short, slack));
+    lines
+}
+
+fn decimal(thousandths: i64) -> String {
+    format!("{}.{:03}", thousandths / UNIT, thousandths % UNIT)
+}
+
+fn largest_left_sides(pair: &Pair) -> String {
+    let steps = 1..=pair.steps();
+    let pipes = (0..pair.case.arcs.len()).filter(|&arc| pair.case.arcs[arc].kind == PIPE);
+    let at_pipes: Vec<(usize, usize)> = pipes
+        .flat_map(|arc| steps.clone().map(move |step| (step, arc)))
+        .collect();
+    let stored = at_pipes.iter().map(|&(step, arc)| left_28(pair, step, arc));
+    let drops = at_pipes.iter().map(|&(step, arc)| left_29(pair, step, arc));
+    let nodes = 0..pair.case.nodes.len();
+    let balances = nodes.flat_map(|node| steps.clone().map(move |step| left_33(pair, step, node)));
+    let largest = |sides: &mut dyn Iterator<Item = i64>| sides.map(i64::abs).max().unwrap_or(0);
+    format!(
+        "largest left sides: 28 {} g, 29 {} millionths of a mbar, 33 {} g",
+        largest(&mut stored.into_iter()),
+        largest(&mut drops.into_iter()),
+        largest(&mut balances.into_iter()),
+    )
+}
+
+/// 28 at pipe 0 in step 2, written out.
+fn stored(pair: &Pair) -> String {
+    let row = pair.arc(2, 0);
+    let sum = |step: usize| pair.pressure(step, 0) + pair.pressure(step, 1);
+    let (dt, c) = (pair.case.span(2), pair.case.arcs[0].more[C]);
+    let left = left_28(pair, 2, 0);
+    let (now, before) = (sum(2), sum(1));
+    format!(
+        "28 at pipe 0 in step 2: {dt} × ({} - {}) - {c} × ({now} - {before}) = {left}",
+        row.a, row.b
+    )
+}
+
+/// 26 at the station in step 1, where nothing was left.
+fn reached() -> String {
+    let pair = judged(&AT_THE_REACH);
+    let exact = decimal(AT_THE_REACH.pressures[0][2]);
+    let out = pair.node(1, 2).p;
+    let (p0, ratio) = (pair.case.nodes[1].p0, pair.case.stations[0].machines[0][1]);
+    let (left, right) = (UNIT * out, p0 * ratio);
+    format!("26 at arc 1 in step 1, at the reach: {exact} becomes {out}, and {left} > {right}")
+}
+
+fn verdicts(beside: &mut Beside, pair: &Pair) -> Result<Vec<String>, Difference> {
+    let largest = left_28(pair, 2, 0).abs();
+    let mut hidden = pair.clone();
+    hide_slack(&mut hidden);
+    let at_the_reach = judged(&AT_THE_REACH);
+    let cases = [
+        ("rounded", pair, MASS_TOLERANCE, PRESSURE_TOLERANCE),
+        ("rounded", pair, largest, 1),
+        ("rounded", pair, largest - 1, 1),
+        ("rounded", pair, largest, 0),
+        (
+            "at the reach",
+            &at_the_reach,
+            MASS_TOLERANCE,
+            PRESSURE_TOLERANCE,
+        ),
+        ("slack hidden", &hidden, MASS_TOLERANCE, PRESSURE_TOLERANCE),
+        (
+            "slack hidden",
+            &hidden,
+            MOST_MASS_TOLERANCE,
+            PRESSURE_TOLERANCE,
+        ),
+    ];
+    let mut lines = Vec::new();
+    for (name, pair, mass, pressure) in cases {
+        let (case, plan) = lists(pair, mass, pressure);
+        let reply = beside.plan(&case, &plan)?;
+        let name = format!("{name}, E {mass}, H {pressure}:");
+        lines.push(format!("{name:<31}{}", verdict(&reply)));
+    }
+    for (name, pair) in [("rounded", pair), ("slack hidden", &hidden)] {
+        lines.push(ledger(beside, name, pair)?);
+    }
+    Ok(lines)
+}
+
+fn lists(pair: &Pair, mass: i64, pressure: i64) -> (Vec<i64>, Vec<i64>) {
+    let mut case = pair.case.clone();
+    (case.mass_tolerance, case.pressure_tolerance) = (mass, pressure);
+    (case.list(), pair.plan.list())
+}
+
+/// The ledger of all nodes over all steps.
+fn ledger(beside: &mut Beside, name: &str, pair: &Pair) -> Result<String, Difference> {
+    let (case, plan) = lists(pair, MOST_MASS_TOLERANCE, PRESSURE_TOLERANCE);
+    let all = (1 << pair.case.nodes.len()) - 1;
+    let reply = beside.ledger([&case, &plan], all, 0, pair.steps() as i64)?;
+    let (more, brought_in) = (reply.out[3] - reply.out[2], reply.out[4]);
+    Ok(format!(
+        "ledger, {name}: {more} g more in the pipes, {brought_in} g brought in, {} g from nowhere",
+        more - brought_in
+    ))
+}
+
+/// An accepted plan from a seed, with each number off by 1 or by nothing, is accepted once E and H are raised by
+/// twice what rounding can add. Gives what was rounded, or none where no case has such an E and H.
+pub fn round(beside: &mut Beside, seed: u64) -> Result<Option<Rounded>, Difference> {
+    beside.begin(seed);
+    let mut rng = Rng::new(seed);
+    let pair = generate::accepted(&mut rng);
+    let ways = [Rounded::FlowsAndPressures, Rounded::Flows];
+    let covered = |&rounded: &Rounded| Some((rounded, twice_covered(&pair, rounded)?));
+    let Some((rounded, (mass, pressure))) = ways.iter().find_map(covered) else {
+        return Ok(None);
+    };
+    let mut off = off_by_one(&mut rng, &pair, rounded);
+    (off.case.mass_tolerance, off.case.pressure_tolerance) = (mass, pressure);
+    let reply = beside.plan(&off.case.list(), &off.plan.list())?;
+    if reply.answer != 0 {
+        let text = format!("seed {seed}, E {mass}, H {pressure}: {}", verdict(&reply));
+        return Err(Difference { text });
+    }
+    Ok(Some(rounded))
+}
