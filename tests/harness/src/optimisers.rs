@@ -1,6 +1,7 @@
 //! docs/OPTIMISERS.md: its example, line by line, and its bounds on plans from seeds.
 
 use std::fs;
+use std::ops::Range;
 use std::path::Path;
 
 use inputs::aimed::sides::{left_28, left_29, left_33};
@@ -210,9 +211,15 @@ fn ledger(beside: &mut Beside, name: &str, pair: &Pair) -> Result<String, Differ
     ))
 }
 
+/// What was rounded in a plan from a seed, and the number that refused it as long as E and H were not raised, or 0.
+pub struct Judged {
+    pub rounded: Rounded,
+    pub without: i64,
+}
+
 /// An accepted plan from a seed, with each number off by 1 or by nothing, is accepted once E and H are raised by
-/// twice what rounding can add. Gives what was rounded, or none where no case has such an E and H.
-pub fn round(beside: &mut Beside, seed: u64) -> Result<Option<Rounded>, Difference> {
+/// twice what rounding can add. None where no case has such an E and H.
+pub fn round(beside: &mut Beside, seed: u64) -> Result<Option<Judged>, Difference> {
     beside.begin(seed);
     let mut rng = Rng::new(seed);
     let pair = generate::accepted(&mut rng);
@@ -221,12 +228,49 @@ pub fn round(beside: &mut Beside, seed: u64) -> Result<Option<Rounded>, Differen
     let Some((rounded, (mass, pressure))) = ways.iter().find_map(covered) else {
         return Ok(None);
     };
-    let mut off = off_by_one(&mut rng, &pair, rounded);
-    (off.case.mass_tolerance, off.case.pressure_tolerance) = (mass, pressure);
-    let reply = beside.plan(&off.case.list(), &off.plan.list())?;
+    let off = off_by_one(&mut rng, &pair, rounded);
+    let (case, plan) = lists(&off, mass, pressure);
+    let reply = beside.plan(&case, &plan)?;
     if reply.answer != 0 {
         let text = format!("seed {seed}, E {mass}, H {pressure}: {}", verdict(&reply));
         return Err(Difference { text });
     }
-    Ok(Some(rounded))
+    let (mass, pressure) = twice_covered(&pair, Rounded::Nothing).unwrap_or_default();
+    let (case, plan) = lists(&off, mass, pressure);
+    let without = beside.plan(&case, &plan)?.answer;
+    Ok(Some(Judged { rounded, without }))
+}
+
+/// How often each came, over plans from these seeds.
+#[derive(Debug, Default)]
+pub struct Counts {
+    pub with_pressures: u64,
+    pub flows_alone: u64,
+    /// Refused by 28, 29 and 33 before E and H were raised.
+    pub refused: [u64; 3],
+}
+
+/// Many rounds; before E and H are raised only 28, 29 and 33 may refuse.
+pub fn rounds(beside: &mut Beside, seeds: Range<u64>) -> Result<Counts, Difference> {
+    let mut counts = Counts::default();
+    for seed in seeds {
+        let Some(judged) = round(beside, seed)? else {
+            continue;
+        };
+        match judged.rounded {
+            Rounded::FlowsAndPressures => counts.with_pressures += 1,
+            _ => counts.flows_alone += 1,
+        }
+        match judged.without {
+            0 => {}
+            28 => counts.refused[0] += 1,
+            29 => counts.refused[1] += 1,
+            33 => counts.refused[2] += 1,
+            other => {
+                let text = format!("seed {seed}: rounding made {other} refuse");
+                return Err(Difference { text });
+            }
+        }
+    }
+    Ok(counts)
 }

@@ -1,37 +1,26 @@
 //! docs/OPTIMISERS.md, on the second checker alone.
 
 use harness::{Beside, Judge, optimisers};
-use inputs::rounding::bounds::Rounded;
 
-/// Enough for some hundred pairs of each kind.
-const PAIRS: u64 = 4_000;
+const SEEDS: u64 = 4_000;
+
+/// Each thing has to come this often.
+const LEAST: u64 = 200;
 
 #[test]
 fn the_page_shows_what_the_example_gives() {
     let lines = optimisers::lines_of_example(&mut Beside::new(Judge::default()));
-    let lines = lines.expect("the second checker is alone");
-    assert_eq!(
-        optimisers::lines_of_page(),
-        Ok(lines.clone()),
-        "{}",
-        lines.join("\n")
-    );
+    let lines = lines.expect("there is no judge to differ");
+    let shown = lines.join("\n");
+    assert_eq!(optimisers::lines_of_page(), Ok(lines), "{shown}");
 }
 
 #[test]
 fn errors_of_rounding_stay_within_the_bounds() {
     let mut beside = Beside::new(Judge::default());
-    let (mut all, mut flows) = (0, 0);
-    for seed in 0..PAIRS {
-        match optimisers::round(&mut beside, seed) {
-            Ok(Some(Rounded::FlowsAndPressures)) => all += 1,
-            Ok(Some(Rounded::Flows)) => flows += 1,
-            Ok(None) => {}
-            Err(difference) => panic!("{difference}"),
-        }
-    }
-    assert!(
-        all > 300 && flows > 300,
-        "{all} with pressures, {flows} without"
-    );
+    let counts = optimisers::rounds(&mut beside, 0..SEEDS);
+    let counts = counts.unwrap_or_else(|difference| panic!("{difference}"));
+    let kinds = [counts.with_pressures, counts.flows_alone];
+    let all = kinds.into_iter().chain(counts.refused);
+    assert!(all.min() >= Some(LEAST), "{counts:?}");
 }

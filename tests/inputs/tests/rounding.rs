@@ -77,7 +77,7 @@ fn every_bound_is_reached() {
         for node in 0..pair.case.nodes.len() {
             let mut off = pair.clone();
             lean_33(&mut off, step, node);
-            let most = left_33(&pair, step, node).abs() + twice_33(&pair, step, node);
+            let most = left_33(&pair, step, node).abs() + twice_33(&pair, step, node, ALL);
             assert_eq!(left_33(&off, step, node).abs(), most, "33: {seed} {node}");
             nodes += 1;
         }

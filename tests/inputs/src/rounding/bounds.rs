@@ -16,30 +16,36 @@ const MILLION: i64 = 1_000_000;
 pub enum Rounded {
     FlowsAndPressures,
     Flows,
+    Nothing,
+}
+
+impl Rounded {
+    /// 1 or 0, for flows and for pressures.
+    fn parts(self) -> [i64; 2] {
+        match self {
+            Rounded::FlowsAndPressures => [1, 1],
+            Rounded::Flows => [1, 0],
+            Rounded::Nothing => [0, 0],
+        }
+    }
 }
 
 /// a and b over the step, and the pressures of both ends, now and before; p0 is whole.
 pub fn twice_28(case: &Case, step: usize, arc: usize, rounded: Rounded) -> i64 {
-    let pressures = match (rounded, step) {
-        (Rounded::Flows, _) => 0,
-        (Rounded::FlowsAndPressures, 1) => 2,
-        (Rounded::FlowsAndPressures, _) => 4,
-    };
-    2 * case.span(step) + pressures * case.arcs[arc].more[C]
+    let [flows, pressures] = rounded.parts();
+    let times = if step == 1 { 1 } else { 2 };
+    flows * 2 * case.span(step) + pressures * 2 * times * case.arcs[arc].more[C]
 }
 
 /// f of a, g of b, and 1,000,000 + h of to with 1,000,000 - h of from, which is 2,000,000 whatever h is.
 pub fn twice_29(case: &Case, arc: usize, rounded: Rounded) -> i64 {
     let more = case.arcs[arc].more;
-    let pressures = match rounded {
-        Rounded::Flows => 0,
-        Rounded::FlowsAndPressures => 2 * MILLION,
-    };
-    pressures + more[F] + more[G]
+    let [flows, pressures] = rounded.parts();
+    flows * (more[F] + more[G]) + pressures * 2 * MILLION
 }
 
 /// Each rounded number of the node's balance, over the step.
-pub fn twice_33(pair: &Pair, step: usize, node: usize) -> i64 {
+pub fn twice_33(pair: &Pair, step: usize, node: usize, rounded: Rounded) -> i64 {
     let ends = pair.case.arcs.iter().enumerate().map(|(index, arc)| {
         let [a, b] = flows(pair, step, index).map(i64::from);
         match (arc.from == node, arc.to == node, arc.kind == PIPE) {
@@ -50,7 +56,8 @@ pub fn twice_33(pair: &Pair, step: usize, node: usize) -> i64 {
         }
     });
     let boundary = i64::from(is_short(pair, step, node));
-    pair.case.span(step) * (ends.sum::<i64>() + boundary)
+    let [flows, _] = rounded.parts();
+    flows * pair.case.span(step) * (ends.sum::<i64>() + boundary)
 }
 
 /// Can the arc's a and b be other than 0, under 24 and 25?
@@ -82,7 +89,7 @@ pub fn twice_covered(pair: &Pair, rounded: Rounded) -> Option<(i64, i64)> {
         }
         for node in 0..pair.case.nodes.len() {
             let balance = left_33(pair, step, node).abs();
-            mass = mass.max(balance + twice_33(pair, step, node));
+            mass = mass.max(balance + twice_33(pair, step, node, rounded));
         }
     }
     let pressure = (pressure + MILLION - 1) / MILLION;
