@@ -136,13 +136,6 @@ fn case(unit: i64) -> Case {
         acthigh: 65_000 * unit,
         demands: demands.map(|demand| demand * unit).to_vec(),
     };
-    let pipe = |from: usize, c: i64| {
-        let mut more = [0; 7];
-        (more[C], more[F], more[G]) = (c, FRICTION, FRICTION);
-        arc(PIPE, from, more)
-    };
-    let mut machinery = [0; 7];
-    (machinery[ACTIVE], machinery[MACHINES], machinery[MOST]) = (1, 1, 1);
     Case {
         mass_tolerance: MASS_TOLERANCE,
         pressure_tolerance: PRESSURE_TOLERANCE,
@@ -153,11 +146,7 @@ fn case(unit: i64) -> Case {
             node(INNER, 54_678, [0, 0]),
             node(SINK, 53_477, [-30_000, -31_200]),
         ],
-        arcs: vec![
-            pipe(0, STORAGES[0]),
-            arc(COMPRESSOR, 1, machinery),
-            pipe(2, STORAGES[1]),
-        ],
+        arcs: vec![pipe(0, STORAGES[0]), compressor(1), pipe(2, STORAGES[1])],
         stations: vec![Station {
             directions: vec![[1 << 1, 1 << 2, 0]],
             states: vec![[1, 1, 0, 0]],
@@ -165,6 +154,18 @@ fn case(unit: i64) -> Case {
             ..Station::default()
         }],
     }
+}
+
+fn pipe(from: usize, c: i64) -> Arc {
+    let mut more = [0; 7];
+    (more[C], more[F], more[G]) = (c, FRICTION, FRICTION);
+    arc(PIPE, from, more)
+}
+
+fn compressor(from: usize) -> Arc {
+    let mut more = [0; 7];
+    (more[ACTIVE], more[MACHINES], more[MOST]) = (1, 1, 1);
+    arc(COMPRESSOR, from, more)
 }
 
 /// From a node to the one after it.
