@@ -55,7 +55,10 @@ pub fn judge(folder: &Path, limits: Limits) -> Finding {
 }
 
 fn try_judge(folder: &Path, limits: Limits) -> Result<Finding, String> {
-    enter(folder)?;
+    if folder.as_os_str().is_empty() {
+        // Joined with a file's name it would be this process's own folder.
+        return Err("no such folder: an empty name".to_string());
+    }
     let mut notes = Vec::new();
     let mut take = |name, most| take(folder, name, most, limits, &mut notes);
     let case = take("case.bin", program::CASE_BYTES)?;
@@ -70,7 +73,7 @@ fn try_judge(folder: &Path, limits: Limits) -> Result<Finding, String> {
     })
 }
 
-/// An empty name would be this process's own folder.
+/// Is it a folder? Asked where a file of it is not found.
 fn enter(folder: &Path) -> Result<(), String> {
     match fs::metadata(folder) {
         Ok(found) if found.is_dir() => Ok(()),
@@ -89,24 +92,22 @@ fn take(
     notes: &mut Vec<String>,
 ) -> Result<Vec<u8>, String> {
     let path = folder.join(name);
-    let found = match fs::metadata(&path) {
-        Ok(found) => found,
+    let unreadable = |error| format!("{name} cannot be read: {error}");
+    let length = match fs::metadata(&path) {
+        Ok(found) if found.is_file() => usize::try_from(found.len()).unwrap_or(usize::MAX),
+        Ok(_) => return Err(format!("{name} is not a file")),
         // A link that leads nowhere is no missing file.
         Err(error) if error.kind() == ErrorKind::NotFound && path.symlink_metadata().is_err() => {
+            enter(folder)?;
             notes.push(format!("{name} is missing and counts as empty"));
             return Ok(Vec::new());
         }
-        Err(error) => return Err(format!("{name} cannot be read: {error}")),
+        Err(error) => return Err(enter(folder).err().unwrap_or_else(|| unreadable(error))),
     };
-    if !found.is_file() {
-        return Err(format!("{name} is not a file"));
-    }
-    let length = usize::try_from(found.len()).unwrap_or(usize::MAX);
     let wanted = match limits {
         Limits::Program => most + 1,
         Limits::Library => usize::MAX,
     };
-    let unreadable = |error| format!("{name} cannot be read: {error}");
     let bytes = contents(&path, length, wanted).map_err(unreadable)?;
     if limits == Limits::Program && bytes.len() > most {
         notes.push(format!("{name} has more than {most} bytes"));

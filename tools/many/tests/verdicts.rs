@@ -80,10 +80,9 @@ fn assert_same(found: &[u8], due: &str) {
 
 #[test]
 fn each_line_is_the_second_checker_s() {
-    let place = scratch("second");
     let all: Vec<Files> = (0..4_000).map(any_files).collect();
-    let names = write_folders(&place, &all);
-    let list = place.join("folders.txt").display().to_string();
+    let (list, names) = write_folders("second", &all);
+    let list = list.display().to_string();
     let mut counts = BTreeMap::new();
     for files in &all {
         let line = second_line(files, true);
@@ -125,16 +124,15 @@ fn program() -> Option<PathBuf> {
 #[test]
 fn each_line_is_the_program_s() {
     let Some(program) = program() else { return };
-    let place = scratch("program");
     let all: Vec<Files> = (10_000..10_600).map(any_files).collect();
-    let names = write_folders(&place, &all);
+    let (list, names) = write_folders("program", &all);
     let mut due = HEADER.to_string();
     for (name, files) in names.iter().zip(&all) {
         let run = Command::new(&program).current_dir(name).output();
         let line = text(&run.expect("the program runs").stdout);
         due.push_str(&csv(name, line.trim_end(), &note(files, true)));
     }
-    let list = place.join("folders.txt").display().to_string();
+    let list = list.display().to_string();
     assert_same(&judge_many(&["--from", &list]).stdout, &due);
 }
 
@@ -166,6 +164,7 @@ fn broken(place: &Path) -> Vec<String> {
     let made = Command::new("mkfifo").arg(pipe).status();
     assert!(made.expect("mkfifo runs").success());
     make("nothing in it");
+    fs::write(place.join("a file"), "").expect("a file");
     let link = place.join("linked");
     std::os::unix::fs::symlink(root().join("examples/line"), link).expect("a link");
     let names = [
@@ -175,7 +174,7 @@ fn broken(place: &Path) -> Vec<String> {
         "plan is a pipe",
         "nothing in it",
         "linked",
-        "folders.txt",
+        "a file",
         "absent",
     ];
     let path = |name: &&str| place.join(name).display().to_string();
@@ -185,11 +184,10 @@ fn broken(place: &Path) -> Vec<String> {
 #[test]
 fn each_line_and_status_is_that_of_judge() {
     let Some(program) = program() else { return };
-    let place = scratch("judge");
     let judge = install_judge(&scratch("judge-installed"), &program);
     let all: Vec<Files> = (20_000..20_040).map(any_files).collect();
-    let mut names = write_folders(&place, &all);
-    names.extend(broken(&place));
+    let (_, mut names) = write_folders("judge", &all);
+    names.extend(broken(&scratch("broken")));
     let mut open = 0;
     for name in &names {
         let run = Command::new(&judge).arg(name).stdin(Stdio::null()).output();

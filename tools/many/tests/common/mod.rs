@@ -42,22 +42,28 @@ pub fn text(bytes: &[u8]) -> String {
 /// case.bin and plan.bin; a missing one is none.
 pub type Files = [Option<Vec<u8>>; 2];
 
-/// Writes so many folders and a list of them; gives their names.
-pub fn write_folders(place: &Path, all: &[Files]) -> Vec<String> {
+/// Writes a folder for each and a list of them; gives their names. What is there already is left, since seeds give the same again
+/// and files are slow to go.
+pub fn write_folders(place: &str, all: &[Files]) -> (PathBuf, Vec<String>) {
+    let place = Path::new(env!("CARGO_TARGET_TMPDIR")).join(place);
     let mut names = Vec::new();
     for (index, files) in all.iter().enumerate() {
         let folder = place.join(index.to_string());
-        fs::create_dir(&folder).expect("a folder");
+        fs::create_dir_all(&folder).expect("a folder");
         for (name, bytes) in ["case.bin", "plan.bin"].iter().zip(files) {
-            if let Some(bytes) = bytes {
-                fs::write(folder.join(name), bytes).expect("a file");
+            let path = folder.join(name);
+            match (fs::read(&path).ok(), bytes) {
+                (there, due) if there == *due => {}
+                (_, Some(bytes)) => fs::write(path, bytes).expect("a file"),
+                (_, None) => fs::remove_file(path).expect("a file that goes"),
             }
         }
         names.push(folder.to_str().expect("a name in UTF-8").to_string());
     }
     let list: String = names.iter().map(|name| format!("{name}\n")).collect();
-    fs::write(place.join("folders.txt"), list).expect("the list");
-    names
+    let path = place.join("folders.txt");
+    fs::write(&path, list).expect("the list");
+    (path, names)
 }
 
 /// Files of every sort, from a seed: accepted, refused by aim, damaged, missing, at the limits and past them.
