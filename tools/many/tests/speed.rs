@@ -17,7 +17,7 @@ use inputs::bytes::encode;
 use inputs::generate::{Size, of_size};
 
 const PLANS: usize = 10_000;
-const ROUNDS: usize = 7;
+const ROUNDS: usize = 25;
 
 const SMALL: Size = Size {
     nodes: 4,
