@@ -9,7 +9,7 @@ use std::os::unix::process::CommandExt;
 use std::path::Path;
 use std::process::{Command, Output, Stdio};
 
-use common::{COMMAND, judge_many, root, scratch, text};
+use common::{COMMAND, judge_many, root, scratch, skipped, text};
 
 const TWO_NODES: &str = "accepted,,,,0,0,0,0,599988,611988,";
 
@@ -188,7 +188,7 @@ fn on_terminal(line: &str) -> Option<String> {
             Some(text(&done.stdout))
         }
         Err(error) => {
-            println!("skipped: script, which makes a terminal: {error}");
+            skipped(&format!("script, which makes a terminal: {error}"));
             None
         }
     }

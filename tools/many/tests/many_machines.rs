@@ -9,7 +9,7 @@ use std::os::unix::fs::{PermissionsExt, symlink};
 use std::path::Path;
 use std::process::Command;
 
-use common::{COMMAND, judge_many, root, scratch, text};
+use common::{COMMAND, judge_many, root, scratch, skipped, text};
 
 /// Called as `ssh [-l USER] MACHINE -- COMMAND..`; notes the machine, and begins elsewhere, as a login does.
 const SSH: &str = r#"#!/bin/sh
@@ -24,7 +24,7 @@ fn is_installed() -> bool {
     let asked = Command::new("parallel").arg("--version").output();
     let found = asked.is_ok_and(|done| done.stdout.starts_with(b"GNU parallel"));
     if !found {
-        println!("skipped: GNU parallel is not installed");
+        skipped("GNU parallel is not installed");
     }
     found
 }

@@ -9,7 +9,7 @@ use std::path::{Path, PathBuf};
 use std::process::{Command, Stdio};
 
 use common::{
-    Files, LIMITS, any_files, judge_many, root, scratch, second_line, text, write_folders,
+    Files, LIMITS, any_files, judge_many, root, scratch, second_line, skipped, text, write_folders,
 };
 
 const HEADER: &str = "folder,verdict,number,step,place,pressure_slack,demand_slack,switching_cost,residual,gas_at_start,gas_at_end,note\n";
@@ -78,25 +78,30 @@ fn assert_same(found: &[u8], due: &str) {
     assert!(found == due, "as many lines");
 }
 
+/// How many lines there are of each verdict: a refusal by its number, any other by its first word.
+fn tally(lines: &[String]) -> BTreeMap<String, usize> {
+    let mut tally = BTreeMap::new();
+    for line in lines {
+        let words = 1 + usize::from(line.starts_with("refused"));
+        let start: Vec<&str> = line.split(' ').take(words).collect();
+        *tally.entry(start.join(" ")).or_insert(0) += 1;
+    }
+    tally
+}
+
 #[test]
 fn each_line_is_the_second_checker_s() {
     let all: Vec<Files> = (0..4_000).map(any_files).collect();
     let (list, names) = write_folders("second", &all);
     let list = list.display().to_string();
-    let mut counts = BTreeMap::new();
-    for files in &all {
-        let line = second_line(files, true);
-        let end = line
-            .match_indices(' ')
-            .nth(usize::from(line.starts_with("refused")));
-        *counts
-            .entry(line[..end.map_or(line.len(), |(at, _)| at)].to_string())
-            .or_insert(0) += 1;
-    }
-    println!("{counts:?}");
+    let lines = |limits| all.iter().map(move |it| second_line(it, limits));
+    let counts = tally(&lines(true).collect::<Vec<_>>());
     assert!(counts["accepted"] >= 500 && counts["too"] >= 100);
     let refusals = counts.keys().filter(|key| key.starts_with("refused"));
     assert_eq!(refusals.count(), 28, "every number there is");
+    let past = lines(true).zip(lines(false));
+    let past = past.filter(|(one, other)| one == "too long" && other.starts_with("accepted"));
+    assert!(past.count() >= 20, "accepted past the limits");
     for limits in [true, false] {
         let [csv, json] = due(&names, &all, limits);
         let library: &[&str] = if limits { &[] } else { &["--library"] };
@@ -117,7 +122,7 @@ fn program() -> Option<PathBuf> {
     }
     let due = env::var_os("GASPLAN_PROGRAM_DUE").is_some();
     assert!(!due, "{} is missing", program.display());
-    println!("skipped: {} is not built", program.display());
+    skipped(&format!("{} is not built", program.display()));
     None
 }
 

@@ -2,6 +2,7 @@
 #![allow(dead_code)] // each test uses a part
 
 use std::fs;
+use std::io::{Write, stdout};
 use std::path::{Path, PathBuf};
 use std::process::{Command, Output};
 
@@ -33,6 +34,11 @@ pub fn judge_many(words: &[&str]) -> Output {
     let mut command = Command::new(COMMAND);
     let command = command.args(words).current_dir(root());
     command.output().expect("the command runs")
+}
+
+/// Says why a test is left out, also where test output is kept back.
+pub fn skipped(why: &str) {
+    writeln!(stdout(), "skipped: {why}").expect("a line");
 }
 
 pub fn text(bytes: &[u8]) -> String {
