@@ -102,6 +102,24 @@ fn ten_thousand_folders_in_one_call() {
     assert!(found == due);
 }
 
+/// An empty line of a list is not the folder that the command runs in.
+#[test]
+fn an_empty_name_is_no_folder() {
+    let mut command = Command::new(COMMAND);
+    command.current_dir(root().join("examples/line"));
+    let done = command.args(["--json", "", "."]).output();
+    let done = done.expect("the command runs");
+    assert_eq!(done.status.code(), Some(2));
+    let found = text(&done.stdout);
+    let due = r#"{"folder":"","verdict":"no verdict","note":"no such folder: an empty name"}"#;
+    assert_eq!(found.lines().next(), Some(due));
+    let named = r#"{"folder":".","verdict":"accepted","#;
+    assert!(
+        found.lines().nth(1).is_some_and(|it| it.starts_with(named)),
+        "{found}"
+    );
+}
+
 #[test]
 fn a_full_disk_is_told() {
     let full = || Stdio::from(File::options().write(true).open("/dev/full").unwrap());
