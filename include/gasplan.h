@@ -55,7 +55,7 @@ extern "C" {
 #define GASPLAN_VERSION_MINOR 0
 #define GASPLAN_VERSION_PATCH 0
 
-/* The edition of the rules, which is the first number of a case and of a plan. */
+/* The latest edition of a case, its first number. A plan's first number is 1 whatever the edition. */
 #define GASPLAN_EDITION 1
 
 /* The least count of places in `out`. */
