@@ -1,3 +1,2 @@
 pub mod law
-pub mod claims
 pub mod inside

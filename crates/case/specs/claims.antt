@@ -1,2 +1,0 @@
--- What users are told: theorems over the law.
-pub mod Examples
