@@ -8,5 +8,9 @@ pub mod CountsInRange
 pub mod InSet
 pub mod HoldsLaws
 pub mod Ranges
+pub mod Exactly
+pub mod SetItems
+pub mod CaseRows
+pub mod CaseRuled
 pub mod AcceptedCase
 pub mod SmallRefusals

@@ -1,0 +1,3 @@
+-- What users are told: theorems over the law.
+pub mod CaseRules
+pub mod Acceptance
