@@ -48,7 +48,7 @@ module _ (case : List ℤ) where
         rule17-arcs = λ s e p. r .1 s p .1 e;
       }
 
-  rules-accepted : CaseRules case → firstNo (caseQuestions case) ≡ Yes
+  pub rules-accepted : CaseRules case → firstNo (caseQuestions case) ≡ Yes
   rules-accepted r = asked .1 ((le-of-eq (sym (r .ends)), list), ruled)
     where
       station : (s : ℕ) → s < stationsOf case → StationFacts case s

@@ -1,4 +1,4 @@
--- A plan is accepted exactly where the case is and every rule from 20 to 33 holds as facts of numbers, of every item in every step.
+-- A plan is accepted exactly where its case and every rule from 20 to 33 hold as facts of numbers, of every item in every step.
 -- Assumes nothing.
 use mathlib.Core.Path.{_≡_}
 use mathlib.Core.List.{List}
@@ -7,7 +7,9 @@ use Prim.Native.Nat.{ℕ, _<_}
 use lib.IntN.{ℤ}
 use Rattle.case.specs.law.Layout.{nodesOf, arcsOf, stationsOf, stepsOf}
 use Rattle.case.specs.law.Records.{nodeOf, arcOf, artificialOf, stationOf}
-use Rattle.case.specs.inside.AcceptedCase.{Accepted, node-ranges, arc-ranges}
+use Rattle.case.specs.inside.AcceptedCase.{node-ranges, arc-ranges}
+use Rattle.case.specs.claims.CaseRules.{CaseRules}
+use Rattle.case.specs.claims.Acceptance.{accepted-rules, rules-accepted}
 use Rattle.plan.specs.declared.totals.Totals.{Totals}
 use Rattle.plan.specs.declared.verdict.Verdict.the-variants as verdict
 use Rattle.plan.specs.law.PlanLayout.{stepRows}
@@ -22,7 +24,7 @@ use Rattle.plan.specs.claims.StationFacts.{Rule30, Rule31, Rule32, Rule3
 
 -- Steps go by index from 0: index i is document 01's step i + 1.
 pub record PlanFacts (case plan : List ℤ) : Type 0 where
-  pub accepted : Accepted case
+  pub case-rules : CaseRules case
   pub rule20 : Rule20 case plan
   pub rule21 : (i v : ℕ) → i < stepsOf case → v < nodesOf case → Rule21 (nodeOf case v i) (nodeRow (stepRows case plan i) v)
   pub rule22 : (i v : ℕ) → i < stepsOf case → v < nodesOf case → Rule22 (nodeOf case v i) (nodeRow (stepRows case plan i) v)
@@ -47,7 +49,7 @@ module _ (case plan : List ℤ) where
   facts-of r =
       let ok = r .case-yes in
       record {
-        accepted = ok;
+        case-rules = accepted-rules case ok;
         rule20 = rule20-says case plan .fact (r .rule20);
         rule21 = λ i v p q. rule21-says _ _ (node-ranges case ok v i q p .kind) .fact (r .steps i p .nodes v q .rule21);
         rule22 = λ i v p q. rule22-says _ _ .fact (r .steps i p .nodes v q .rule22);
@@ -68,7 +70,7 @@ module _ (case plan : List ℤ) where
 
   rules-of : PlanFacts case plan → PlanRules case plan
   rules-of f =
-      let ok = f .accepted in
+      let ok = rules-accepted case (f .case-rules) in
       record {
         case-yes = ok;
         rule20 = rule20-says case plan .passed (f .rule20);
