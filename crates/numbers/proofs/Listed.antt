@@ -3,16 +3,16 @@
 use mathlib.Core.Path.{_≡_, refl, ap, sym, _∙_}
 use mathlib.Core.Bool.{Bool, true, false, cond}
 use mathlib.Core.List.{List, [], _∷_, _++_}
-use Prim.Native.Nat.{ℕ, suc, _+_, _-_, _≤_, _<_}
+use Prim.Native.Nat.{ℕ, _+_, _-_, _≤_, _<_}
 use native.Mathlib.Numerals.{add-one}
 use native.Mathlib.Omega.{arith}
 use borrow.Author.Tests.{le-leb, lt-leb, leb-true, leb-false}
 use lib.IntN.{ℤ, pos}
 use lib.Dec.{leb}
-use lib.ListN.{length, getD, drop, set, length-append, drop-of-length-le}
+use lib.ListN.{length, getD, drop, length-append, drop-of-length-le}
 use lib.Seq.{sets, length-sets, drop-cons}
 use Rattle.numbers.specs.law.Told.{gives, refuses}
-use Rattle.numbers.specs.inside.OverlayLaws.{overlay-sets}
+use Rattle.numbers.specs.inside.OverlayLaws.{overlay-sets, sets-append}
 use Rattle.numbers.specs.law.Groups.{groups, encode, writeTold, written}
 use Rattle.numbers.specs.inside.GroupLaws.{sizeOf}
 use Rattle.numbers.specs.law.Mapping.{unsignedOf}
@@ -30,10 +30,6 @@ length-from list i h = ap length (encode-from list i h) ∙ length-append (group
 
 encode-past : (list : List ℤ) (i : ℕ) → length list ≤ i → encode (drop i list) ≡ []
 encode-past list i h = rw (drop-of-length-le list h)
-
-sets-append : (l : List ℕ) (i : ℕ) (xs ys : List ℕ) → sets l i (xs ++ ys) ≡ sets (sets l i xs) (i + length xs) ys
-sets-append l i [] ys = let e : i + 0 ≡ i = omega arith in rw e
-sets-append l i (x ∷ xs) ys = let e : i + suc (length xs) ≡ suc i + length xs = omega arith in rw e (sets-append (set l i x) (suc i) xs ys)
 
 -- ---- counting
 

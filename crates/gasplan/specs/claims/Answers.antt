@@ -21,10 +21,11 @@ use Rattle.plan.specs.declared.verdict.Verdict.the-variants.{Accepted}
 use Rattle.plan.specs.declared.figures.Figures.{Figures}
 use Rattle.plan.specs.declared.figures.Ledger.the-variants.{Given}
 use Rattle.plan.specs.law.Totals.{totalsOf}
-use Rattle.plan.specs.law.Judged.{questions, verdictOf, verdictTold, judgeOf}
+use Rattle.plan.specs.law.Judged.{verdictTold, judgeOf}
 use Rattle.plan.specs.law.Ledger.{ledgerQuestions, ledgerBy, ledgerTold, ledgerOf}
 use Rattle.plan.specs.law.Vouched.{figuresFor}
-use Rattle.plan.specs.inside.SmallRefusals.{judge-small, ledger-small}
+use Rattle.plan.specs.inside.SmallRefusals.{ledger-small}
+use Rattle.plan.specs.claims.BytesAccepted.{zero-accepted}
 use Rattle.gasplan.specs.law.Out.{codeOf}
 
 -- an answer 0 tells the number 0, and with 6 places in `out` the other way round
@@ -43,10 +44,6 @@ told-zero : (a : Answer) → Small limit a → told a .number ≡ 0 → a ≡ Ye
 told-zero Yes s e = refl
 told-zero (No n t p) s e = let f : ⊥ = omega (arith, s .3, e) in absurd f
 
-verdict-zero : (a : Answer) (t : Totals) → Small limit a → verdictTold (verdictOf a t) .number ≡ 0 → a ≡ Yes
-verdict-zero Yes t s e = refl
-verdict-zero (No n i p) t s e = let f : ⊥ = omega (arith, s .3, e) in absurd f
-
 ledger-yes : (a : Answer) (f : Figures) → Small limit a → ledgerTold (ledgerBy a f) .number ≡ 0 → a ≡ Yes
 ledger-yes Yes f s e = refl
 ledger-yes (No n i p) f s e = let z : ⊥ = omega (arith, s .3, e) in absurd z
@@ -58,10 +55,7 @@ case-zero case out e = ap told (told-zero (firstNo (caseQuestions case)) (case-s
 
 -- Where `gasplan_judge` answers 0 case and plan are accepted, and it tells their totals.
 pub judge-zero : (case plan out : List ℤ) → codeOf out (judgeOf case plan) ≡ pos 0 → judgeOf case plan ≡ verdictTold (Accepted (totalsOf case plan))
-unfolding judgeOf
-judge-zero case plan out e =
-    let n = code-zero out (judgeOf case plan) e in
-    ap (λ (a : Answer). verdictTold (verdictOf a (totalsOf case plan))) (verdict-zero (firstNo (questions case plan)) (totalsOf case plan) (judge-small case plan) n)
+judge-zero case plan out e = zero-accepted case plan (code-zero out (judgeOf case plan) e)
 
 -- Where `gasplan_ledger` answers 0 it tells the ledger's figures.
 pub ledger-zero : (case plan out : List ℤ) (set s t : ℤ) → codeOf out (ledgerOf case plan set s t) ≡ pos 0

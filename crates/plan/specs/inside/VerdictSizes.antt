@@ -54,10 +54,10 @@ use Rattle.plan.specs.declared.figures.Ledger.the-variants.{Given}
 use Rattle.plan.specs.declared.figures.Ledger.the-variants as stopped
 use Rattle.plan.specs.inside.StepSizes.{choice-costs-le, activity-costs-le}
 
--- the counts of a verdict are below b
+-- the counts of a verdict are below b, and a refusal's number is not 0
 abbrev pub Fit : ℕ → Verdict → Type 0
 Fit b (Accepted t) = (t .switching < b) × (t .residual < b)
-Fit b (Refused n s p) = (n < b) × (s < b) × (p < b)
+Fit b (Refused n s p) = (n < b) × (s < b) × (p < b) × (1 ≤ n)
 
 module _ (case plan : List ℤ) (y : firstNo (questions case plan) ≡ Yes) where
   accepted : AcceptedCase case
@@ -108,14 +108,14 @@ module _ (case plan : List ℤ) where
           (omega (arith, ap (λ (x : Told). at x 2) e, switching-small case plan y), omega (arith, ap (λ (x : Told). at x 3) e, residual-small case plan y))
       go Yes y s (Refused n t p) e = let f : ⊥ = omega (arith, ap values e) in absurd f
       go (No m u q) y s (Accepted t) e = let f : ⊥ = omega (arith, ap values e) in absurd f
-      go (No m u q) y s (Refused n t p) e = let k = refused-same e in (omega (arith, k .0, s .0), omega (arith, k .1, s .1), omega (arith, k .2, s .2))
+      go (No m u q) y s (Refused n t p) e = let k = refused-same e in (omega (arith, k .0, s .0), omega (arith, k .1, s .1), omega (arith, k .2, s .2), omega (arith, k .0, s .3))
 
 -- ---- the verdict on two byte strings
 
-fit-refused : (v : Verdict) {n s p : ℕ} → verdictTold v ≡ refuses n s p → n < 2 ^ 63 → s < 2 ^ 63 → p < 2 ^ 63 → Fit (2 ^ 63) v
+fit-refused : (v : Verdict) {n s p : ℕ} → verdictTold v ≡ refuses n s p → n < 2 ^ 63 → s < 2 ^ 63 → p < 2 ^ 63 → 1 ≤ n → Fit (2 ^ 63) v
 unfolding values
-fit-refused (Accepted t) e h k l = let f : ⊥ = omega (arith, ap values e) in absurd f
-fit-refused (Refused m t q) e h k l = let r = refused-same e in (omega (arith, r .0), omega (arith, r .1), omega (arith, r .2))
+fit-refused (Accepted t) e h k l w = let f : ⊥ = omega (arith, ap values e) in absurd f
+fit-refused (Refused m t q) e h k l w = let r = refused-same e in (omega (arith, r .0), omega (arith, r .1), omega (arith, r .2), omega (arith, r .0))
 
 unread-small : (bytes : List ℕ) (room : ℕ) {n p : ℕ} → readOf bytes room .ended ≡ no n p → (n ≤ 3) × (p < length bytes) × (1 ≤ n)
 unfolding readTold
@@ -133,7 +133,7 @@ plan-number-small n = go (eqb n 1) (eqb n 2)
 refused-or-fit : (v : Verdict) (a : Answer) {next : Told} → Small (2 ^ 63) a → (verdictTold v ≡ next → Fit (2 ^ 63) v)
     → verdictTold v ≡ refusedOr a next → Fit (2 ^ 63) v
 refused-or-fit v Yes s h e = h e
-refused-or-fit v (No n t p) s h e = fit-refused v e (s .0) (s .1) (s .2)
+refused-or-fit v (No n t p) s h e = fit-refused v e (s .0) (s .1) (s .2) (s .3)
 
 case-fit : (case : List ℤ) → Small (2 ^ 63) (firstNo (caseQuestions case))
 case-fit case = go (firstNo (caseQuestions case)) (case-small case)
@@ -142,18 +142,18 @@ case-fit case = go (firstNo (caseQuestions case)) (case-small case)
     go Yes s = s
     go (No n t p) s = (omega (arith, s .0), omega (arith, s .1), omega (arith, s .2), s .3)
 
-module _ (bytes : List ℕ) (room : ℕ) (short : length bytes < 2 ^ 63) where
-  read-fit : Small (2 ^ 63) (readAnswer (readOf bytes room .ended))
+module _ (bytes : List ℕ) (room b : ℕ) (short : length bytes < b) (seven : 7 < b) where
+  pub read-fit : Small b (readAnswer (readOf bytes room .ended))
   read-fit = go (readOf bytes room .ended) refl
     where
-      go : (d : Ending) → readOf bytes room .ended ≡ d → Small (2 ^ 63) (readAnswer d)
+      go : (d : Ending) → readOf bytes room .ended ≡ d → Small b (readAnswer d)
       go all h = tt
       go (no n p) h = let w = unread-small bytes room h in (omega (arith, w .0), omega arith, omega (arith, w .1), w .2)
 
-  plan-read-fit : Small (2 ^ 63) (onPlanBytes (readAnswer (readOf bytes room .ended)))
+  pub plan-read-fit : Small b (onPlanBytes (readAnswer (readOf bytes room .ended)))
   plan-read-fit = go (readAnswer (readOf bytes room .ended)) read-fit
     where
-      go : (a : Answer) → Small (2 ^ 63) a → Small (2 ^ 63) (onPlanBytes a)
+      go : (a : Answer) → Small b a → Small b (onPlanBytes a)
       go Yes s = s
       go (No n t p) s = let w = plan-number-small n in (omega (arith, w .0), s .1, s .2, w .1)
 
@@ -163,9 +163,9 @@ unfolding bytesJudged
 bytes-fit caseBytes planBytes caseList planList small short v e =
     let case = readOf caseBytes (length caseList) .stored in
     let plan = readOf planBytes (length planList) .stored in
-    refused-or-fit v (readAnswer (readOf caseBytes (length caseList) .ended)) (read-fit caseBytes (length caseList) small)
+    refused-or-fit v (readAnswer (readOf caseBytes (length caseList) .ended)) (read-fit caseBytes (length caseList) (2 ^ 63) small (omega arith))
     (refused-or-fit v (firstNo (caseQuestions case)) (case-fit case)
-    (refused-or-fit v (onPlanBytes (readAnswer (readOf planBytes (length planList) .ended))) (plan-read-fit planBytes (length planList) short)
+    (refused-or-fit v (onPlanBytes (readAnswer (readOf planBytes (length planList) .ended))) (plan-read-fit planBytes (length planList) (2 ^ 63) short (omega arith))
     (judge-fits case plan v)))
     e
 
