@@ -1,0 +1,87 @@
+-- What the line holds at the end stays the same: the digits of `rest` are still to be written, the last of them at `i`.
+use mathlib.Core.Path.{ap, _∙_}
+use Prim.Native.Nat.{ℕ, _+_, _/_}
+use borrow.Author.Needs.{needs}
+use native.Mathlib.Omega.{arith}
+use lib.ListN.{length-set}
+use Rattle.line.specs.inside.DigitLaws.{some-digit}
+use Rattle.line.proofs.Written.{Writing, writing, longer, write-turn, write-last}
+use Rattle.line.proofs.decimal.digits.Statement.{statement}
+use Rattle.line.proofs.decimal.digits.Tie as tie
+
+abbrev Inv-loop : tie.InvT-loop
+Inv-loop n line₀ at end rest₀ i₀ line rest i = Writing line₀ at n line rest i
+
+abbrev μ-loop : tie.MeasureT-loop
+μ-loop n line₀ at end rest₀ i₀ line rest i = rest
+
+width-requires : tie.Need-width-requires Inv-loop μ-loop
+width-requires c κs = search needs
+
+add-end : tie.Need-add-end Inv-loop μ-loop
+add-end c = omega (arith, c .width .ensures, c .before .before .pre)
+
+sub-i : tie.Need-sub-i Inv-loop μ-loop
+sub-i c = omega (arith, c .width .ensures, some-digit (c .before .before .args .n))
+
+loop-holds : tie.Need-loop-holds Inv-loop μ-loop
+loop-holds c = writing _ _ _ _ (omega (arith, c .width .ensures, some-digit (c .before .before .args .n))) (c .before .before .pre)
+
+last-digit-requires : tie.Need-last-digit-requires Inv-loop μ-loop
+last-digit-requires c κs = search needs
+
+slice-write-line : tie.Need-slice-write-line Inv-loop μ-loop
+slice-write-line c = c .before .before .loop .inv .room
+
+sub-i-2 : tie.Need-sub-i-2 Inv-loop μ-loop
+sub-i-2 c =
+    let l = c .before .before in
+    omega (arith, l .loop .inv .here, longer (l .loop .rest) (c .before .loop-test .taken), some-digit (l .loop .rest / 10))
+
+loop-less : tie.Need-loop-less Inv-loop μ-loop
+loop-less c = omega arith
+
+loop-again : tie.Need-loop-again Inv-loop μ-loop
+loop-again c =
+    let l = c .before .before in
+    rw (c .last-digit .ensures) (write-turn (l .loop .inv) (c .before .loop-test .taken))
+
+last-digit-requires-2 : tie.Need-last-digit-requires-2 Inv-loop μ-loop
+last-digit-requires-2 c κs = search needs
+
+slice-write-line-2 : tie.Need-slice-write-line-2 Inv-loop μ-loop
+slice-write-line-2 c = c .before .before .loop .inv .room
+
+same-length : tie.Need-same-length Inv-loop μ-loop
+same-length c = length-set (c .before .before .loop .line) _ _ ∙ c .before .before .loop .inv .whole
+
+returns : tie.Need-returns Inv-loop μ-loop
+returns c =
+    let l = c .before .before in
+    let d = l .before in
+    let a = d .before .before in
+    record {
+      line = rw (c .last-digit2 .ensures) (write-last (l .loop .inv) (c .before .loop-test .left));
+      after = ap (λ (k : ℕ). a .args .at + k) (d .width .ensures);
+      room = omega (arith, d .width .ensures, a .pre);
+    }
+
+pub digits-spec : {M : Type 1} → statement M
+digits-spec =
+    tie.close
+    (tie.spec
+    Inv-loop
+    μ-loop
+    width-requires
+    add-end
+    sub-i
+    loop-holds
+    last-digit-requires
+    slice-write-line
+    sub-i-2
+    loop-less
+    loop-again
+    last-digit-requires-2
+    slice-write-line-2
+    same-length
+    returns)

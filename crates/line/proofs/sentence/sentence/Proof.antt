@@ -1,0 +1,40 @@
+-- The word, the numbers and the end of the line, one after the other.
+use mathlib.Core.Path.{_∙_}
+use borrow.Author.Needs.{needs}
+use native.Mathlib.Omega.{arith}
+use lib.ListN.{length-set}
+use denote.Ref.{now}
+use Rattle.line.specs.law.Line.{sentenceOf}
+use Rattle.line.specs.inside.Put.{put-front, put-both, put-one}
+use Rattle.line.proofs.sentence.sentence.Statement.{statement}
+use Rattle.line.proofs.sentence.sentence.Tie as tie
+
+copy-requires : tie.Need-copy-requires
+copy-requires c κs = search needs
+
+values-requires : tie.Need-values-requires
+values-requires c κs = search needs
+
+slice-write-line : tie.Need-slice-write-line
+slice-write-line c = search needs
+
+add-result : tie.Need-add-result
+add-result c = search needs
+
+same-length : tie.Need-same-length
+same-length c =
+    let v = c .before .before in
+    let k = v .before .before .before .before in
+    simp length-set (v .values .kept .1 .0 ∙ k .copy .kept .1 .0)
+
+returns : tie.Need-returns
+unfolding sentenceOf
+returns c =
+    let v = c .before .before in
+    let k = v .before .before .before .before in
+    let s = k .before .before .before .before in
+    let p = put-front (now (s .args .word)) (now (s .args .line)) (omega (arith, s .pre .0, s .pre .2)) (k .copy .ensures .0) (k .copy .ensures .1) in
+    put-both p (put-both (v .values .ensures .0) (put-one _ _ 10 (slice-write-line c)))
+
+pub sentence-spec : {M : Type 1} → statement M
+sentence-spec = tie.close (tie.spec copy-requires values-requires slice-write-line add-result same-length returns)

@@ -1,0 +1,66 @@
+-- Each case of the verdict has its own line.
+use mathlib.Core.Path.{_≡_, sym, subst}
+use Prim.Native.Nat.{ℕ, _^_}
+use mathlib.Core.List.{List}
+use borrow.Author.Needs.{needs}
+use Rattle.plan.specs.law.Judged.{verdictTold}
+use Rattle.plan.specs.inside.VerdictSizes.{Fit}
+use Rattle.plan.specs.declared.verdict.Verdict.{Verdict}
+use Rattle.line.specs.law.Line.{lineOf}
+use Rattle.line.specs.inside.Put.{Put}
+use Rattle.line.proofs.verdict.tell.Statement.{statement}
+use Rattle.line.proofs.verdict.tell.Tie as tie
+
+-- a line that is put for a verdict that is known
+of : {old new : List ℕ} {next : ℕ} {v w : Verdict} → v ≡ w → Put old new 0 (lineOf (verdictTold w)) next → Put old new 0 (lineOf (verdictTold v)) next
+of {old} {new} {next} e p = subst (λ (u : Verdict). Put old new 0 (lineOf (verdictTold u)) next) (sym e) p
+
+enum-known-verdict : tie.Need-enum-known-verdict
+enum-known-verdict c = search needs
+
+accepted-requires : tie.Need-accepted-requires
+accepted-requires c κs =
+    let v = c .before .before in
+    let s = v .before .before .before in
+    (s .pre .0, subst (Fit (2 ^ 63)) (v .verdict .given .1) (s .pre .1))
+
+enum-known-verdict-2 : tie.Need-enum-known-verdict-2
+enum-known-verdict-2 c = search needs
+
+refused-requires : tie.Need-refused-requires
+refused-requires c κs =
+    let v = c .before .before in
+    let s = v .before .before .before in
+    let e = v .verdict2 .given .1 in
+    (s .pre .0, subst (Fit (2 ^ 63)) e (s .pre .1))
+
+same-length : tie.Need-same-length
+same-length c = search needs
+
+returns : tie.Need-returns
+returns c =
+    let k = c .before .before in
+    let v = k .before .before .before in
+    of (v .verdict .given .1) (k .accepted .ensures)
+
+same-length-2 : tie.Need-same-length-2
+same-length-2 c = search needs
+
+returns-2 : tie.Need-returns-2
+returns-2 c =
+    let k = c .before .before in
+    let v = k .before .before .before in
+    of (v .verdict2 .given .1) (k .refused .ensures)
+
+pub tell-spec : {M : Type 1} → statement M
+tell-spec =
+    tie.close
+    (tie.spec
+    enum-known-verdict
+    accepted-requires
+    enum-known-verdict-2
+    refused-requires
+    same-length
+    returns
+    same-length-2
+    returns-2)

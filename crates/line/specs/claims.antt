@@ -1,0 +1,5 @@
+-- What users are told: theorems over the law.
+pub mod Decimal
+pub mod Line
+pub mod Same
+pub mod Files
