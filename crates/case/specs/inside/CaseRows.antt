@@ -14,7 +14,9 @@ use lib.IntN.{ℤ, pos, _+ℤ_}
 use lib.ListN.{length}
 use Rattle.numbers.specs.inside.SignedParts.{ints, size}
 use Rattle.numbers.specs.inside.QuestionLaws.{all-yes, none-no}
+use Rattle.numbers.specs.law.Question.{firstNo}
 use Rattle.numbers.specs.law.Items.{over}
+use Rattle.numbers.specs.declared.answer.Answer.the-variants.{Yes}
 use Rattle.case.specs.declared.records.Node.{Node}
 use Rattle.case.specs.law.Layout.{numberAt, countAt, nodesOf, arcsOf, stationsOf, stepsOf, timeAt, nodeAt, arcAt, directionCount, stateCount}
 use Rattle.case.specs.law.Layout.{machineCount, directionAt, stateAt, machineAt, stationEnd, stationAt, caseEnd}
@@ -29,6 +31,7 @@ use Rattle.case.specs.law.StationFields.{stationHead, directionFields, s
 use Rattle.case.specs.law.StationFields.{stationFields, allStationFields}
 use Rattle.case.specs.law.Leftover.{leftover}
 use Rattle.case.specs.law.Judged.{rowQuestions, listQuestions}
+use Rattle.case.specs.inside.Counts.{StationsRanged}
 use Rattle.case.specs.inside.CountsInRange.{end-least}
 use Rattle.case.specs.inside.Ranges.{Between}
 use Rattle.case.specs.inside.Exactly.{leb-iff, asks-iff, rising, Read, all-read, append-read, over-read, field-read, fields-read, row-is, row-kept, flat}
@@ -256,3 +259,9 @@ module _ (case : List ℤ) where
       (over-read case (arcAt case) (arcFields case) (arcsOf case) arc-read (λ e. omega arith) (omega arith)) (λ t r.
       append-read case (allStationFields case) (leftover case) (le-refl _)
       (over-read case (stationAt case) (stationFields case) (stationsOf case) station-read next t) (λ t r. left-read t)))))
+
+  -- what 16 leans on: node sets have only the items of 60 nodes
+  pub list-ranged : firstNo (listQuestions case) ≡ Yes → StationsRanged case
+  list-ranged y = record {
+    each = λ s p. record { each = λ f q. let d = list-read .0 y .1 .1 .1 .1 .1 .0 s p .1 .0 f q in record { entry = d .entry; exit = d .exit } };
+  }

@@ -1,6 +1,6 @@
--- What the counts and the directions' sets are known to be once their questions have let them pass, and what that says of offsets.
+-- What the counts are known to be once their questions have let them pass, and what that says of offsets.
 -- Assumes nothing.
-use mathlib.Core.Path.{_≡_, refl, subst}
+use mathlib.Core.Path.{_≡_}
 use mathlib.Core.List.{List, _++_}
 use Prim.Native.Nat.{ℕ, _+_, _<_, _≤_}
 use native.Mathlib.Nat.{mul-le-mul}
@@ -10,31 +10,20 @@ use borrow.Author.Tests.{leb-true}
 use lib.IntN.{ℤ, pos}
 use Rattle.numbers.specs.law.Question.{firstNo}
 use Rattle.numbers.specs.inside.QuestionLaws.{all-yes}
-use Rattle.numbers.specs.law.Items.{over}
 use Rattle.numbers.specs.declared.answer.Answer.the-variants.{Yes}
-use Rattle.case.specs.law.Layout.{numberAt, arcsOf, stationsOf, stepsOf, nodeAt, arcAt, directionCount, directionAt, stateAt, machineAt, stationEnd, stationAt}
+use Rattle.case.specs.law.Layout.{stationsOf, stepsOf, nodeAt, arcAt, directionAt, stateAt, machineAt, stationEnd, stationAt}
 use Rattle.case.specs.law.HeadFields.{countFields, toleranceFields, headFields}
 use Rattle.case.specs.law.TimeFields.{timeFields}
 use Rattle.case.specs.law.NodeFields.{allNodeFields}
 use Rattle.case.specs.law.ArcFields.{allArcFields}
-use Rattle.case.specs.law.StationFields.{firstItems, stationHead, directionFields, partFields, rowFields, stationFields, allStationFields}
+use Rattle.case.specs.law.StationFields.{stationHead, partFields, rowFields, stationFields, allStationFields}
 use Rattle.case.specs.law.Leftover.{leftover}
 use Rattle.case.specs.law.ArcEnds.{allArcEnds}
 use Rattle.case.specs.law.OneStation.{allOneStation}
 use Rattle.case.specs.law.StationSize.{stationSize, allStationSizes}
-use Rattle.case.specs.law.Directions.{allDirectionSets}
 use Rattle.case.specs.law.Judged.{rowQuestions, listQuestions, earlyRules}
-use Rattle.case.specs.law.Field.{mostWeight}
-use Rattle.case.specs.inside.FieldLaws.{InRange, first-yes, second-yes, item-yes, field-yes, field-then, fields-then, count-most, count-least}
-use Rattle.case.specs.inside.Ranges.{Between}
-use Rattle.case.specs.inside.Counts.{Counted, StationCounted, StationsCounted, DirectionsRanged, StationsRanged, Sized}
-
--- one field's range, and the field by another name of its index
-pub between : {case : List ℤ} {i : ℕ} {low high : ℤ} → InRange case i low high → Between low (numberAt case i) high
-between r = record { least = r .least; most = r .most }
-
-pub at : {case : List ℤ} {i : ℕ} (j : ℕ) {low high : ℤ} → InRange case i low high → i ≡ j → InRange case j low high
-at {case} j {low} {high} r e = subst (λ (n : ℕ). InRange case n low high) e r
+use Rattle.case.specs.inside.FieldLaws.{first-yes, second-yes, item-yes, field-yes, field-then, count-most, count-least}
+use Rattle.case.specs.inside.Counts.{Counted, StationCounted, StationsCounted, Sized}
 
 module _ (case : List ℤ) where
   -- ---- the head
@@ -76,22 +65,6 @@ module _ (case : List ℤ) where
   unfolding rowFields
   row-counted offset e = station-counted offset (first-yes (stationHead case offset) (partFields case offset) e)
 
-  -- ---- a station's directions
-
-  pub directions-ranged : (offset : ℕ) → firstNo (partFields case offset) ≡ Yes → DirectionsRanged case offset
-  unfolding partFields directionFields
-  directions-ranged offset e = record {
-    each = λ f q.
-        let i = directionAt offset f in
-        let y = item-yes (directionFields case offset) (directionCount case offset) (first-yes (over (directionFields case offset) 0 (directionCount case offset)) _ e) f q in
-        let t = fields-then case i 2 (pos 0) (firstItems 60) _ y in
-        record {
-          entry = between (at i (t .0 0 (omega arith)) (omega arith));
-          exit = between (at (i + 1) (t .0 1 (omega arith)) (omega arith));
-          weight = count-most (field-yes case (i + 2) (pos 0) mostWeight (t .1));
-        };
-  }
-
   -- ---- the list's groups
 
   module _ (e : firstNo (listQuestions case) ≡ Yes) where
@@ -102,10 +75,6 @@ module _ (case : List ℤ) where
     rows-yes : firstNo (rowQuestions case) ≡ Yes
     unfolding listQuestions
     rows-yes = second-yes (headFields case) (rowQuestions case) e
-
-    pub times-yes : firstNo (timeFields case) ≡ Yes
-    unfolding rowQuestions
-    times-yes = first-yes (timeFields case) _ rows-yes
 
     after-times : firstNo (allNodeFields case ++ (allArcFields case ++ (allStationFields case ++ leftover case))) ≡ Yes
     unfolding rowQuestions
@@ -123,9 +92,6 @@ module _ (case : List ℤ) where
     pub stations-yes : firstNo (allStationFields case) ≡ Yes
     stations-yes = first-yes (allStationFields case) _ after-arcs
 
-    pub leftover-yes : firstNo (leftover case) ≡ Yes
-    leftover-yes = second-yes (allStationFields case) _ after-arcs
-
     pub station-yes : (s : ℕ) → s < stationsOf case → firstNo (rowFields case (stationAt case s)) ≡ Yes
     unfolding allStationFields stationFields
     station-yes s p = item-yes (stationFields case) (stationsOf case) stations-yes s p
@@ -133,45 +99,15 @@ module _ (case : List ℤ) where
     pub list-stations : StationsCounted case
     list-stations = record { each = λ s p. row-counted (stationAt case s) (station-yes s p) }
 
-    pub parts-yes : (s : ℕ) → s < stationsOf case → firstNo (partFields case (stationAt case s)) ≡ Yes
-    unfolding rowFields
-    parts-yes s p = second-yes (stationHead case (stationAt case s)) (partFields case (stationAt case s)) (station-yes s p)
+  -- ---- 15
 
-    pub list-ranged : StationsRanged case
-    list-ranged = record { each = λ s p. directions-ranged (stationAt case s) (parts-yes s p) }
-
-  -- ---- the rules' groups
-
-  module _ (e : firstNo (earlyRules case) ≡ Yes) where
-    pub ends-yes : firstNo (allArcEnds case) ≡ Yes
-    unfolding earlyRules
-    ends-yes = first-yes (allArcEnds case) _ e
-
-    after-ends : firstNo (allOneStation case ++ (allStationSizes case ++ allDirectionSets case)) ≡ Yes
-    unfolding earlyRules
-    after-ends = second-yes (allArcEnds case) _ e
-
-    pub one-yes : firstNo (allOneStation case) ≡ Yes
-    one-yes = first-yes (allOneStation case) _ after-ends
-
-    after-one : firstNo (allStationSizes case ++ allDirectionSets case) ≡ Yes
-    after-one = second-yes (allOneStation case) _ after-ends
-
-    pub sizes-yes : firstNo (allStationSizes case) ≡ Yes
-    sizes-yes = first-yes (allStationSizes case) _ after-one
-
-    pub directions-yes : firstNo (allDirectionSets case) ≡ Yes
-    directions-yes = second-yes (allStationSizes case) _ after-one
-
-    pub rules-sized : Sized case
-    unfolding allStationSizes stationSize
-    rules-sized = record { each = λ s p. leb-true _ _ (all-yes (stationSize case s) (item-yes (stationSize case) (stationsOf case) sizes-yes s p) .0) }
+  pub rules-sized : firstNo (earlyRules case) ≡ Yes → Sized case
+  unfolding earlyRules allStationSizes stationSize
+  rules-sized e =
+      let y = first-yes (allStationSizes case) _ (second-yes (allOneStation case) _ (second-yes (allArcEnds case) _ e)) in
+      record { each = λ s p. leb-true _ _ (all-yes (stationSize case s) (item-yes (stationSize case) (stationsOf case) y s p) .0) }
 
   -- ---- offsets
-
-  pub station-first : stationAt case 0 ≡ arcAt case (arcsOf case)
-  unfolding stationAt
-  station-first = refl
 
   pub station-next : (s : ℕ) → stationAt case (s + 1) ≡ stationEnd case (stationAt case s)
   unfolding stationAt

@@ -16,7 +16,7 @@ use Rattle.numbers.specs.law.Items.{over}
 use Rattle.numbers.specs.inside.ItemLaws.{over-yes}
 use Rattle.numbers.specs.declared.answer.Answer.the-variants.{Yes}
 use Rattle.case.specs.law.Layout.{numberAt, countAt}
-use Rattle.case.specs.law.Field.{field, fields, nextField}
+use Rattle.case.specs.law.Field.{field}
 
 pub record InRange (case : List ℤ) (i : ℕ) (low high : ℤ) : Type 0 where
   pub there : i < length case
@@ -55,17 +55,9 @@ field-yes case i low high e =
       most = and-second (leZ low (numberAt case i)) _ (a .1 .0);
     }
 
-pub fields-yes : (case : List ℤ) (i n : ℕ) (low high : ℤ) → firstNo (fields case i n low high) ≡ Yes → (j : ℕ) → j < n → InRange case (i + j) low high
-unfolding fields
-fields-yes case i n low high e j p = field-yes case (i + j) low high (item-yes (nextField case i low high) n e j p)
-
--- a field, or fields that share a range, before other questions: what is known of it, and that none of the others is answered no
+-- a field before other questions: what is known of it, and that none of the others is answered no
 pub field-then : (case : List ℤ) (i : ℕ) (low high : ℤ) (Y : List Question) → firstNo (field case i low high ++ Y) ≡ Yes → InRange case i low high × (firstNo Y ≡ Yes)
 field-then case i low high Y e = (field-yes case i low high (first-yes (field case i low high) Y e), second-yes (field case i low high) Y e)
-
-pub fields-then : (case : List ℤ) (i n : ℕ) (low high : ℤ) (Y : List Question) → firstNo (fields case i n low high ++ Y) ≡ Yes
-    → ((j : ℕ) → j < n → InRange case (i + j) low high) × (firstNo Y ≡ Yes)
-fields-then case i n low high Y e = (fields-yes case i n low high (first-yes (fields case i n low high) Y e), second-yes (fields case i n low high) Y e)
 
 -- a count from m to n
 pub count-most : {case : List ℤ} {i : ℕ} {m n : ℕ} → InRange case i (pos m) (pos n) → countAt case i ≤ n

@@ -7,7 +7,7 @@ use Prim.Native.Nat.{ℕ, _<_}
 use lib.IntN.{ℤ}
 use Rattle.case.specs.law.Layout.{nodesOf, arcsOf, stationsOf, stepsOf}
 use Rattle.case.specs.law.Records.{nodeOf, arcOf, artificialOf, stationOf}
-use Rattle.case.specs.inside.AcceptedCase.{node-ranges, arc-ranges}
+use Rattle.case.specs.inside.AcceptedCase.{at-most}
 use Rattle.case.specs.claims.CaseRules.{CaseRules}
 use Rattle.case.specs.claims.Acceptance.{accepted-rules, rules-accepted}
 use Rattle.plan.specs.declared.totals.Totals.{Totals}
@@ -47,14 +47,14 @@ module _ (case plan : List ℤ) where
 
   facts-of : PlanRules case plan → PlanFacts case plan
   facts-of r =
-      let ok = r .case-yes in
+      let ok = accepted-rules case (r .case-yes) in
       record {
-        case-rules = accepted-rules case ok;
+        case-rules = ok;
         rule20 = rule20-says case plan .fact (r .rule20);
-        rule21 = λ i v p q. rule21-says _ _ (node-ranges case ok v i q p .kind) .fact (r .steps i p .nodes v q .rule21);
+        rule21 = λ i v p q. rule21-says _ _ (at-most (ok .nodes v q .kind)) .fact (r .steps i p .nodes v q .rule21);
         rule22 = λ i v p q. rule22-says _ _ .fact (r .steps i p .nodes v q .rule22);
         rule23 = λ i v p q. rule23-says _ _ .fact (r .steps i p .nodes v q .rule23);
-        rule24 = λ i e p q. rule24-says _ _ _ (arc-ranges case ok e q .kind) .fact (r .steps i p .arcs e q .rule24);
+        rule24 = λ i e p q. rule24-says _ _ _ (at-most (ok .arcs e q .kind)) .fact (r .steps i p .arcs e q .rule24);
         rule25 = λ i e p q. rule25-says _ _ .fact (r .steps i p .arcs e q .rule25);
         rule26 = λ i e p q. rule26-says case _ i e .fact (r .steps i p .arcs e q .rule26);
         rule27 = λ i e p q. rule27-says case _ e .fact (r .steps i p .arcs e q .rule27);
@@ -70,18 +70,18 @@ module _ (case plan : List ℤ) where
 
   rules-of : PlanFacts case plan → PlanRules case plan
   rules-of f =
-      let ok = rules-accepted case (f .case-rules) in
+      let ok = f .case-rules in
       record {
-        case-yes = ok;
+        case-yes = rules-accepted case ok;
         rule20 = rule20-says case plan .passed (f .rule20);
         steps = λ i p. record {
           nodes = λ v q. record {
-            rule21 = rule21-says _ _ (node-ranges case ok v i q p .kind) .passed (f .rule21 i v p q);
+            rule21 = rule21-says _ _ (at-most (ok .nodes v q .kind)) .passed (f .rule21 i v p q);
             rule22 = rule22-says _ _ .passed (f .rule22 i v p q);
             rule23 = rule23-says _ _ .passed (f .rule23 i v p q);
           };
           arcs = λ e q. record {
-            rule24 = rule24-says _ _ _ (arc-ranges case ok e q .kind) .passed (f .rule24 i e p q);
+            rule24 = rule24-says _ _ _ (at-most (ok .arcs e q .kind)) .passed (f .rule24 i e p q);
             rule25 = rule25-says _ _ .passed (f .rule25 i e p q);
             rule26 = rule26-says case _ i e .passed (f .rule26 i e p q);
             rule27 = rule27-says case _ e .passed (f .rule27 i e p q);

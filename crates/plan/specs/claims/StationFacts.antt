@@ -1,31 +1,25 @@
 -- 30 to 33 as facts of numbers, both ways.
 -- Assumes nothing.
-use mathlib.Core.Path.{_≡_, refl}
-use mathlib.Core.Bool.{Bool, true, false}
+use mathlib.Core.Path.{_≡_}
+use mathlib.Core.Bool.{true}
 use mathlib.Core.List.{List}
 use mathlib.Core.Logic.{_≢_}
 use Prim.Native.Nat.{ℕ, _*_, _<_}
-use native.Mathlib.Omega.{arith}
-use borrow.Author.Tests.{ltb-true, ltb-false, eqb-true}
-use lib.Dec.{ltb}
 use lib.IntN.{ℤ, pos, natAbs, _-ℤ_}
-use lib.Pow.{ones-lt}
 use lib.Signed.{_≤ℤ_}
 use Rattle.numbers.specs.law.Signed.{posPart}
 use Rattle.numbers.specs.inside.SignedParts.{ints, size, taken}
 use Rattle.numbers.specs.law.Sets.{memberOf, subsetOf, disjointOf}
-use Rattle.numbers.specs.inside.SetLaws.{bit-high}
 use Rattle.case.specs.declared.records.Direction.{Direction}
 use Rattle.case.specs.declared.records.State.{State}
 use Rattle.case.specs.law.Layout.{nodesOf, arcsOf, stationsOf, massTolerance}
 use Rattle.case.specs.law.Field.{lastOf}
 use Rattle.case.specs.law.Records.{stationOf, directionOf, stateOf}
-use Rattle.case.specs.law.StationFields.{firstItems}
 use Rattle.case.specs.law.StationArcs.{belongs, arcsBefore, stationArcs}
 use Rattle.case.specs.law.StationNodes.{fenceNode}
 use Rattle.case.specs.inside.SetLaws.{arc-member}
 use Rattle.case.specs.inside.FieldLaws.{and-first, and-second}
-use Rattle.case.specs.inside.AcceptedCase.{Accepted, on-arcs, off-arcs, direction-disjoint}
+use Rattle.case.specs.claims.CaseRules.{CaseRules, Rule16}
 use Rattle.plan.specs.law.PlanRecords.{nodeRow, arcRow, choiceOf, activeIn, directionIn, stateIn}
 use Rattle.plan.specs.law.Pipes.{duration}
 use Rattle.plan.specs.law.StationRules.{oneOf, activeSet, obeyed, choiceKept, onArc, machinesOnce, stationFlow, fenceNodeKept, fenceKept, fenceFlowsKept}
@@ -67,17 +61,10 @@ module _ (case rows : List ℤ) (s : ℕ) where
   unfolding activeSet
   active-says e p b = rw (arc-member case s (activeIn case rows) (arcsOf case) e p b) (le-says _ _)
 
-  module _ (set : ℤ) (own : subsetOf set (firstItems (stationArcs case s)) ≡ true) where
+  module _ (set : ℤ) (own : (j : ℕ) → memberOf set j ≡ true → j < stationArcs case s) where
     arc-of : (j : ℕ) → memberOf set j ≡ true → (e : ℕ) × (e < arcsOf case) × (belongs case s e ≡ true) × (arcsBefore case s e ≡ j)
     unfolding arcsBefore
-    arc-of j m = nth (belongs case s) (arcsOf case) j (go (ltb j (stationArcs case s)) refl)
-      where
-        go : (b : Bool) → ltb j (stationArcs case s) ≡ b → j < stationArcs case s
-        go true e = ltb-true _ _ e
-        go false e =
-            let k = stationArcs case s in
-            let i = subset-says set (firstItems k) .fact own j m in
-            absurd (omega (arith, eqb-true, bit-high k (posPart (firstItems k)) j (ones-lt k) (ltb-false j k e)))
+    arc-of j m = nth (belongs case s) (arcsOf case) j (own j m)
 
     on-says : Says (subsetOf set (activeSet case rows s))
         ((e : ℕ) → e < arcsOf case → belongs case s e ≡ true → memberOf set (arcsBefore case s e) ≡ true → IsActive case rows e)
@@ -91,7 +78,7 @@ module _ (case rows : List ℤ) (s : ℕ) where
         means (disjoint-says set (activeSet case rows s)) (λ t e p b m h. t _ m (active-says e p b .passed h))
         (λ f j m h. let x = arc-of j m in f (x .0) (x .1) (x .2) (rw (x .3) m) (active-says (x .0) (x .1) (x .2) .fact (rw (x .3) h)))
 
-pub rule30-says : (case rows : List ℤ) (s : ℕ) → Accepted case → s < stationsOf case → Says (choiceKept case rows s) (Rule30 case rows s)
+pub rule30-says : (case rows : List ℤ) (s : ℕ) → CaseRules case → s < stationsOf case → Says (choiceKept case rows s) (Rule30 case rows s)
 unfolding choiceKept obeyed
 rule30-says case rows s ok p =
     let c = choiceOf case rows s in
@@ -100,7 +87,7 @@ rule30-says case rows s ok p =
     means (both (one-of-says (c .direction) (own .directions)) (then (one-of-says (c .state) (own .states)) (λ h.
     let q = in-one-of (c .state) (own .states) h in
     both (flag-says (memberOf (z .directions) (directionIn case rows s)))
-    (both (on-says case rows s (z .on) (on-arcs case ok s _ p q)) (off-says case rows s (z .off) (off-arcs case ok s _ p q))))))
+    (both (on-says case rows s (z .on) (ok .rule17-states s _ p q .on)) (off-says case rows s (z .off) (ok .rule17-states s _ p q .off))))))
     (λ t. record { direction = t .0; state = t .1 .0; supports = t .1 .1 .0; on = t .1 .1 .1 .0; off = t .1 .1 .1 .1 })
     (λ f. (f .direction, (f .state, (f .supports, (f .on, f .off)))))
 
@@ -127,21 +114,20 @@ abbrev pub Rule32 : List ℤ → List ℤ → ℕ → Type 0
 Rule32 case rows s = (v : ℕ) → v < nodesOf case → fenceNode case s v ≡ true → FenceFlow (chosenDirection case rows s) v (stationFlow case rows s v)
 
 -- of one node; an accepted case has no node that is both entry and exit
-fence-says : (case rows : List ℤ) (s f v : ℕ) → disjointOf (directionOf case s f .entry) (directionOf case s f .exit) ≡ true
+fence-says : (case rows : List ℤ) (s f v : ℕ) → Rule16 case s f
     → Says (fenceKept case rows s f v) (fenceNode case s v ≡ true → FenceFlow (directionOf case s f) v (stationFlow case rows s v))
 unfolding fenceNodeKept
-fence-says case rows s f v apart =
-    let d = directionOf case s f in
+fence-says case rows s f v r =
     when (flag-says _) (means (choose (flag-says _) (le-says _ _) (choose (flag-says _) (le-says _ _) (zero-says _)))
-    (λ t. record { entry = t .0; exit = λ x. t .1 (λ e. disjoint-says (d .entry) (d .exit) .fact apart v e x) .0 x; neither = λ e x. t .1 e .1 x })
-    (λ r. (r .entry, λ e. (r .exit, r .neither e))))
+    (λ t. record { entry = t .0; exit = λ x. t .1 (λ e. r .apart v e x) .0 x; neither = λ e x. t .1 e .1 x })
+    (λ g. (g .entry, λ e. (g .exit, g .neither e))))
 
-pub rule32-says : (case rows : List ℤ) (s : ℕ) → Accepted case → s < stationsOf case → directionIn case rows s < stationOf case s .directions
+pub rule32-says : (case rows : List ℤ) (s : ℕ) → CaseRules case → s < stationsOf case → directionIn case rows s < stationOf case s .directions
     → Says (fenceFlowsKept case rows s) (Rule32 case rows s)
 unfolding fenceFlowsKept
 rule32-says case rows s ok p q =
     let f = directionIn case rows s in
-    all (λ v l. fence-says case rows s f v (direction-disjoint case ok s f p q))
+    all (λ v l. fence-says case rows s f v (ok .rule16 s f p q))
 
 -- 33: "Is dt × |flow out - flow in - d| ≤ E, over all arcs (a pipe's flow is a at from and b at to, any other arc's a - b at both)?"
 abbrev pub Rule33 : List ℤ → List ℤ → ℕ → ℕ → Type 0

@@ -22,6 +22,8 @@ use Rattle.case.specs.law.StationArcs.{belongs, stationArcs}
 use Rattle.case.specs.law.Judged.{listQuestions}
 use Rattle.case.specs.inside.Counts.{Counted}
 use Rattle.case.specs.inside.Ranges.{Between}
+use Rattle.case.specs.inside.CaseRows.{demand-iff, four}
+use Rattle.case.specs.claims.CaseRules.{CaseRules}
 use Rattle.case.specs.inside.AcceptedCase as laws
 use Rattle.plan.specs.law.Pipes.{duration}
 use Rattle.plan.specs.inside.Sizes.{NodeSized, PipeSized, MachinesSized}
@@ -47,6 +49,9 @@ most-demand kind = go (eqb kind 1)
     go false = omega arith
 
 module _ {case : List ℤ} (c : AcceptedCase case) where
+  facts : CaseRules case
+  facts = laws.rules case (c .yes)
+
   pub list-yes : firstNo (listQuestions case) ≡ Yes
   list-yes = laws.list-yes case (c .yes)
 
@@ -59,10 +64,10 @@ module _ {case : List ℤ} (c : AcceptedCase case) where
   head-there = laws.head-there case (c .yes)
 
   pub mass-sized : Bounded (massTolerance case) 1000000
-  mass-sized = laws.between-bounded (laws.mass-range case (c .yes))
+  mass-sized = laws.between-bounded (facts .head .mass)
 
   pub tolerance-sized : Bounded (pressureTolerance case) 1000
-  tolerance-sized = laws.between-bounded (laws.pressure-range case (c .yes))
+  tolerance-sized = laws.between-bounded (facts .head .pressure)
 
   pub duration-sized : (i : ℕ) → i < stepsOf case → Bounded (duration case i) 86400
   unfolding duration
@@ -73,14 +78,15 @@ module _ {case : List ℤ} (c : AcceptedCase case) where
   module _ (v : ℕ) (p : v < nodesOf case) where
     pub node-sized : (i : ℕ) → i < stepsOf case → NodeSized (nodeOf case v i)
     node-sized i q =
-        let r = laws.node-ranges case (c .yes) v i p q in
+        let r = facts .nodes v p in
+        let d = demand-iff (nodeOf case v i) (laws.at-most (r .kind)) .1 (facts .demands v i p q) in
         record {
           p0 = laws.between-bounded (r .p0);
           low = laws.between-bounded (r .low);
           high = laws.between-bounded (r .high);
-          actlow = laws.between-bounded (r .actlow);
-          acthigh = laws.between-bounded (r .acthigh);
-          demand = sized 10000000 (r .demand) (least-demand (nodeOf case v i .kind)) (most-demand (nodeOf case v i .kind));
+          actlow = laws.between-bounded (omega (ints, r .low, r .actlow));
+          acthigh = laws.between-bounded (omega (ints, r .low, r .actlow, r .acthigh, r .high));
+          demand = sized 10000000 d (least-demand (nodeOf case v i .kind)) (most-demand (nodeOf case v i .kind));
         }
 
     pub node-there : (i : ℕ) → i < stepsOf case → demandsAt (nodeAt case v) + i < length case
@@ -93,17 +99,17 @@ module _ {case : List ℤ} (c : AcceptedCase case) where
     arc-there = laws.arc-there case (c .yes) e p
 
     pub from-node : arcOf case e .from < nodesOf case
-    from-node = laws.arc-ranges case (c .yes) e p .from
+    from-node = laws.below (facts .arcs e p .from)
 
     pub to-node : arcOf case e .to < nodesOf case
-    to-node = laws.arc-ranges case (c .yes) e p .to
+    to-node = laws.below (facts .arcs e p .to)
 
     pub qmax-sized : Bounded (arcOf case e .qmax) 10000000
-    qmax-sized = laws.between-bounded (laws.arc-ranges case (c .yes) e p .qmax)
+    qmax-sized = laws.between-bounded (facts .arcs e p .qmax)
 
     pub pipe-sized : arcOf case e .kind ≡ 2 → PipeSized (pipeOf case e)
     pipe-sized k =
-        let r = laws.pipe-ranges case (c .yes) e p k in
+        let r = facts .sevens e p .pipe k .0 in
         record {
           c = sized 100000000 (r .c) (omega arith) (omega arith);
           f = laws.between-bounded (r .f);
@@ -113,25 +119,25 @@ module _ {case : List ℤ} (c : AcceptedCase case) where
 
     module _ (k : 3 ≤ arcOf case e .kind) where
       pub station-in : artificialOf case e .station < stationsOf case
-      station-in = laws.artificial-ranges case (c .yes) e p k .station
+      station-in = laws.below (four (facts .sevens e p) k .station)
 
       pub weight-in : artificialOf case e .weight ≤ 1000000
-      weight-in = laws.artificial-ranges case (c .yes) e p k .weight
+      weight-in = laws.at-most (four (facts .sevens e p) k .weight)
 
   -- ---- stations
 
   module _ (s : ℕ) (p : s < stationsOf case) where
     pub direction-weight : (f : ℕ) → f < stationOf case s .directions → directionOf case s f .weight ≤ 1000000
-    direction-weight f q = laws.direction-ranges case (c .yes) s f p q .weight
+    direction-weight f q = laws.at-most (facts .directions s f p q .weight)
 
     pub state-weight : (z : ℕ) → z < stationOf case s .states → stateOf case s z .weight ≤ 1000000
-    state-weight z q = laws.state-ranges case (c .yes) s z p q .weight
+    state-weight z q = laws.at-most (facts .states s z p q .weight)
 
     pub machines-sized : MachinesSized case (stationAt case s)
     machines-sized = record {
-      count = laws.station-ranges case (c .yes) s p .machines;
-      flow = λ m q. laws.between-bounded (laws.machine-ranges case (c .yes) s m p q .flow);
-      ratio = λ m q. sized 10000 (laws.machine-ranges case (c .yes) s m p q .ratio) (omega arith) (omega arith);
+      count = laws.at-most (facts .stations s p .machines);
+      flow = λ m q. laws.between-bounded (facts .machines s m p q .flow);
+      ratio = λ m q. sized 10000 (facts .machines s m p q .ratio) (omega arith) (omega arith);
     }
 
     pub station-size : stationArcs case s ≤ 30

@@ -7,7 +7,8 @@ use Rattle.numbers.specs.law.Question.{firstNo, told}
 use Rattle.numbers.specs.declared.answer.Answer.{Answer}
 use Rattle.numbers.specs.declared.answer.Answer.the-variants.{Yes, No}
 use Rattle.case.specs.law.Judged.{listQuestions, ruleQuestions, caseQuestions, judgedCase}
-use Rattle.case.specs.inside.CountsInRange.{list-counted, list-stations, list-ranged}
+use Rattle.case.specs.inside.CountsInRange.{list-counted, list-stations}
+use Rattle.case.specs.inside.CaseRows.{list-ranged}
 use Rattle.case.proofs.Asked.{stopped, went}
 use Rattle.case.proofs.judge.judge_and_lay.Statement.{statement}
 use Rattle.case.proofs.judge.judge_and_lay.Tie as tie
