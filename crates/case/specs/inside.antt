@@ -2,6 +2,7 @@
 pub mod MachineOf
 pub mod FieldLaws
 pub mod CountLaws
+pub mod SaysLaws
 pub mod SetLaws
 pub mod Counts
 pub mod CountsInRange
@@ -9,7 +10,7 @@ pub mod InSet
 pub mod HoldsLaws
 pub mod Ranges
 pub mod Exactly
-pub mod SetItems
+pub mod ArcItems
 pub mod CaseRows
 pub mod CaseRuled
 pub mod AcceptedCase

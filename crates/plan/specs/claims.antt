@@ -1,5 +1,4 @@
 -- What users are told: theorems over the law.
-pub mod Says
 pub mod NodeFacts
 pub mod ArcFacts
 pub mod StationFacts

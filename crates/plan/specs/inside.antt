@@ -1,5 +1,4 @@
 -- What proofs need: laws of the definitions, sizes, and what functions inside the crate ask of their callers.
-pub mod SaysLaws
 pub mod StationPass
 pub mod StepAnswer
 pub mod Sizes

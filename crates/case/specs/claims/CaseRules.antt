@@ -22,7 +22,7 @@ use Rattle.case.specs.law.StationFields.{firstItems}
 use Rattle.case.specs.law.StationArcs.{belongs, arcsBefore, stationArcs}
 use Rattle.case.specs.law.StationNodes.{plain}
 use Rattle.case.specs.inside.SetLaws.{Ends}
-use Rattle.case.specs.inside.Ranges.{Between}
+use Rattle.case.specs.claims.Says.{Between}
 
 -- ---- Counts, indices, kinds and weights as they stand in the list: signed. The records have them as naturals, with 0 for a negative number.
 

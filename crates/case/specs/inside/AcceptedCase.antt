@@ -6,6 +6,7 @@ use mathlib.Core.Bool.{true}
 use mathlib.Core.List.{List}
 use Prim.Native.Nat.{ℕ, _+_, _<_, _≤_}
 use native.Mathlib.Omega.{arith}
+use borrow.Author.Tests.{leb-true}
 use lib.IntN.{ℤ, pos, _-ℤ_}
 use lib.ListN.{length}
 use Rattle.numbers.specs.law.Signed.{posPart}
@@ -29,10 +30,10 @@ use Rattle.case.specs.law.OneStation.{inStation}
 use Rattle.case.specs.law.Judged.{rowQuestions, listQuestions, ruleQuestions, caseQuestions, judgedCase}
 use Rattle.case.specs.inside.FieldLaws.{first-yes, item-yes}
 use Rattle.case.specs.inside.SetLaws.{station-end-of}
-use Rattle.case.specs.inside.SetItems.{first-iff, one-iff}
+use Rattle.case.specs.inside.SaysLaws.{first-says, one-says}
 use Rattle.case.specs.inside.Counts.{Counted, Sized}
 use Rattle.case.specs.inside.CountsInRange.{list-counted, nodes-yes, arcs-yes}
-use Rattle.case.specs.inside.Ranges.{Between}
+use Rattle.case.specs.claims.Says.{Between}
 use Rattle.case.specs.inside.CaseRows.{head-read, node-read, arc-read}
 use Rattle.case.specs.claims.CaseRules.{CaseRules}
 use Rattle.case.specs.claims.Acceptance.{accepted-rules}
@@ -102,7 +103,8 @@ module _ (case : List ℤ) (e : Accepted case) where
   -- 14
   pub in-one-station : (v : ℕ) → v < nodesOf case → count (stationsOf case) (inStation case v) ≤ 1
   in-one-station v p =
-      one-iff (inStation case v) (stationsOf case) .1 (λ s t q r x y. rules .rule14 v s t p q r (station-end-of case v s x) (station-end-of case v t y))
+      leb-true _ _ (one-says (inStation case v) (stationsOf case) .passed (λ s t q r x y.
+      rules .rule14 v s t p q r (station-end-of case v s x) (station-end-of case v t y)))
 
   -- 15
   pub sized : Sized case
@@ -111,4 +113,4 @@ module _ (case : List ℤ) (e : Accepted case) where
   -- 17: the machine set of a station's arc names only the station's machines
   pub machines-own : (s a : ℕ) → s < stationsOf case → a < arcsOf case → belongs case s a ≡ true
       → subsetOf (artificialOf case a .machines) (firstItems (stationOf case s .machines)) ≡ true
-  machines-own s a p q h = first-iff (artificialOf case a .machines) (stationOf case s .machines) .1 (rules .rule17-arcs s a p q h .machines)
+  machines-own s a p q h = first-says (artificialOf case a .machines) (stationOf case s .machines) .passed (rules .rule17-arcs s a p q h .machines)

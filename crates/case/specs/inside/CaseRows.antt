@@ -33,8 +33,9 @@ use Rattle.case.specs.law.Leftover.{leftover}
 use Rattle.case.specs.law.Judged.{rowQuestions, listQuestions}
 use Rattle.case.specs.inside.Counts.{StationsRanged}
 use Rattle.case.specs.inside.CountsInRange.{end-least}
-use Rattle.case.specs.inside.Ranges.{Between}
-use Rattle.case.specs.inside.Exactly.{leb-iff, asks-iff, rising, Read, all-read, append-read, over-read, field-read, fields-read, row-is, row-kept, flat}
+use Rattle.case.specs.claims.Says.{Between}
+use Rattle.case.specs.inside.SaysLaws.{leb-says}
+use Rattle.case.specs.inside.Exactly.{asks-iff, rising, Read, all-read, append-read, over-read, field-read, fields-read, row-is, row-kept, flat}
 use Rattle.case.specs.claims.CaseRules.{CaseHead, TimeKept, CaseNode, CaseDemand, CaseArc, CasePipe, CaseArtificial, CaseCompressor, CaseSeven}
 use Rattle.case.specs.claims.CaseRules.{CaseStation, CaseDirection, CaseState, CaseMachine, artificialNumbers, further, Zeros}
 
@@ -241,7 +242,7 @@ module _ (case : List ℤ) where
 
   left-read : caseEnd case ≤ length case → Read case (leftover case) (caseEnd case) (length case ≤ caseEnd case)
   unfolding leftover
-  left-read t = let a = asks-iff 12 (caseEnd case) (leb-iff (length case) (caseEnd case)) in (λ y. (t, a .0 y), λ r. a .1 (r .1))
+  left-read t = let a = asks-iff 12 (caseEnd case) (leb-says (length case) (caseEnd case)) in (λ y. (t, a .0 y), λ r. a .1 (r .1))
 
   pub list-read : Read case (listQuestions case) (caseEnd case) (ListFacts case)
   unfolding listQuestions rowQuestions timeFields timeField allNodeFields allArcFields allStationFields nodeAt arcAt stationAt

@@ -1,15 +1,14 @@
--- Tests and questions by what they say, both ways: a test passes, or no question of a list is answered no, exactly where a fact holds.
--- Such laws are put together as the tests and the questions are.
+-- Questions by what they say, both ways: no question of a list is answered no exactly where a fact holds. Such laws are put together as the questions are.
 -- Assumes nothing.
 use mathlib.Core.Path.{_≡_, refl}
-use mathlib.Core.Bool.{Bool, true, false, not, _&&_, _||_}
+use mathlib.Core.Bool.{Bool, true, false, _&&_}
 use mathlib.Core.List.{List, [], _∷_, _++_}
 use mathlib.Core.Logic.{_↔_}
 use Prim.Native.Nat.{ℕ, zero, suc, _+_, _≤_, _<_}
 use native.Mathlib.Nat.{add-assoc, add-zero, le-refl, le-trans}
 use native.Mathlib.Omega.{arith}
-use borrow.Author.Tests.{ltb-true, ltb-false, lt-ltb, leb-true, le-leb}
-use lib.Dec.{T, leb, ltb, ltb→lt}
+use borrow.Author.Tests.{ltb-true, ltb-false, lt-ltb}
+use lib.Dec.{T, ltb, ltb→lt}
 use lib.IntN.{ℤ}
 use lib.ListN.{length}
 use lib.Signed.{leZ}
@@ -22,35 +21,14 @@ use Rattle.numbers.specs.inside.ItemLaws.{over-all}
 use Rattle.numbers.specs.declared.answer.Answer.the-variants.{Yes}
 use Rattle.case.specs.law.Field.{asks, field, fields, nextField}
 use Rattle.case.specs.law.Layout.{numberAt}
-use Rattle.case.specs.inside.Ranges.{Between}
-use Rattle.case.specs.law.StationArcs.{every}
-use Rattle.case.specs.inside.FieldLaws.{and-first, and-second, first-yes, second-yes, item-yes}
-use Rattle.case.specs.inside.CountLaws.{every-at, at-every}
-
--- ---- tests
-
-pub leb-iff : (a b : ℕ) → leb a b ≡ true ↔ a ≤ b
-leb-iff a b = (leb-true a b, le-leb a b)
-
--- the facts of the first test are known when the second is asked
-pub and-iff : {a b : Bool} {A B : Type 0} → (a ≡ true ↔ A) → (A → b ≡ true ↔ B) → (a && b) ≡ true ↔ A × B
-and-iff {a} {b} f g = (
-  λ e. let x = f .0 (and-first a b e) in (x, g x .0 (and-second a b e)),
-  λ r. rw (f .1 (r .0), g (r .0) .1 (r .1)),
-)
-
--- a test that is asked only where another passes
-pub if-iff : {a b : Bool} {B : Type 0} → (a ≡ true → b ≡ true ↔ B) → (not a || b) ≡ true ↔ (a ≡ true → B)
-if-iff {a = true} g = (λ e t. g refl .0 e, λ h. g refl .1 (h refl))
-if-iff {a = false} g = (λ e t. let z : _≡_ {A = ℕ} 0 1 = cc in let f : ⊥ = omega arith in absurd f, λ h. refl)
-
-pub every-iff : (n : ℕ) (w : ℕ → Bool) {A : ℕ → Type 0} → ((i : ℕ) → i < n → w i ≡ true ↔ A i) → every n w ≡ true ↔ ((i : ℕ) → i < n → A i)
-every-iff n w h = (λ e i p. h i p .0 (every-at n w e i p), λ r. at-every n w (λ i p. h i p .1 (r i p)))
+use Rattle.case.specs.claims.Says.{Says, Between}
+use Rattle.case.specs.inside.SaysLaws.{within-says, same-says}
+use Rattle.case.specs.inside.FieldLaws.{first-yes, second-yes, item-yes}
 
 -- ---- questions
 
-pub asks-iff : (number place : ℕ) {b : Bool} {A : Type 0} → (b ≡ true ↔ A) → firstNo (asks number place b ∷ []) ≡ Yes ↔ A
-asks-iff number place {b} h = (λ y. h .0 (all-yes (asks number place b ∷ []) y .0), λ a. rw (h .1 a))
+pub asks-iff : (number place : ℕ) {b : Bool} {A : Type 0} → Says b A → firstNo (asks number place b ∷ []) ≡ Yes ↔ A
+asks-iff number place {b} h = (λ y. h .fact (all-yes (asks number place b ∷ []) y .0), λ a. rw (h .passed a))
 
 -- the facts of the first group are known when the second is asked
 pub append-iff : (X Y : List Question) {A B : Type 0} → (firstNo X ≡ Yes ↔ A) → (A → firstNo Y ≡ Yes ↔ B) → firstNo (X ++ Y) ≡ Yes ↔ A × B
@@ -84,16 +62,16 @@ module _ (at end : ℕ → ℕ) (next : (j : ℕ) → (at (suc j) ≡ end j) × 
 -- ---- one field
 
 pub within : {low z high : ℤ} → (leZ low z && leZ z high) ≡ true → Between low z high
-within {low} {z} {high} e = record { least = and-first _ _ e; most = and-second (leZ low z) _ e }
+within {low} {z} {high} = within-says low z high .fact
 
 pub kept : {low z high : ℤ} → Between low z high → (leZ low z && leZ z high) ≡ true
-kept r = rw (r .least, r .most)
+kept {low} {z} {high} = within-says low z high .passed
 
 pub exactly : (z n : ℤ) → (leZ n z && leZ z n) ≡ true → z ≡ n
-exactly z n e = let r : Between n z n = within e in omega ints
+exactly z n e = let q = same-says n z .fact e in omega ints
 
 pub is-exactly : (z n : ℤ) → z ≡ n → (leZ n z && leZ z n) ≡ true
-is-exactly z n e = let r : Between n z n = omega ints in kept r
+is-exactly z n e = same-says n z .passed (omega ints)
 
 -- an index among the first n, and one among the n from `offset` on
 pub early : (i n : ℕ) {m : ℕ} → n ≤ m → T (ltb i n) → ltb i m ≡ true

@@ -1,15 +1,9 @@
--- A number in its range, and so the two sets of a direction.
+-- The two sets of a direction in their range.
 -- Assumes nothing.
-use mathlib.Core.Path.{_≡_}
-use mathlib.Core.Bool.{true}
-use lib.IntN.{ℤ, pos}
-use lib.Signed.{leZ}
+use lib.IntN.{pos}
 use Rattle.case.specs.declared.records.Direction.{Direction}
 use Rattle.case.specs.law.StationFields.{firstItems}
-
-pub record Between (low z high : ℤ) : Type 0 where
-  pub least : leZ low z ≡ true
-  pub most : leZ z high ≡ true
+use Rattle.case.specs.claims.Says.{Between}
 
 pub record DirectionRanges (d : Direction) : Type 0 where
   pub entry : Between (pos 0) (d .entry) (firstItems 60)

@@ -8,14 +8,14 @@ use mathlib.Core.Logic.{_⊎_, inl, inr, ⊎-elim}
 use Prim.Native.Nat.{ℕ, zero, suc, _+_, _*_, _/_, _^_, _<_, _≤_, max}
 use native.Mathlib.Nat.{pow-suc, one-mul, add-comm}
 use native.Mathlib.Omega.{arith}
-use borrow.Author.Tests.{ltb-true, ltb-false, lt-ltb, eqb-true, eqb-false, eq-eqb, ne-eqb}
+use borrow.Author.Tests.{ltb-true, ltb-false, lt-ltb, eqb-true, eq-eqb, ne-eqb}
 use lib.Bits.{bitOr, or-shr, or-step, or-shifted}
 use lib.Dec.{eqb, ltb, eqb·zero-suc, eqb·suc-zero, eqb·suc-suc}
 use lib.IntN.{ℤ, pos}
 use Rattle.numbers.specs.law.Signed.{posPart}
 use Rattle.numbers.specs.inside.SignedParts.{ints, size}
 use Rattle.numbers.specs.law.Sets.{bit, memberOf, subsetOf}
-use Rattle.numbers.specs.inside.SetLaws.{bit-suc, bit-zero, bit-high, subset-is, is-subset}
+use Rattle.numbers.specs.inside.SetLaws.{bit-suc, bit-zero, bit-high}
 use Rattle.numbers.specs.law.Sums.{sumN, onlyN}
 use Rattle.case.specs.law.Layout.{arcsOf}
 use Rattle.case.specs.law.Records.{arcOf}
@@ -24,7 +24,8 @@ use Rattle.case.specs.law.StationNodes.{withNode, endsOf, stationNodes, 
 use Rattle.case.specs.law.StationFields.{firstItems}
 use Rattle.case.specs.law.Directions.{onlyFence}
 use Rattle.case.specs.inside.FieldLaws.{and-first, and-second}
-use Rattle.case.specs.inside.Ranges.{Between}
+use Rattle.case.specs.claims.Says.{Between}
+use Rattle.case.specs.inside.SaysLaws.{subset-says}
 use Rattle.case.specs.inside.InSet.{inBoth}
 use Rattle.case.specs.inside.CountLaws.{before-yes, before-mono, arcs-lt, every-at, at-every}
 
@@ -198,22 +199,6 @@ either true b f g = sym (f refl)
 either false true f g = g refl
 either false false f g = refl
 
-bit-le : (n i : ℕ) → bit n i ≤ 1
-bit-le n i = omega arith
-
--- a subset, by its members
-pub subset-members : (a b : ℤ) → subsetOf a b ≡ true → (i : ℕ) → memberOf a i ≡ true → memberOf b i ≡ true
-subset-members a b e i m =
-    let x = eqb-true (bit (posPart a) i) 1 m in
-    eq-eqb (bit (posPart b) i) 1 (omega (arith, x, subset-is (posPart a) (posPart b) (eqb-true _ _ e) i, bit-le (posPart b) i))
-
-pub members-subset : (k : ℕ) (a b : ℤ) → posPart a < 2 ^ k → ((i : ℕ) → memberOf a i ≡ true → memberOf b i ≡ true) → subsetOf a b ≡ true
-members-subset k a b h f = eq-eqb _ _ (is-subset k (posPart a) (posPart b) h (λ i. go i (memberOf a i) refl))
-  where
-    go : (i : ℕ) (t : Bool) → memberOf a i ≡ t → bit (posPart a) i ≤ bit (posPart b) i
-    go i true e = let y = eqb-true (bit (posPart b) i) 1 (f i e) in omega (arith, y, bit-le (posPart a) i)
-    go i false e = let n = eqb-false (bit (posPart a) i) 1 e in let l = bit-le (posPart a) i in omega (arith, n, l)
-
 pub node-set : {set : ℤ} → Between (pos 0) set (firstItems 60) → posPart set < 2 ^ 60
 node-set {set} r = omega (ints, r .most, size set)
 
@@ -240,10 +225,10 @@ pub only-both : (inside plain set : ℤ) → posPart set < 2 ^ 60 → (subsetOf 
 only-both inside plain set h =
     either (subsetOf set inside && subsetOf set plain) (onlyFence (inBoth inside plain) set)
     (λ e. at-only (inBoth inside plain) set (λ v m. both _ _
-    (subset-members set inside (and-first _ _ e) v m)
-    (subset-members set plain (and-second (subsetOf set inside) _ e) v m)))
-    (λ e. both _ _ (members-subset 60 set inside h (λ v m. and-first _ _ (only-at (inBoth inside plain) set h e v m)))
-    (members-subset 60 set plain h (λ v m. and-second (memberOf inside v) _ (only-at (inBoth inside plain) set h e v m))))
+    (subset-says set inside .fact (and-first _ _ e) v m)
+    (subset-says set plain .fact (and-second (subsetOf set inside) _ e) v m)))
+    (λ e. both _ _ (subset-says set inside .passed (λ v m. and-first _ _ (only-at (inBoth inside plain) set h e v m)))
+    (subset-says set plain .passed (λ v m. and-second (memberOf inside v) _ (only-at (inBoth inside plain) set h e v m))))
   where
     both : (a b : Bool) → a ≡ true → b ≡ true → (a && b) ≡ true
     both a b p q = rw (p, q)

@@ -19,6 +19,8 @@ use Rattle.case.specs.inside.CountLaws.{every-at}
 use Rattle.case.specs.inside.FieldLaws.{and-first, and-second}
 use Rattle.case.specs.law.Layout.{massTolerance, pressureTolerance}
 use Rattle.case.specs.law.Records.{nodeOf, arcOf, pipeOf, artificialOf}
+use Rattle.case.specs.claims.Says.{Says, Between}
+use Rattle.case.specs.inside.SaysLaws.{means, both, pick, choose, always, when, leb-says, eqb-says, le-says, within-says, same-says, zero-says, subset-says}
 use Rattle.plan.specs.declared.rows.ArcRow.{ArcRow}
 use Rattle.plan.specs.declared.setting.Way.{Way}
 use Rattle.plan.specs.declared.setting.Way.the-variants.{Forward, Backward}
@@ -34,8 +36,6 @@ use Rattle.plan.specs.law.Machines.{machineFlow, machineGain}
 use Rattle.plan.specs.law.ArcPressures.{compressionKept, modePressures, settingPressures, pressuresKept}
 use Rattle.plan.specs.law.ArcMachines.{flowAlong, machinesCarry, settingMachines, machinesUsed}
 use Rattle.plan.specs.law.Pipes.{duration, change, pipeImbalance, pipeResidual, pipeMassKept, pressureBalance, pipePressuresKept}
-use Rattle.plan.specs.claims.Says.{Says, In}
-use Rattle.plan.specs.inside.SaysLaws.{means, both, pick, choose, always, when, leb-says, eqb-says, le-says, within-says, same-says, zero-says, subset-says}
 
 -- "Setting: valve 0 shut, 1 open; kinds 3 to 5: 0 off, 1 forward, 2 backward; combined: 0 off, 1 and 2 regulating forward and backward, 3 and 4 compressing
 -- forward and backward; else 0": a kind's last setting
@@ -45,12 +45,12 @@ lastSetting kind = cond (eqb kind 0) 1 (cond (leb kind 2) 0 (cond (leb kind 5) 2
 -- 24: "Are flows 0..qmax (pipe -qmax..qmax), unused numbers 0 (regulator b; machines of kinds 0 to 4), setting known and, on a one-way arc, not backward, and
 -- machines within the arc's set?" Settings 2 and 4 are backward; kinds 0 to 2 have neither.
 pub record Rule24 (c : Arc) (x : Artificial) (r : ArcRow) : Type 0 where
-  pub a : c .kind ≢ 2 → In (pos 0) (r .a) (c .qmax)
-  pub b : c .kind ≢ 2 → c .kind ≢ 1 → In (pos 0) (r .b) (c .qmax)
-  pub pipe : c .kind ≡ 2 → In (pos 0 -ℤ c .qmax) (r .a) (c .qmax) × In (pos 0 -ℤ c .qmax) (r .b) (c .qmax)
+  pub a : c .kind ≢ 2 → Between (pos 0) (r .a) (c .qmax)
+  pub b : c .kind ≢ 2 → c .kind ≢ 1 → Between (pos 0) (r .b) (c .qmax)
+  pub pipe : c .kind ≡ 2 → Between (pos 0 -ℤ c .qmax) (r .a) (c .qmax) × Between (pos 0 -ℤ c .qmax) (r .b) (c .qmax)
   pub regulator : c .kind ≡ 1 → r .b ≡ pos 0
   pub unused : c .kind ≤ 4 → r .machines ≡ pos 0
-  pub known : In (pos 0) (r .setting) (pos (lastSetting (c .kind)))
+  pub known : Between (pos 0) (r .setting) (pos (lastSetting (c .kind)))
   pub oneway : x .bothways ≡ 0 → (r .setting ≢ pos 2) × (r .setting ≢ pos 4)
   pub machines : 5 ≤ c .kind → (pos 0 ≤ℤ r .machines) × ((m : ℕ) → memberOf (r .machines) m ≡ true → memberOf (x .machines) m ≡ true)
 
@@ -96,7 +96,7 @@ like false true e s = absurd (false≢true e)
 like false false e s = s
 
 setting-says : (kind ways : ℕ) (z : ℤ) → kind ≤ 6
-    → Says (settingAllowed (leb 1 ways) (settingOf kind z)) (In (pos 0) z (pos (lastSetting kind)) × (ways ≡ 0 → (z ≢ pos 2) × (z ≢ pos 4)))
+    → Says (settingAllowed (leb 1 ways) (settingOf kind z)) (Between (pos 0) z (pos (lastSetting kind)) × (ways ≡ 0 → (z ≢ pos 2) × (z ≢ pos 4)))
 unfolding agrees settingOf
 setting-says kind ways (negsuc n) h = record { fact = λ e. absurd (false≢true e); passed = λ f. absurd (f .0 .least .le) }
 setting-says kind ways (pos n) h =
@@ -109,7 +109,7 @@ setting-says kind ways (pos n) h =
     some h = omega arith
 
 flows-says : (c : Arc) (r : ArcRow) (low : ℤ) → Says (within low (r .a) (c .qmax) && within low (r .b) (mostBackward c))
-    (In low (r .a) (c .qmax) × ((c .kind ≡ 1 → In low (r .b) (pos 0)) × (c .kind ≢ 1 → In low (r .b) (c .qmax))))
+    (Between low (r .a) (c .qmax) × ((c .kind ≡ 1 → Between low (r .b) (pos 0)) × (c .kind ≢ 1 → Between low (r .b) (c .qmax))))
 flows-says c r low = both (within-says _ _ _) (pick (within low (r .b)) (eqb-says (c .kind) 1) (within-says _ _ _) (within-says _ _ _))
 
 pub rule24-says : (c : Arc) (x : Artificial) (r : ArcRow) → c .kind ≤ 6 → Says (arcNumbersKept c x r) (Rule24 c x r)

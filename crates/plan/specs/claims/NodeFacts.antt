@@ -14,13 +14,13 @@ use lib.Signed.{_≤ℤ_}
 use Rattle.numbers.specs.inside.SignedParts.{ints}
 use Rattle.case.specs.declared.records.Node.{Node}
 use Rattle.case.specs.law.Layout.{numberAt, nodesOf, arcsOf, stationsOf, stepsOf}
+use Rattle.case.specs.claims.Says.{Says, Between}
+use Rattle.case.specs.inside.SaysLaws.{means, both, pick, unless, eqb-says, le-says, within-says, same-says, zero-says}
 use Rattle.plan.specs.declared.rows.NodeRow.{NodeRow}
 use Rattle.plan.specs.law.Compared.{within}
 use Rattle.plan.specs.law.PlanLayout.{stepWidth, stepAt}
 use Rattle.plan.specs.law.PlanHead.{headKept}
 use Rattle.plan.specs.law.NodeRules.{slackLimit, slacksKept, boundaryFlowKept, nodeNumbersKept, demandMet, activeBoundsKept}
-use Rattle.plan.specs.claims.Says.{Says, In}
-use Rattle.plan.specs.inside.SaysLaws.{means, both, pick, unless, eqb-says, le-says, within-says, same-says, zero-says}
 
 -- 20: "are the first two numbers 1 and k, and is the length 2 + k × (6N + 4A + 2S)?"
 pub record Rule20 (case plan : List ℤ) : Type 0 where
@@ -38,29 +38,30 @@ rule20-says case plan =
 -- 21: "Is p within low..high; d at or above 0 at a source, at or below 0 at a sink, size at most 10,000,000; s within 0..10,000,000; u+ within 0..actlow-low,
 -- u- within 0..high-acthigh; all five 0 at an inner node?"
 pub record Rule21 (n : Node) (r : NodeRow) : Type 0 where
-  pub p : In (n .low) (r .p) (n .high)
-  pub source : n .kind ≡ 1 → In (pos 0) (r .d) (pos 10000000)
-  pub sink : n .kind ≡ 2 → In (negsuc 9999999) (r .d) (pos 0)
-  pub splus : n .kind ≢ 0 → In (pos 0) (r .splus) (pos 10000000)
-  pub sminus : n .kind ≢ 0 → In (pos 0) (r .sminus) (pos 10000000)
-  pub uplus : n .kind ≢ 0 → In (pos 0) (r .uplus) (n .actlow -ℤ n .low)
-  pub uminus : n .kind ≢ 0 → In (pos 0) (r .uminus) (n .high -ℤ n .acthigh)
+  pub p : Between (n .low) (r .p) (n .high)
+  pub source : n .kind ≡ 1 → Between (pos 0) (r .d) (pos 10000000)
+  pub sink : n .kind ≡ 2 → Between (negsuc 9999999) (r .d) (pos 0)
+  pub splus : n .kind ≢ 0 → Between (pos 0) (r .splus) (pos 10000000)
+  pub sminus : n .kind ≢ 0 → Between (pos 0) (r .sminus) (pos 10000000)
+  pub uplus : n .kind ≢ 0 → Between (pos 0) (r .uplus) (n .actlow -ℤ n .low)
+  pub uminus : n .kind ≢ 0 → Between (pos 0) (r .uminus) (n .high -ℤ n .acthigh)
   pub inner : n .kind ≡ 0 → (r .d ≡ pos 0) × (r .splus ≡ pos 0) × (r .sminus ≡ pos 0) × (r .uplus ≡ pos 0) × (r .uminus ≡ pos 0)
 
 flow-says : (kind : ℕ) (d : ℤ) → kind ≤ 2
-    → Says (boundaryFlowKept kind d) ((kind ≡ 0 → d ≡ pos 0) × (kind ≡ 1 → In (pos 0) d (pos 10000000)) × (kind ≡ 2 → In (negsuc 9999999) d (pos 0)))
+    → Says (boundaryFlowKept kind d) ((kind ≡ 0 → d ≡ pos 0) × (kind ≡ 1 → Between (pos 0) d (pos 10000000)) × (kind ≡ 2 → Between (negsuc 9999999) d (pos 0)))
 unfolding boundaryFlowKept
 flow-says kind d h = go (eqb kind 0) (eqb kind 1) refl refl
   where
     go : (a b : Bool) → eqb kind 0 ≡ a → eqb kind 1 ≡ b
-        → Says (boundaryFlowKept kind d) ((kind ≡ 0 → d ≡ pos 0) × (kind ≡ 1 → In (pos 0) d (pos 10000000)) × (kind ≡ 2 → In (negsuc 9999999) d (pos 0)))
+        → Says (boundaryFlowKept kind d)
+        ((kind ≡ 0 → d ≡ pos 0) × (kind ≡ 1 → Between (pos 0) d (pos 10000000)) × (kind ≡ 2 → Between (negsuc 9999999) d (pos 0)))
     go true b p q = rw (eqb-true kind 0 p) (means (zero-says d) (λ t. omega ints) (λ f. omega (ints, f .0 refl)))
     go false true p q = rw (eqb-true kind 1 q) (means (within-says (pos 0) d (pos 10000000)) (λ t. omega ints) (λ f. f .1 refl))
     go false false p q =
         let k : kind ≡ 2 = omega (arith, eqb-false kind 0 p, eqb-false kind 1 q) in
         rw k (means (within-says (negsuc 9999999) d (pos 0)) (λ t. omega ints) (λ f. f .2 refl))
 
-slack-says : (kind : ℕ) (x limit : ℤ) → Says (within (pos 0) x (slackLimit kind limit)) ((kind ≡ 0 → x ≡ pos 0) × (kind ≢ 0 → In (pos 0) x limit))
+slack-says : (kind : ℕ) (x limit : ℤ) → Says (within (pos 0) x (slackLimit kind limit)) ((kind ≡ 0 → x ≡ pos 0) × (kind ≢ 0 → Between (pos 0) x limit))
 slack-says kind x limit =
     means (pick (within (pos 0) x) (eqb-says kind 0) (within-says (pos 0) x (pos 0)) (within-says (pos 0) x limit))
     (λ t. (λ k. omega (ints, t .0 k), t .1))

@@ -7,7 +7,7 @@ use Prim.Native.Nat.{ℕ, _<_}
 use lib.IntN.{ℤ}
 use Rattle.case.specs.law.Layout.{nodesOf, arcsOf, stationsOf, stepsOf}
 use Rattle.case.specs.law.Records.{nodeOf, arcOf, artificialOf, stationOf}
-use Rattle.case.specs.inside.AcceptedCase.{at-most}
+use Rattle.case.specs.inside.AcceptedCase.{at-most, below}
 use Rattle.case.specs.claims.CaseRules.{CaseRules}
 use Rattle.case.specs.claims.Acceptance.{accepted-rules, rules-accepted}
 use Rattle.plan.specs.declared.totals.Totals.{Totals}
@@ -20,7 +20,7 @@ use Rattle.plan.specs.law.Judged.{verdictTold, judgeOf}
 use Rattle.plan.specs.claims.Acceptance.{PlanRules, sound, complete}
 use Rattle.plan.specs.claims.NodeFacts.{Rule20, Rule21, Rule22, Rule23, rule20-says, rule21-says, rule22-says, rule23-says}
 use Rattle.plan.specs.claims.ArcFacts.{Rule24, Rule25, Rule26, Rule27, Rule28, Rule29, rule24-says, rule25-says, rule26-says, rule27-says, rule28-says, rule29-says}
-use Rattle.plan.specs.claims.StationFacts.{Rule30, Rule31, Rule32, Rule33, rule30-says, rule31-says, rule32-says, rule33-says, in-one-of}
+use Rattle.plan.specs.claims.StationFacts.{Rule30, Rule31, Rule32, Rule33, rule30-says, rule31-says, rule32-says, rule33-says}
 
 -- Steps go by index from 0: index i is document 01's step i + 1.
 pub record PlanFacts (case plan : List ℤ) : Type 0 where
@@ -43,7 +43,7 @@ pub record PlanFacts (case plan : List ℤ) : Type 0 where
 module _ (case plan : List ℤ) where
   -- the direction that has passed 30 is one of the station's, which 32 leans on
   chosen : (i s : ℕ) → Rule30 case (stepRows case plan i) s → directionIn case (stepRows case plan i) s < stationOf case s .directions
-  chosen i s f = in-one-of _ _ (f .direction)
+  chosen i s f = below (f .direction)
 
   facts-of : PlanRules case plan → PlanFacts case plan
   facts-of r =

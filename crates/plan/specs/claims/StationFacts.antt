@@ -9,23 +9,24 @@ use lib.IntN.{ℤ, pos, natAbs, _-ℤ_}
 use lib.Signed.{_≤ℤ_}
 use Rattle.numbers.specs.law.Signed.{posPart}
 use Rattle.numbers.specs.inside.SignedParts.{ints, size, taken}
-use Rattle.numbers.specs.law.Sets.{memberOf, subsetOf, disjointOf}
+use Rattle.numbers.specs.law.Sets.{memberOf}
 use Rattle.case.specs.declared.records.Direction.{Direction}
 use Rattle.case.specs.declared.records.State.{State}
 use Rattle.case.specs.law.Layout.{nodesOf, arcsOf, stationsOf, massTolerance}
 use Rattle.case.specs.law.Field.{lastOf}
 use Rattle.case.specs.law.Records.{stationOf, directionOf, stateOf}
-use Rattle.case.specs.law.StationArcs.{belongs, arcsBefore, stationArcs}
+use Rattle.case.specs.law.StationArcs.{belongs, arcsBefore}
 use Rattle.case.specs.law.StationNodes.{fenceNode}
-use Rattle.case.specs.inside.SetLaws.{arc-member}
+use Rattle.case.specs.inside.ArcItems.{on-says, off-says}
+use Rattle.case.specs.inside.AcceptedCase.{below}
 use Rattle.case.specs.inside.FieldLaws.{and-first, and-second}
 use Rattle.case.specs.claims.CaseRules.{CaseRules, Rule16}
+use Rattle.case.specs.claims.Says.{Says, Between}
+use Rattle.case.specs.inside.SaysLaws.{means, then, both, choose, when, all, flag-says, ltb-says, le-says, zero-says, one-says}
 use Rattle.plan.specs.law.PlanRecords.{nodeRow, arcRow, choiceOf, activeIn, directionIn, stateIn}
 use Rattle.plan.specs.law.Pipes.{duration}
 use Rattle.plan.specs.law.StationRules.{oneOf, activeSet, obeyed, choiceKept, onArc, machinesOnce, stationFlow, fenceNodeKept, fenceKept, fenceFlowsKept}
 use Rattle.plan.specs.law.Balance.{outflow, inflow, netFlow, nodeImbalance, nodeResidual, balanceKept}
-use Rattle.plan.specs.claims.Says.{Says, In}
-use Rattle.plan.specs.inside.SaysLaws.{means, then, both, choose, when, all, nth, flag-says, ltb-says, le-says, zero-says, subset-says, disjoint-says, one-says}
 
 -- the direction and the state that the station has in the step
 abbrev pub chosenDirection : List ℤ → List ℤ → ℕ → Direction
@@ -41,55 +42,52 @@ IsActive case rows e = (pos 1) ≤ℤ (arcRow case rows e .setting)
 -- 30: "Are direction and state in range, does the state support the direction, are all on arcs active and no off arc?" Arc e is the one of the
 -- station's that has `arcsBefore case s e` of them before it.
 pub record Rule30 (case rows : List ℤ) (s : ℕ) : Type 0 where
-  pub direction : In (pos 0) (choiceOf case rows s .direction) (lastOf (stationOf case s .directions))
-  pub state : In (pos 0) (choiceOf case rows s .state) (lastOf (stationOf case s .states))
+  pub direction : Between (pos 0) (choiceOf case rows s .direction) (lastOf (stationOf case s .directions))
+  pub state : Between (pos 0) (choiceOf case rows s .state) (lastOf (stationOf case s .states))
   pub supports : memberOf (chosenState case rows s .directions) (directionIn case rows s) ≡ true
   pub on : (e : ℕ) → e < arcsOf case → belongs case s e ≡ true → memberOf (chosenState case rows s .on) (arcsBefore case s e) ≡ true → IsActive case rows e
   pub off : (e : ℕ) → e < arcsOf case → belongs case s e ≡ true → memberOf (chosenState case rows s .off) (arcsBefore case s e) ≡ true → ¬ IsActive case rows e
 
-one-of-says : (x : ℤ) (n : ℕ) → Says (oneOf x n) (In (pos 0) x (lastOf n))
+one-of-says : (x : ℤ) (n : ℕ) → Says (oneOf x n) (Between (pos 0) x (lastOf n))
 one-of-says x n =
     let t = taken (pos n) (pos 1) in
     means (both (le-says (pos 0) x) (ltb-says (posPart x) n)) (λ h. omega (ints, t, size x)) (λ h. omega (ints, t, size x))
 
-pub in-one-of : (x : ℤ) (n : ℕ) → In (pos 0) x (lastOf n) → posPart x < n
-in-one-of x n h = omega (ints, taken (pos n) (pos 1), size x)
-
--- a set that names only the station's arcs, arc by arc
-module _ (case rows : List ℤ) (s : ℕ) where
-  active-says : (e : ℕ) → e < arcsOf case → belongs case s e ≡ true → Says (memberOf (activeSet case rows s) (arcsBefore case s e)) (IsActive case rows e)
-  unfolding activeSet
-  active-says e p b = rw (arc-member case s (activeIn case rows) (arcsOf case) e p b) (le-says _ _)
-
-  module _ (set : ℤ) (own : (j : ℕ) → memberOf set j ≡ true → j < stationArcs case s) where
-    arc-of : (j : ℕ) → memberOf set j ≡ true → (e : ℕ) × (e < arcsOf case) × (belongs case s e ≡ true) × (arcsBefore case s e ≡ j)
-    unfolding arcsBefore
-    arc-of j m = nth (belongs case s) (arcsOf case) j (own j m)
-
-    on-says : Says (subsetOf set (activeSet case rows s))
-        ((e : ℕ) → e < arcsOf case → belongs case s e ≡ true → memberOf set (arcsBefore case s e) ≡ true → IsActive case rows e)
-    on-says =
-        means (subset-says set (activeSet case rows s)) (λ t e p b m. active-says e p b .fact (t _ m))
-        (λ f j m. let x = arc-of j m in rw (x .3) at (active-says (x .0) (x .1) (x .2) .passed (f (x .0) (x .1) (x .2) (rw (x .3) m))))
-
-    off-says : Says (disjointOf set (activeSet case rows s))
-        ((e : ℕ) → e < arcsOf case → belongs case s e ≡ true → memberOf set (arcsBefore case s e) ≡ true → IsActive case rows e → ⊥)
-    off-says =
-        means (disjoint-says set (activeSet case rows s)) (λ t e p b m h. t _ m (active-says e p b .passed h))
-        (λ f j m h. let x = arc-of j m in f (x .0) (x .1) (x .2) (rw (x .3) m) (active-says (x .0) (x .1) (x .2) .fact (rw (x .3) h)))
-
 pub rule30-says : (case rows : List ℤ) (s : ℕ) → CaseRules case → s < stationsOf case → Says (choiceKept case rows s) (Rule30 case rows s)
-unfolding choiceKept obeyed
+unfolding choiceKept obeyed activeSet
 rule30-says case rows s ok p =
     let c = choiceOf case rows s in
     let z = chosenState case rows s in
     let own = stationOf case s in
     means (both (one-of-says (c .direction) (own .directions)) (then (one-of-says (c .state) (own .states)) (λ h.
-    let q = in-one-of (c .state) (own .states) h in
+    let q = below h in
+    let named = ok .rule17-states s _ p q in
+    let active = activeIn case rows in
     both (flag-says (memberOf (z .directions) (directionIn case rows s)))
-    (both (on-says case rows s (z .on) (ok .rule17-states s _ p q .on)) (off-says case rows s (z .off) (ok .rule17-states s _ p q .off))))))
-    (λ t. record { direction = t .0; state = t .1 .0; supports = t .1 .1 .0; on = t .1 .1 .1 .0; off = t .1 .1 .1 .1 })
-    (λ f. (f .direction, (f .state, (f .supports, (f .on, f .off)))))
+    (both (on-says case s active (z .on) (named .on)) (off-says case s active (z .off) (named .off))))))
+    (λ t. record {
+      direction = t .0;
+      state = t .1 .0;
+      supports = t .1 .1 .0;
+      on = λ e l b m. is-active e .fact (t .1 .1 .1 .0 e l b m);
+      off = λ e l b m h. t .1 .1 .1 .1 e l b m (is-active e .passed h);
+    })
+    (λ f. (
+      f .direction,
+      (
+        f .state,
+        (
+          f .supports,
+          (
+            λ e l b m. is-active e .passed (f .on e l b m),
+            λ e l b m h. f .off e l b m (is-active e .fact h),
+          ),
+        ),
+      ),
+    ))
+  where
+    is-active : (e : ℕ) → Says (activeIn case rows e) (IsActive case rows e)
+    is-active e = le-says _ _
 
 -- 31: "Is each machine on at most one arc?" No machine of the station is in the sets of two arcs of the station.
 abbrev pub Rule31 : List ℤ → List ℤ → ℕ → Type 0

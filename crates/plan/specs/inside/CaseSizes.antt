@@ -21,7 +21,7 @@ use Rattle.case.specs.law.StationFields.{firstItems}
 use Rattle.case.specs.law.StationArcs.{belongs, stationArcs}
 use Rattle.case.specs.law.Judged.{listQuestions}
 use Rattle.case.specs.inside.Counts.{Counted}
-use Rattle.case.specs.inside.Ranges.{Between}
+use Rattle.case.specs.claims.Says.{Between}
 use Rattle.case.specs.inside.CaseRows.{demand-iff, four}
 use Rattle.case.specs.claims.CaseRules.{CaseRules}
 use Rattle.case.specs.inside.AcceptedCase as laws

@@ -18,7 +18,7 @@ use Rattle.numbers.specs.inside.SumLaws.{sumN-cong}
 use Rattle.case.specs.law.Layout.{nodesOf}
 use Rattle.case.specs.inside.FieldLaws.{and-second}
 use Rattle.case.specs.law.StationFields.{firstItems}
-use Rattle.case.specs.inside.SetItems.{first-iff, first-below}
+use Rattle.case.specs.inside.SaysLaws.{first-says, first-below}
 use Rattle.plan.specs.law.Ledger.{isNodeSet, namesNodes}
 
 module _ (case : List ℤ) (set : ℤ) (kept : namesNodes case set ≡ true) where
@@ -28,7 +28,7 @@ module _ (case : List ℤ) (set : ℤ) (kept : namesNodes case set ≡ true) whe
 
   -- every item is a node
   pub only-nodes : (u : ℕ) → memberOf set u ≡ true → u < nodesOf case
-  only-nodes = first-iff set (nodesOf case) .0 within
+  only-nodes = first-says set (nodesOf case) .fact within
 
   -- so the count of its items is that of the nodes in it
   pub nodes-counted : countOf set ≡ count (nodesOf case) (memberOf set)
@@ -50,7 +50,7 @@ unfolding namesNodes
 nodes-pass case set few whole items = rw (whole, top, inside)
   where
     inside : subsetOf set (firstItems (nodesOf case)) ≡ true
-    inside = first-iff set (nodesOf case) .1 items
+    inside = first-says set (nodesOf case) .passed items
 
     top : leZ set (firstItems 60) ≡ true
     top =

@@ -11,6 +11,6 @@ pub record Says (test : Bool) (Fact : Type 0) : Type 0 where
   pub passed : Fact → test ≡ true
 
 -- a number in its range
-pub record In (low x high : ℤ) : Type 0 where
+pub record Between (low x high : ℤ) : Type 0 where
   pub least : low ≤ℤ x
   pub most : x ≤ℤ high

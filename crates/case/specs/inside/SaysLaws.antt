@@ -1,26 +1,27 @@
--- The tests of the definitions as facts, both ways: what a test says is put together as the test is.
+-- Tests as facts, both ways: what a test says is put together as the test is. Sets and counts go by their items.
 -- Assumes nothing.
-use mathlib.Core.Path.{_≡_, refl, ap}
+use mathlib.Core.Path.{_≡_, refl, ap, _∙_}
 use mathlib.Core.Bool.{Bool, true, false, false≢true, cond, not, _&&_, _||_}
-use Prim.Native.Nat.{ℕ, zero, suc, _+_, _-_, _^_, _<_, _≤_}
-use native.Mathlib.Nat.{two-pow-succ}
+use Prim.Native.Nat.{ℕ, zero, suc, _+_, _-_, _/_, _^_, _<_, _≤_}
+use native.Mathlib.Nat.{pow-succ', two-pow-succ}
 use native.Mathlib.Numerals.{add-one}
 use native.Mathlib.Omega.{arith}
 use borrow.Author.Tests.{leb-true, leb-false, le-leb, ltb-true, ltb-false, lt-ltb, eqb-true, eqb-false, eq-eqb}
-use lib.Bits.{bitAnd}
+use lib.Bits.{bitAnd, and-le-r}
 use lib.Dec.{eqb, leb, ltb}
 use lib.IntN.{ℤ, pos}
+use lib.Pow.{pow-pos}
 use lib.Signed.{leZ, _≤ℤ_}
 use Rattle.numbers.specs.law.Signed.{posPart}
 use Rattle.numbers.specs.inside.SignedParts.{ints}
 use Rattle.numbers.specs.law.Sets.{bit, memberOf, subsetOf, disjointOf}
-use Rattle.numbers.specs.inside.SetLaws.{subset-is, is-subset, disjoint-is, is-disjoint}
+use Rattle.numbers.specs.inside.SetLaws.{bit-suc, bit-high, subset-is, is-subset, disjoint-is, is-disjoint}
 use Rattle.numbers.specs.law.Sums.{count}
+use Rattle.case.specs.law.StationFields.{firstItems}
 use Rattle.case.specs.law.StationArcs.{every}
 use Rattle.case.specs.inside.CountLaws.{every-at, at-every, count-none, count-yes, count-no, count-grows}
 use Rattle.case.specs.inside.FieldLaws.{and-first, and-second}
-use Rattle.plan.specs.law.Compared.{within, same, isZero}
-use Rattle.plan.specs.claims.Says.{Says, In}
+use Rattle.case.specs.claims.Says.{Says, Between}
 
 -- ---- tests put together
 
@@ -80,14 +81,14 @@ eqb-says a b = record { fact = eqb-true a b; passed = eq-eqb a b }
 pub ltb-says : (a b : ℕ) → Says (ltb a b) (a < b)
 ltb-says a b = record { fact = ltb-true a b; passed = lt-ltb a b }
 
-pub within-says : (low x high : ℤ) → Says (within low x high) (In low x high)
+pub within-says : (low x high : ℤ) → Says (leZ low x && leZ x high) (Between low x high)
 within-says low x high =
     means (both (le-says low x) (le-says x high)) (λ t. record { least = t .0; most = t .1 }) (λ r. (r .least, r .most))
 
-pub same-says : (a b : ℤ) → Says (same a b) (a ≡ b)
+pub same-says : (a b : ℤ) → Says (leZ a b && leZ b a) (a ≡ b)
 same-says a b = means (both (le-says a b) (le-says b a)) (λ t. omega ints) (λ e. omega ints)
 
-pub zero-says : (x : ℤ) → Says (isZero x) (x ≡ pos 0)
+pub zero-says : (x : ℤ) → Says (leZ x (pos 0) && leZ (pos 0) x) (x ≡ pos 0)
 zero-says x = same-says x (pos 0)
 
 -- ---- tests of sets
@@ -117,19 +118,49 @@ module _ (a b : ℤ) where
       (λ f. is-disjoint (posPart a) (posPart a) (posPart b) (below-power (posPart a))
       (λ i. in-or-not a i (λ m. in-or-not b i (λ n. absurd (f i m n)) (λ z. omega arith)) (λ z. omega arith)))
 
+-- the first n items
+first-bit : (n i : ℕ) → i < n → bit (2 ^ n - 1) i ≡ 1
+first-bit zero i h = let f : ⊥ = omega arith in absurd f
+first-bit (suc n) zero h = omega (arith, pow-succ' 2 n, pow-pos n)
+first-bit (suc n) (suc i) h =
+    let e : (2 ^ suc n - 1) / 2 ≡ 2 ^ n - 1 = omega (arith, pow-succ' 2 n, pow-pos n) in
+    bit-suc (2 ^ suc n - 1) i ∙ ap (λ (m : ℕ). bit m i) e ∙ first-bit n i (omega arith)
+
+pub first-says : (set : ℤ) (n : ℕ) → Says (subsetOf set (firstItems n)) ((i : ℕ) → memberOf set i ≡ true → i < n)
+first-says set n =
+    means (subset-says set (firstItems n)) (λ f i m. go i (leb n i) refl (f i m)) (λ f i m. eq-eqb (bit (2 ^ n - 1) i) 1 (first-bit n i (f i m)))
+  where
+    go : (i : ℕ) (t : Bool) → leb n i ≡ t → memberOf (firstItems n) i ≡ true → i < n
+    go i true t o =
+        let b : 2 ^ n - 1 < 2 ^ n = omega (arith, pow-pos n) in
+        omega (arith, eqb-true (bit (2 ^ n - 1) i) 1 o, bit-high n (2 ^ n - 1) i b (leb-true n i t))
+    go i false t o = leb-false n i t
+
+pub first-below : (set : ℤ) (n : ℕ) → subsetOf set (firstItems n) ≡ true → posPart set < 2 ^ n
+first-below set n e =
+    let a : bitAnd (posPart set) (2 ^ n - 1) ≡ posPart set = eqb-true _ _ e in
+    omega (arith, and-le-r (posPart set) (2 ^ n - 1), pow-pos n)
+
 -- ---- tests of counts
 
+-- item j, counted from 0, of those of the first n that w names
+pub record Nth (w : ℕ → Bool) (n j : ℕ) : Type 0 where
+  pub item : ℕ
+  pub early : item < n
+  pub named : w item ≡ true
+  pub before : count item w ≡ j
+
 module _ (w : ℕ → Bool) where
-  -- the one of the first n that has j of its kind before it
-  pub nth : (n j : ℕ) → j < count n w → (i : ℕ) × (i < n) × (w i ≡ true) × (count i w ≡ j)
-  nth zero j h = absurd (omega (arith, count-none w))
-  nth (suc n) j h = go (λ l. let x = nth n j l in (x .0, omega arith, x .2, x .3)) (w n) refl (ltb j (count n w)) refl
+  pub nth : (n j : ℕ) → j < count n w → Nth w n j
+  nth zero j h = let f : ⊥ = omega (arith, count-none w) in absurd f
+  nth (suc n) j h = go (λ l. nth n j l) (ltb j (count n w)) refl (w n) refl
     where
-      go : (j < count n w → (i : ℕ) × (i < suc n) × (w i ≡ true) × (count i w ≡ j))
-          → (b : Bool) → w n ≡ b → (c : Bool) → ltb j (count n w) ≡ c → (i : ℕ) × (i < suc n) × (w i ≡ true) × (count i w ≡ j)
-      go r b p true q = r (ltb-true j (count n w) q)
-      go r true p false q = (n, omega arith, p, omega (arith, ltb-false j (count n w) q, rw (add-one n) at (count-yes w n p)))
-      go r false p false q = absurd (omega (arith, ltb-false j (count n w) q, rw (add-one n) at (count-no w n p)))
+      go : (j < count n w → Nth w n j) → (t : Bool) → ltb j (count n w) ≡ t → (b : Bool) → w n ≡ b → Nth w (suc n) j
+      go r true t b e = let k = r (ltb-true _ _ t) in record { item = k .item; early = omega arith; named = k .named; before = k .before }
+      go r false t true e =
+          let k : count n w ≡ j = omega (arith, rw (add-one n) at (count-yes w n e), ltb-false j (count n w) t) in
+          record { item = n; early = omega arith; named = e; before = k }
+      go r false t false e = let f : ⊥ = omega (arith, rw (add-one n) at (count-no w n e), ltb-false j (count n w) t) in absurd f
 
   two : (i j n : ℕ) → i < j → j < n → w i ≡ true → w j ≡ true → 2 ≤ count n w
   two i j n p q u v =
@@ -153,4 +184,4 @@ module _ (w : ℕ → Bool) where
           let m = leb-false (count n w) 1 e in
           let x = nth n 0 (omega arith) in
           let y = nth n 1 (omega arith) in
-          absurd (omega (arith, ap (λ (i : ℕ). count i w) (f (x .0) (y .0) (x .1) (y .1) (x .2) (y .2)), x .3, y .3))
+          absurd (omega (arith, ap (λ (i : ℕ). count i w) (f (x .item) (y .item) (x .early) (y .early) (x .named) (y .named)), x .before, y .before))
