@@ -1,5 +1,4 @@
 -- What proofs need: laws of the definitions, sizes, and what functions inside the crate ask of their callers.
-pub mod MachineOf
 pub mod FieldLaws
 pub mod CountLaws
 pub mod SaysLaws

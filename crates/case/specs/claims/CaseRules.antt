@@ -1,8 +1,9 @@
 -- What an accepted case is, in plain facts of numbers and in document 01's order: a case is accepted exactly if these hold (`Acceptance.antt`).
 -- Assumes nothing.
 use mathlib.Core.Path.{_≡_}
-use mathlib.Core.Bool.{true}
+use mathlib.Core.Bool.{Bool, true}
 use mathlib.Core.List.{List}
+use mathlib.Core.Logic.{_⊎_}
 use Prim.Native.Nat.{ℕ, _+_, _≤_, _<_}
 use lib.IntN.{ℤ, pos, negsuc, _+ℤ_}
 use lib.ListN.{length}
@@ -15,13 +16,11 @@ use Rattle.case.specs.law.Layout.{arcStationAt, bothwaysAt, arcWeightAt,
 use Rattle.case.specs.law.Layout.{directionCountAt, stateCountAt, machineCountAt, startDirectionAt, startStateAt, directionWeightAt, stateWeightAt}
 use Rattle.case.specs.law.Layout.{numberAt, nodesOf, arcsOf, stationsOf, stepsOf, massTolerance, pressureTolerance, nodeAt, arcAt, stationAt}
 use Rattle.case.specs.law.Layout.{directionAt, stateAt, caseEnd}
-use Rattle.case.specs.law.Records.{timeOf, timeBefore, nodeOf, arcOf, pipeOf, artificialOf, stationOf, directionOf, stateOf}
-use Rattle.case.specs.inside.MachineOf.{machineOf}
+use Rattle.case.specs.law.Records.{timeOf, timeBefore, nodeOf, arcOf, pipeOf, artificialOf, stationOf, directionOf, stateOf, machineRow}
 use Rattle.case.specs.law.Field.{lastOf, mostPressure, mostFlow, mostWeight}
 use Rattle.case.specs.law.StationFields.{firstItems}
 use Rattle.case.specs.law.StationArcs.{belongs, arcsBefore, stationArcs}
 use Rattle.case.specs.law.StationNodes.{plain}
-use Rattle.case.specs.inside.SetLaws.{Ends}
 use Rattle.case.specs.claims.Says.{Between}
 
 -- ---- Counts, indices, kinds and weights as they stand in the list: signed. The records have them as naturals, with 0 for a negative number.
@@ -171,6 +170,9 @@ pub record CaseState (case : List ℤ) (s z : ℕ) : Type 0 where
   pub off : Between (pos 0) (stateOf case s z .off) (firstItems 30)
   pub weight : Between (pos 0) (stateWeight case s z) mostWeight
 
+abbrev pub machineOf : List ℤ → ℕ → ℕ → Machine
+machineOf case s m = machineRow case (stationAt case s) m
+
 -- "M rows: flow Q 0..10,000,000, ratio R 1,001..10,000 (thousandths)"
 pub record CaseMachine (m : Machine) : Type 0 where
   pub flow : Between (pos 0) (m .flow) mostFlow
@@ -178,7 +180,14 @@ pub record CaseMachine (m : Machine) : Type 0 where
 
 -- ---- 13 to 17
 
--- "A station's nodes are the ends of its artificial arcs." `Ends` has an arc, one that belongs to station s, whose from or to is v.
+-- an arc of the first n that w names and that v ends
+pub record Ends (case : List ℤ) (w : ℕ → Bool) (n v : ℕ) : Type 0 where
+  pub arc : ℕ
+  pub early : arc < n
+  pub named : w arc ≡ true
+  pub ends : (arcOf case arc .from ≡ v) ⊎ (arcOf case arc .to ≡ v)
+
+-- "A station's nodes are the ends of its artificial arcs."
 abbrev pub InStation : List ℤ → ℕ → ℕ → Type 0
 InStation case s v = Ends case (belongs case s) (arcsOf case) v
 

@@ -21,7 +21,6 @@ use Rattle.case.specs.declared.records.Node.{Node}
 use Rattle.case.specs.law.Layout.{numberAt, countAt, nodesOf, arcsOf, stationsOf, stepsOf, timeAt, nodeAt, arcAt, directionCount, stateCount}
 use Rattle.case.specs.law.Layout.{machineCount, directionAt, stateAt, machineAt, stationEnd, stationAt, caseEnd}
 use Rattle.case.specs.law.Records.{timeBefore, nodeOf, arcOf, pipeOf, stationOf}
-use Rattle.case.specs.inside.MachineOf.{machineOf}
 use Rattle.case.specs.law.Field.{field, fields}
 use Rattle.case.specs.law.HeadFields.{headFields, countFields, toleranceFields}
 use Rattle.case.specs.law.TimeFields.{timeField, timeFields}
@@ -37,7 +36,7 @@ use Rattle.case.specs.claims.Says.{Between}
 use Rattle.case.specs.inside.SaysLaws.{leb-says}
 use Rattle.case.specs.inside.Exactly.{asks-iff, rising, Read, all-read, append-read, over-read, field-read, fields-read, row-is, row-kept, flat}
 use Rattle.case.specs.claims.CaseRules.{CaseHead, TimeKept, CaseNode, CaseDemand, CaseArc, CasePipe, CaseArtificial, CaseCompressor, CaseSeven}
-use Rattle.case.specs.claims.CaseRules.{CaseStation, CaseDirection, CaseState, CaseMachine, artificialNumbers, further, Zeros}
+use Rattle.case.specs.claims.CaseRules.{CaseStation, CaseDirection, CaseState, CaseMachine, artificialNumbers, further, Zeros, machineOf}
 
 -- ---- what is said of a row, and of the list
 

@@ -25,13 +25,13 @@ use Rattle.case.specs.law.Directions.{onlyFence, setsKept, directionKept
 use Rattle.case.specs.law.States.{stateKept, machinesKept, activeAtStart, startKept, stationKept, stateSets, allStateSets}
 use Rattle.case.specs.law.Judged.{earlyRules, ruleQuestions}
 use Rattle.case.specs.inside.FieldLaws.{and-first}
-use Rattle.case.specs.inside.SetLaws.{Ends, end-in-station, station-end-of, end-in-plain, plain-end-of, only-members, at-only}
+use Rattle.case.specs.inside.SetLaws.{end-in-station, station-end-of, end-in-plain, plain-end-of, only-members, at-only}
 use Rattle.case.specs.claims.Says.{Says, Between}
 use Rattle.case.specs.inside.SaysLaws.{means, then, both, when, all, flag-says, leb-says, disjoint-says, first-says, one-says}
 use Rattle.case.specs.inside.ArcItems.{on-says, off-says}
 use Rattle.case.specs.inside.Exactly.{asks-iff, append-iff, over-iff}
 use Rattle.case.specs.inside.CaseRows.{ListFacts, four}
-use Rattle.case.specs.claims.CaseRules.{headNumbers, arcNumbers, artificialNumbers, stationNumbers, CaseDirection, InStation, FenceNode, Rule16}
+use Rattle.case.specs.claims.CaseRules.{Ends, headNumbers, arcNumbers, artificialNumbers, stationNumbers, CaseDirection, InStation, FenceNode, Rule16}
 use Rattle.case.specs.claims.CaseRules.{Rule17State, Rule17Arc}
 
 -- what is said of a station by 17, and of all arcs, nodes and stations

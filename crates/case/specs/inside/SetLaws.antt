@@ -25,6 +25,7 @@ use Rattle.case.specs.law.StationFields.{firstItems}
 use Rattle.case.specs.law.Directions.{onlyFence}
 use Rattle.case.specs.inside.FieldLaws.{and-first, and-second}
 use Rattle.case.specs.claims.Says.{Between}
+use Rattle.case.specs.claims.CaseRules.{Ends}
 use Rattle.case.specs.inside.SaysLaws.{subset-says}
 use Rattle.case.specs.inside.InSet.{inBoth}
 use Rattle.case.specs.inside.CountLaws.{before-yes, before-mono, arcs-lt, every-at, at-every}
@@ -73,13 +74,6 @@ node-only set v i h = go (ltb v 60) refl
     go : (b : Bool) → ltb v 60 ≡ b → (bit set i ≡ 1) ⊎ (v ≡ i)
     go true e = by (eqb v i) refl (rw e at h)
     go false e = inl (rw e at h)
-
--- an arc of the first n that w names and that v ends
-pub record Ends (case : List ℤ) (w : ℕ → Bool) (n v : ℕ) : Type 0 where
-  pub arc : ℕ
-  pub early : arc < n
-  pub named : w arc ≡ true
-  pub ends : (arcOf case arc .from ≡ v) ⊎ (arcOf case arc .to ≡ v)
 
 module _ (case : List ℤ) (w : ℕ → Bool) where
   ends-keeps : (n v : ℕ) → bit (endsOf case w n) v ≤ bit (endsOf case w (suc n)) v
