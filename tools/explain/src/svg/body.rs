@@ -1,6 +1,7 @@
 //! A station with its nodes, or a node alone, as a piece of the picture.
 
-use super::bow::NODE_RADIUS;
+use super::area::Area;
+use super::bow::{Bow, NODE_RADIUS};
 use super::fan::{bows, is_crowded, put_signs};
 use super::labels::{Drawn, Label, Wanted, placed};
 use super::parts::Body;
@@ -28,7 +29,7 @@ pub fn piece(texts: &Texts, places: &[Point], body: &Body) -> Piece {
     let mut drawn = piece.drawn();
     rays(texts, places, body, &mut drawn);
     piece.bows = bows(texts, places, &body.arcs, &body.nodes, &[]);
-    put_signs(&mut piece.bows, &mut drawn);
+    put_signs(texts.case, &mut piece.bows, &mut drawn);
     // Stations that share nodes cannot each have an outline around all that is theirs and nothing else.
     let shared = body.stations.len() > 1;
     for &station in body.stations.iter().filter(|_| shared) {
@@ -36,14 +37,14 @@ pub fn piece(texts: &Texts, places: &[Point], body: &Body) -> Piece {
         drawn.hull(&bands);
         piece.hulls.push((station, bands));
     }
-    (piece.labels, _) = placed(&wanted(texts, &piece), &drawn);
-    for &station in &body.stations {
-        let header = header(texts, &piece, station, &drawn);
-        piece.labels.extend(header);
-        if !shared {
-            let outline = around(&piece);
-            piece.hulls.push((station, vec![outline]));
-        }
+    let mut wanted = wanted(texts, &piece.nodes, &piece.bows);
+    wanted.extend(band_headers(texts, &piece));
+    (piece.labels, _) = placed(&wanted, &drawn);
+    for &station in body.stations.iter().filter(|_| !shared) {
+        let header = header(texts, station, piece.area());
+        piece.labels.extend(placed(&[header], &drawn).0);
+        let outline = around(&piece);
+        piece.hulls.push((station, vec![outline]));
     }
     piece
 }
@@ -62,38 +63,40 @@ fn rays(texts: &Texts, places: &[Point], body: &Body, drawn: &mut Drawn) {
     }
 }
 
-/// The texts at the nodes and arcs of a piece.
-pub fn wanted(texts: &Texts, piece: &Piece) -> Vec<Wanted> {
+/// The texts at nodes and arcs.
+pub fn wanted(texts: &Texts, nodes: &[(usize, Point)], bows: &[(usize, Bow)]) -> Vec<Wanted> {
     let mut wanted = Vec::new();
-    for &(node, place) in &piece.nodes {
+    for &(node, place) in nodes {
         let of = Mark::Node(node);
         if !texts.lines(of).is_empty() {
-            wanted.push(Wanted::new(texts, of, |size| {
-                spots::around_node(place, size)
-            }));
+            let spots = |size| spots::around_node(place, size);
+            wanted.push(Wanted::new(texts, of, spots));
         }
     }
-    for (arc, bow) in &piece.bows {
-        wanted.push(Wanted::new(
-            texts,
-            Mark::Arc(*arc),
-            |size| match is_crowded(texts.case, *arc) {
-                true => spots::on_bow(bow, size),
-                false => spots::along_bow(bow, size),
-            },
-        ));
+    for (arc, bow) in bows {
+        let spots = |size| match is_crowded(texts.case, *arc) {
+            true => spots::on_bow(bow, size),
+            false => spots::along_bow(bow, size),
+        };
+        wanted.push(Wanted::new(texts, Mark::Arc(*arc), spots));
     }
     wanted
 }
 
-/// The text of a station, above or below all that is in its body.
-fn header(texts: &Texts, piece: &Piece, station: usize, drawn: &Drawn) -> Vec<Label> {
-    let area = piece.area();
-    let wanted = Wanted::new(texts, Mark::Station(station), |size| {
-        spots::at_edge(area, size)
-    });
-    let (labels, _) = placed(&[wanted], drawn);
-    labels
+/// The text of a station, above or below an area.
+fn header(texts: &Texts, station: usize, area: Area) -> Wanted {
+    let spots = |size| spots::at_edge(area, size);
+    Wanted::new(texts, Mark::Station(station), spots)
+}
+
+/// The texts of stations that are drawn as bands, above or below these.
+fn band_headers(texts: &Texts, piece: &Piece) -> Vec<Wanted> {
+    let hulls = piece.hulls.iter();
+    let header = |(station, bands): &(usize, Hull)| {
+        let area = Area::around(bands.concat());
+        header(texts, *station, area)
+    };
+    hulls.map(header).collect()
 }
 
 /// The outline around everything in a piece.
@@ -130,17 +133,17 @@ fn bands(texts: &Texts, piece: &Piece, station: usize) -> Hull {
 
 /// The texts of a body that has its place among others: those in a station stay within its outline.
 pub fn wanted_again(texts: &Texts, piece: &Piece) -> Vec<Wanted> {
-    let mut wanted = wanted(texts, piece);
-    let headers = &piece.labels[wanted.len()..];
-    for label in headers {
-        let now = label.area.middle();
-        wanted.push(Wanted::new(texts, label.of, |_| spots::in_row(now)));
-    }
-    let [(_, outlines)] = &piece.hulls[..] else {
+    let mut wanted = wanted(texts, &piece.nodes, &piece.bows);
+    let [(station, outlines)] = &piece.hulls[..] else {
+        wanted.extend(band_headers(texts, piece));
         return wanted;
     };
+    let header = Mark::Station(*station);
+    for label in piece.labels.iter().filter(|label| label.of == header) {
+        let now = label.area.middle();
+        wanted.push(Wanted::new(texts, header, |_| spots::in_row(now)));
+    }
     let pairs = wanted.into_iter().zip(&piece.labels);
-    pairs
-        .map(|(wanted, now)| wanted.within(&outlines[0], now))
-        .collect()
+    let within = |(wanted, now): (Wanted, &Label)| wanted.within(&outlines[0], now);
+    pairs.map(within).collect()
 }

@@ -137,9 +137,13 @@ fn hindrance(
 }
 
 /// Puts the sign of each line where it hides least of what is drawn and of the others, and draws them.
-pub fn put_signs(bows: &mut [(usize, Bow)], drawn: &mut Drawn) {
+pub fn put_signs(case: &Case, bows: &mut [(usize, Bow)], drawn: &mut Drawn) {
     bows.iter().for_each(|(_, bow)| drawn.bow(bow));
-    for (_, bow) in bows {
+    for (index, bow) in bows {
+        if is_crowded(case, *index) {
+            drawn.sign(bow);
+            continue;
+        }
         let cost = |share: f64| {
             let hidden = drawn.hidden(Area::square(bow.at(share), SIGN));
             OFF_MIDDLE * (share - 0.5).abs() + hidden

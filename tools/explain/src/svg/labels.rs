@@ -10,10 +10,11 @@ use super::texts::{Texts, address};
 use crate::explanation::Mark;
 
 /// How bad it is to cover what is drawn: a square pixel of it, or a pixel of a line.
-const NODE: f64 = 8.0;
-const TEXT: f64 = 8.0;
+const NODE: f64 = 30.0;
+const OTHER: f64 = 8.0;
 const LINE: f64 = 3.0;
 const FRAME: f64 = 400.0;
+const LITTLE: f64 = 20.0;
 /// Texts are put down one after the other, and then again in the light of all others.
 const ROUNDS: usize = 4;
 /// A text keeps so clear of a frame, and so far from others across.
@@ -64,7 +65,7 @@ impl Drawn {
 
     pub fn sign(&mut self, bow: &Bow) {
         let area = Area::square(bow.sign_place(), SIGN);
-        self.areas.push((area, NODE));
+        self.areas.push((area, OTHER));
     }
 
     pub fn bow(&mut self, bow: &Bow) {
@@ -86,11 +87,19 @@ impl Drawn {
 
     pub fn hidden(&self, area: Area) -> f64 {
         let areas = self.areas.iter();
-        let areas: f64 = areas.map(|(it, cost)| cost * it.shared(area)).sum();
+        let areas: f64 = areas.map(|(it, cost)| cost * covered(*it, area)).sum();
         let near = area.grown(OFF_FRAME);
         let lines = self.lines.iter();
         let lines = lines.map(|(from, to, cost)| cost * near.crossed(*from, *to));
         areas + lines.sum::<f64>()
+    }
+}
+
+/// What two areas share; a little of it counts as much as some more.
+fn covered(one: Area, other: Area) -> f64 {
+    match one.shared(other) {
+        shared if shared > 0.0 => shared + LITTLE,
+        _ => 0.0,
     }
 }
 
@@ -189,7 +198,7 @@ pub fn placed(wanted: &[Wanted], drawn: &Drawn) -> (Vec<Label>, f64) {
             labels[place] = None;
             let cost = |(alone, label): &(f64, Label)| {
                 let others = labels.iter().flatten();
-                let over = others.map(|it| TEXT * it.area.widened(ACROSS).shared(label.area));
+                let over = others.map(|it| OTHER * covered(it.area.widened(ACROSS), label.area));
                 alone + over.sum::<f64>()
             };
             let costs = tried.iter().map(|it| (cost(it), &it.1));

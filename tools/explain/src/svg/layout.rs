@@ -7,8 +7,8 @@
 use gasplan_text::model::{Arc, Case};
 
 use super::area::Area;
-use super::bow::NODE_RADIUS;
-use super::fan::spread;
+use super::bow::{NODE_RADIUS, SIGN};
+use super::fan::{is_crowded, spread};
 use super::parts::Part;
 use super::point::{Point, at};
 use super::stress::Ways;
@@ -17,7 +17,8 @@ use super::turning::{are_across, face_others, lay_across};
 use crate::explanation::Mark;
 
 const TRIES: u64 = 24;
-const ROUNDS: usize = 200;
+/// Rounds in which nodes find their places: so many over their count, at least and at most.
+const ROUNDS: (usize, usize, usize) = (12_000, 200, 1_500);
 /// Rounds in which the nodes of a body find their places among themselves.
 const INNER_ROUNDS: usize = 100;
 /// Lengths of arcs, and how much longer one is at each station that it leaves.
@@ -34,34 +35,47 @@ pub fn ways(texts: &Texts, tight: f64) -> Ways {
         let at = |arc: &&Arc| arc.from == node || arc.to == node;
         case.arcs.iter().filter(at).find_map(Arc::station)
     };
-    // Arcs of a station with many of them are longer, so that there is room between.
-    let crowd = |station: usize| {
+    let everywhere = crowd(case.arcs.len(), case.nodes.len());
+    let within = |station: usize| {
         let (arcs, nodes) = (case.station_arcs(station), case.station_nodes(station));
-        let per_node = arcs.len() as f64 / nodes.len().max(1) as f64;
-        1.0 + 0.15 * (per_node - 1.2).clamp(0.0, 3.0)
+        crowd(arcs.len(), nodes.len())
     };
     Ways::new(case, |index| {
         let arc = &case.arcs[index];
-        let (width, _) = texts.size(Mark::Arc(index));
-        let length = (width + 2.0 * NODE_RADIUS + 34.0).clamp(LENGTHS.0, LENGTHS.1);
-        let length = length + FOR_SPREAD * (spread(case, index) - ALONE).max(0.0);
-        let left = [arc.from, arc.to].map(station).into_iter().flatten();
         let left = match arc.station() {
             Some(_) => 0,
-            None => left.count(),
+            None => [arc.from, arc.to].map(station).iter().flatten().count(),
         };
-        let room = arc.station().map_or(1.0, crowd);
-        tight * (room * length + OUT_OF_STATION * left as f64)
+        let room = arc.station().map_or(1.0, within).max(everywhere);
+        tight * (room * length(texts, index) + OUT_OF_STATION * left as f64)
     })
+}
+
+/// How much longer arcs are where there are many to a node, so that there is room between.
+fn crowd(arcs: usize, nodes: usize) -> f64 {
+    let per_node = arcs as f64 / nodes.max(1) as f64;
+    1.0 + 0.14 * (per_node - 1.3).clamp(0.0, 5.0)
+}
+
+/// How long an arc is for its text.
+fn length(texts: &Texts, index: usize) -> f64 {
+    let (width, _) = texts.size(Mark::Arc(index));
+    if is_crowded(texts.case, index) {
+        // The text lies on the arc, after its sign.
+        return 2.0 * (width + SIGN + NODE_RADIUS + 8.0);
+    }
+    let length = (width + 2.0 * NODE_RADIUS + 34.0).clamp(LENGTHS.0, LENGTHS.1);
+    length + FOR_SPREAD * (spread(texts.case, index) - ALONE).max(0.0)
 }
 
 /// Places for the nodes of a part, in some ways, the best one first; nodes of other parts stay at the origin.
 pub fn places(case: &Case, part: &Part, ways: &Ways) -> Vec<Vec<Point>> {
     let nodes = part.nodes();
     let tries = if nodes.len() > 3 { TRIES } else { 1 };
+    let rounds = (ROUNDS.0 / nodes.len().max(1)).clamp(ROUNDS.1, ROUNDS.2);
     let tried = (0..tries).map(|seed| {
         let mut places = start(case, &nodes, ways, seed);
-        ways.settle(&mut places, &nodes, ROUNDS);
+        ways.settle(&mut places, &nodes, rounds);
         lay_across(&mut places, &nodes);
         for body in &part.bodies {
             ways.settle(&mut places, &body.nodes, INNER_ROUNDS);

@@ -78,7 +78,8 @@ pub fn picture(subject: &Subject) -> String {
         plan: subject.plan,
         mark: subject.mark,
     };
-    let network = Network::new(texts, &subject.verdict, MOST_WIDTH - 2.0 * EDGE);
+    let [least_network, most] = [least, MOST_WIDTH].map(|it| it - 2.0 * EDGE);
+    let network = Network::new(texts, &subject.verdict, least_network, most);
     let size = network.size();
     let width = (size.x + 2.0 * EDGE).max(least);
     let top = caption(&mut canvas, subject, width) + ABOVE;

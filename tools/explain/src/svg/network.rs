@@ -39,10 +39,10 @@ fn fitting(texts: &Texts, part: &Part, most_width: f64) -> Piece {
 }
 
 impl<'a> Network<'a> {
-    /// Lays out a network that is to be so wide at most, if that can be.
-    pub fn new(texts: Texts<'a>, why: &'a str, most_width: f64) -> Network<'a> {
+    /// Lays out a network in a picture of the least width, and that is to be so wide at most if that can be.
+    pub fn new(texts: Texts<'a>, why: &'a str, least: f64, most: f64) -> Network<'a> {
         let parts = parts(texts.case);
-        let pieces = parts.iter().map(|part| fitting(&texts, part, most_width));
+        let pieces = parts.iter().map(|part| fitting(&texts, part, most));
         let pieces: Vec<Piece> = pieces.collect();
         let areas: Vec<Area> = pieces
             .iter()
@@ -50,7 +50,7 @@ impl<'a> Network<'a> {
             .collect();
         let sizes: Vec<Point> = areas.iter().map(|area| area.size()).collect();
         let mut whole = Piece::default();
-        let corners = pack::packed(&sizes, most_width + BETWEEN);
+        let corners = pack::packed(&sizes, least + BETWEEN, most + BETWEEN);
         for ((piece, area), corner) in pieces.iter().zip(&areas).zip(corners) {
             whole.add(piece.moved(corner.minus(area.low)));
         }

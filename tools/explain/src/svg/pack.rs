@@ -7,18 +7,18 @@ use super::point::{Point, at};
 const WIDTHS: usize = 12;
 
 /// Where the upper left corner of each rectangle goes, by its width and height, so that no two are over each
-/// other: within the width that needs the least room.
-pub fn packed(sizes: &[Point], most_width: f64) -> Vec<Point> {
-    let widest = sizes.iter().map(|size| size.x).fold(0.0, f64::max);
-    let most = most_width.max(widest);
+/// other: within the width, from the least to the most, that needs the least room.
+pub fn packed(sizes: &[Point], least: f64, most: f64) -> Vec<Point> {
+    let least = sizes.iter().map(|size| size.x).fold(least, f64::max);
     let tried = (0..=WIDTHS).map(|step| {
-        let width = widest + (most - widest) * step as f64 / WIDTHS as f64;
+        let width = least + (most - least).max(0.0) * step as f64 / WIDTHS as f64;
         let corners = corners(sizes, width);
         let ends = corners
             .iter()
             .zip(sizes)
             .map(|(corner, size)| corner.plus(*size));
-        let room = Area::around(ends.chain([at(0.0, 0.0)])).size();
+        // The picture is not narrower than the least width.
+        let room = Area::around(ends.chain([at(0.0, 0.0), at(least, 0.0)])).size();
         (room.x * room.y, corners)
     });
     let best = tried.min_by(|(one, _), (other, _)| one.total_cmp(other));

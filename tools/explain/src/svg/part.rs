@@ -15,15 +15,18 @@ use super::texts::Texts;
 /// What hides a text, by what it covers, is as bad as an arc across another at this cost; and so is this area in pixels.
 const TEXT: f64 = 60.0;
 const AREA: f64 = 60_000.0;
+/// What a layout costs for each one that is straighter.
+const LATER: f64 = 0.2;
 
 /// The part with arcs as long as their texts need, times a share; of so many layouts the clearest.
 pub fn piece(texts: &Texts, part: &Part, tight: f64, layouts: usize) -> Piece {
     let ways = layout::ways(texts, tight);
     let best = layout::places(texts.case, part, &ways).into_iter();
-    let tried = best.take(layouts).map(|places| {
+    let tried = best.take(layouts).enumerate().map(|(order, places)| {
         let (piece, hidden) = laid_out(texts, part, places, &ways);
         let size = piece.area().size();
-        let cost = piece.crossings() as f64 + hidden / TEXT + size.x * size.y / AREA;
+        let clutter = piece.crossings() as f64 + hidden / TEXT;
+        let cost = clutter + size.x * size.y / AREA + LATER * order as f64;
         (cost, piece)
     });
     let best = tried.min_by(|(one, _), (other, _)| one.total_cmp(other));
@@ -59,13 +62,9 @@ fn joined(texts: &Texts, bodies: Vec<Piece>, mut between: Vec<(usize, Bow)>) -> 
     let mut whole = Piece::default();
     bodies.into_iter().for_each(|body| whole.add(body));
     let mut drawn = whole.drawn();
-    put_signs(&mut between, &mut drawn);
-    let between = Piece {
-        bows: between,
-        ..Piece::default()
-    };
-    wanted.extend(body::wanted(texts, &between));
-    whole.add(between);
+    put_signs(texts.case, &mut between, &mut drawn);
+    wanted.extend(body::wanted(texts, &[], &between));
+    whole.bows.extend(between);
     let (labels, hidden) = placed(&wanted, &drawn);
     whole.labels = labels;
     (whole, hidden)

@@ -17,32 +17,43 @@ impl Ways {
     /// The shortest ways along arcs of these lengths. Parts that nothing joins are infinitely far apart.
     pub fn new(case: &Case, length: impl Fn(usize) -> f64) -> Ways {
         let count = case.nodes.len();
-        let mut ways = vec![vec![f64::INFINITY; count]; count];
-        let mut join = |one: usize, other: usize, length: f64| {
-            let shorter = length.min(ways[one][other]);
-            (ways[one][other], ways[other][one]) = (shorter, shorter);
+        let mut ways = Ways {
+            ways: vec![vec![f64::INFINITY; count]; count],
         };
+        for (index, arc) in case.arcs.iter().enumerate() {
+            // Of parallel arcs the longest counts.
+            let before = Some(ways.between(arc.from, arc.to)).filter(|way| way.is_finite());
+            let length = length(index);
+            ways.set(arc.from, arc.to, before.map_or(length, |it| it.max(length)));
+        }
         for station in 0..case.stations.len() {
             for pair in case.station_nodes(station).windows(2) {
-                join(pair[0], pair[1], UNJOINED);
+                if ways.between(pair[0], pair[1]).is_infinite() {
+                    ways.set(pair[0], pair[1], UNJOINED);
+                }
             }
         }
-        for (index, arc) in case.arcs.iter().enumerate() {
-            join(arc.from, arc.to, length(index));
-        }
-        for (node, row) in ways.iter_mut().enumerate() {
-            row[node] = 0.0;
-        }
-        for middle in 0..count {
-            let second = ways[middle].clone();
-            for row in &mut ways {
+        (0..count).for_each(|node| ways.set(node, node, 0.0));
+        ways.shorten();
+        ways
+    }
+
+    fn set(&mut self, one: usize, other: usize, way: f64) {
+        self.ways[one][other] = way;
+        self.ways[other][one] = way;
+    }
+
+    /// Where the way over a third node is shorter, takes it.
+    fn shorten(&mut self) {
+        for middle in 0..self.ways.len() {
+            let second = self.ways[middle].clone();
+            for row in &mut self.ways {
                 let first = row[middle];
                 for (way, second) in row.iter_mut().zip(&second) {
                     *way = way.min(first + second);
                 }
             }
         }
-        Ways { ways }
     }
 
     pub fn between(&self, one: usize, other: usize) -> f64 {

@@ -3,6 +3,7 @@
 use gasplan_text::model::{COMBINED, Case, INNER, Plan, SHORTCUT, VALVE};
 use gasplan_text::words::{self, grouped};
 
+use super::fan::is_crowded;
 use super::font::{Font, PLAIN};
 use crate::arc_rules::backward;
 use crate::check::wide;
@@ -38,6 +39,8 @@ impl Texts<'_> {
     pub fn lines(&self, item: Mark) -> Vec<String> {
         match item {
             Mark::Node(node) => self.node(node),
+            // Where arcs lie close, there is room for one line.
+            Mark::Arc(arc) if is_crowded(self.case, arc) => vec![self.arc(arc).join(", ")],
             Mark::Arc(arc) => self.arc(arc),
             Mark::Station(station) => vec![self.station(station)],
         }
