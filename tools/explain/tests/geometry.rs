@@ -38,6 +38,37 @@ fn a_station_s_outline_has_its_nodes_in_it_and_no_others() {
     samples().iter().for_each(check_stations);
 }
 
+/// The station's own text, and those of its nodes and arcs.
+fn station_items(sample: &Sample, station: usize) -> Vec<String> {
+    let nodes = sample.case.station_nodes(station).into_iter();
+    let arcs = sample.case.station_arcs(station).into_iter();
+    let nodes = nodes.map(|node| format!("node {node}"));
+    let arcs = arcs.map(|arc| format!("arc {arc}"));
+    let own = [format!("station {station}")];
+    nodes.chain(arcs).chain(own).collect()
+}
+
+#[test]
+fn what_belongs_to_a_station_is_written_within_its_outline() {
+    for sample in samples() {
+        let labels = sample.drawing.labels();
+        for (station, outlines) in sample.drawing.hulls() {
+            let items = station_items(sample, station);
+            let own = labels
+                .iter()
+                .filter(|(of, _)| items.iter().any(|it| it == of));
+            let mut count = 0;
+            for (item, text) in own {
+                let corners = text.text_area().corners();
+                let inside = corners.iter().all(|&corner| holds(&outlines[0], corner));
+                assert!(inside, "{}: {item}, {}", sample.name, text.text);
+                count += 1;
+            }
+            assert!(count > sample.case.station_arcs(station).len());
+        }
+    }
+}
+
 #[test]
 fn stations_that_share_a_node_keep_others_out_too() {
     let sample = Sample::of_example("day --change case 'arc 3 station' 1");

@@ -8,11 +8,13 @@ use super::stress::Ways;
 
 /// Room around a body.
 const GAP: f64 = 14.0;
-/// Rounds in which bodies go where arcs pull them and leave each other, and in which they only leave.
+/// Rounds in which bodies go where arcs pull them and leave each other.
 const ROUNDS: usize = 80;
+/// After so many rounds in which they only leave, everything is spread by so much.
 const LAST_ROUNDS: usize = 60;
-/// By so much everything is spread where bodies find no way out.
 const SPREAD: f64 = 1.06;
+/// More rounds than it takes to spread everything a hundredfold.
+const MOST_ROUNDS: usize = 6_000;
 
 /// How each body has to move so that none is over another.
 pub fn moves(part: &Part, bodies: &[Piece], places: &[Point], ways: &Ways) -> Vec<Point> {
@@ -32,9 +34,10 @@ pub fn moves(part: &Part, bodies: &[Piece], places: &[Point], ways: &Ways) -> Ve
         }
         push(&outlines, &mut moves);
     }
-    let mut round = 0;
-    while push(&outlines, &mut moves) {
-        round += 1;
+    for round in 1..MOST_ROUNDS {
+        if !push(&outlines, &mut moves) {
+            break;
+        }
         if round % LAST_ROUNDS == 0 {
             spread(&outlines, &mut moves);
         }

@@ -13,6 +13,7 @@ use crate::explanation::Mark;
 /// Parallel arcs lie at least and at most so far apart, and all of them within so much.
 const APART: (f64, f64) = (17.0, 64.0);
 const MOST_SPREAD: f64 = 440.0;
+/// Texts fit between so many parallel arcs at most.
 const MOST_WITH_ROOM: usize = 8;
 /// An arc nearer to a node than this seems to end there.
 const CLEAR: f64 = 27.0;
@@ -71,11 +72,9 @@ pub fn bows(
             (cost, bows)
         });
         let best = tried.min_by(|(one, _), (other, _)| one.total_cmp(other));
-        done.extend(
-            best.map(|(_, bows)| fan.iter().copied().zip(bows))
-                .into_iter()
-                .flatten(),
-        );
+        if let Some((_, bows)) = best {
+            done.extend(fan.into_iter().zip(bows));
+        }
     }
     done
 }

@@ -12,10 +12,10 @@ use super::point::Point;
 use super::stress::Ways;
 use super::texts::Texts;
 
-/// What hides a text, by what it covers, is as bad as an arc across another at this cost; and so is this area in pixels.
+/// So much that texts hide, or so many square pixels, are as bad as one arc across another.
 const TEXT: f64 = 60.0;
 const AREA: f64 = 60_000.0;
-/// What a layout costs for each one that is straighter.
+/// What a layout costs for each one that comes before it.
 const LATER: f64 = 0.2;
 
 /// The part with arcs as long as their texts need, times a share; of so many layouts the clearest.
