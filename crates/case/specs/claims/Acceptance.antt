@@ -15,8 +15,10 @@ use Rattle.case.specs.law.Layout.{stationsOf, caseEnd}
 use Rattle.case.specs.law.Judged.{listQuestions, ruleQuestions, caseQuestions, judgedCase}
 use Rattle.case.specs.inside.Exactly.{append-iff}
 use Rattle.case.specs.inside.CaseRows.{StationFacts, ListFacts, list-read}
-use Rattle.case.specs.inside.CaseRuled.{StationRuled, RuleFacts, rules-iff}
-use Rattle.case.specs.claims.CaseRules.{CaseRules}
+use Rattle.case.specs.law.StationNodes.{fenceNode}
+use Rattle.case.specs.inside.CaseRuled.{StationRuled, RuleFacts, rules-iff, fence-says}
+use Rattle.case.specs.claims.CaseRules.{FenceNode, CaseRules}
+use Rattle.case.specs.claims.Says.{Says}
 
 module _ (case : List ℤ) where
   -- 10 to 12, then 13 to 17 of a case that passes them
@@ -70,3 +72,7 @@ module _ (case : List ℤ) where
   pub complete : CaseRules case → judgedCase case ≡ gives []
   unfolding judgedCase
   complete r = ap told (rules-accepted r)
+
+  -- The fence nodes of an accepted case: the law's test, and the ends of arcs that document 01 speaks of.
+  pub fence-nodes : CaseRules case → (s v : ℕ) → Says (fenceNode case s v) (FenceNode case s v)
+  fence-nodes r = fence-says case (asked .0 (rules-accepted r) .0 .1)

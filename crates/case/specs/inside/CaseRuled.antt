@@ -90,7 +90,7 @@ module _ (case : List ℤ) (l : ListFacts case) where
 
   -- ---- 16
 
-  fence-says : (s v : ℕ) → Says (fenceNode case s v) (FenceNode case s v)
+  pub fence-says : (s v : ℕ) → Says (fenceNode case s v) (FenceNode case s v)
   fence-says s v = means (both (in-says s v) (plain-says v)) (λ r. record { inside = r .0; outside = r .1 }) (λ r. (r .inside, r .outside))
 
   only-says : (s : ℕ) (set : ℤ) → Between (pos 0) set (firstItems 60)

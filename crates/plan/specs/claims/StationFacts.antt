@@ -16,11 +16,11 @@ use Rattle.case.specs.law.Layout.{nodesOf, arcsOf, stationsOf, massTolerance}
 use Rattle.case.specs.law.Field.{lastOf}
 use Rattle.case.specs.law.Records.{stationOf, directionOf, stateOf}
 use Rattle.case.specs.law.StationArcs.{belongs, arcsBefore}
-use Rattle.case.specs.law.StationNodes.{fenceNode}
 use Rattle.case.specs.inside.ArcItems.{on-says, off-says}
 use Rattle.case.specs.inside.AcceptedCase.{below}
 use Rattle.case.specs.inside.FieldLaws.{and-first, and-second}
-use Rattle.case.specs.claims.CaseRules.{CaseRules, Rule16}
+use Rattle.case.specs.claims.CaseRules.{FenceNode, CaseRules, Rule16}
+use Rattle.case.specs.claims.Acceptance.{fence-nodes}
 use Rattle.case.specs.claims.Says.{Says, Between}
 use Rattle.case.specs.inside.SaysLaws.{means, then, both, choose, when, all, flag-says, ltb-says, le-says, zero-says, one-says}
 use Rattle.plan.specs.law.PlanRecords.{nodeRow, arcRow, choiceOf, activeIn, directionIn, stateIn}
@@ -109,14 +109,14 @@ pub record FenceFlow (d : Direction) (v : ℕ) (flow : ℤ) : Type 0 where
   pub neither : memberOf (d .entry) v ≢ true → memberOf (d .exit) v ≢ true → flow ≡ pos 0
 
 abbrev pub Rule32 : List ℤ → List ℤ → ℕ → Type 0
-Rule32 case rows s = (v : ℕ) → v < nodesOf case → fenceNode case s v ≡ true → FenceFlow (chosenDirection case rows s) v (stationFlow case rows s v)
+Rule32 case rows s = (v : ℕ) → v < nodesOf case → FenceNode case s v → FenceFlow (chosenDirection case rows s) v (stationFlow case rows s v)
 
 -- of one node; an accepted case has no node that is both entry and exit
-fence-says : (case rows : List ℤ) (s f v : ℕ) → Rule16 case s f
-    → Says (fenceKept case rows s f v) (fenceNode case s v ≡ true → FenceFlow (directionOf case s f) v (stationFlow case rows s v))
+fence-says : (case rows : List ℤ) (s f v : ℕ) → CaseRules case → Rule16 case s f
+    → Says (fenceKept case rows s f v) (FenceNode case s v → FenceFlow (directionOf case s f) v (stationFlow case rows s v))
 unfolding fenceNodeKept
-fence-says case rows s f v r =
-    when (flag-says _) (means (choose (flag-says _) (le-says _ _) (choose (flag-says _) (le-says _ _) (zero-says _)))
+fence-says case rows s f v ok r =
+    when (fence-nodes case ok s v) (means (choose (flag-says _) (le-says _ _) (choose (flag-says _) (le-says _ _) (zero-says _)))
     (λ t. record { entry = t .0; exit = λ x. t .1 (λ e. r .apart v e x) .0 x; neither = λ e x. t .1 e .1 x })
     (λ g. (g .entry, λ e. (g .exit, g .neither e))))
 
@@ -125,7 +125,7 @@ pub rule32-says : (case rows : List ℤ) (s : ℕ) → CaseRules case → s < st
 unfolding fenceFlowsKept
 rule32-says case rows s ok p q =
     let f = directionIn case rows s in
-    all (λ v l. fence-says case rows s f v (ok .rule16 s f p q))
+    all (λ v l. fence-says case rows s f v ok (ok .rule16 s f p q))
 
 -- 33: "Is dt × |flow out - flow in - d| ≤ E, over all arcs (a pipe's flow is a at from and b at to, any other arc's a - b at both)?"
 abbrev pub Rule33 : List ℤ → List ℤ → ℕ → ℕ → Type 0
