@@ -1,4 +1,4 @@
--- Where the numbers of a case stand: every width and every offset has its name here, and nowhere else.
+-- Where the numbers of a case stand: each width and each field's offset by its name, which ranges and records use.
 -- All is total: a number past the end reads as 0 and a negative count as 0. Whether the fields are there and in range is asked by 10 and 11.
 -- Assumes nothing.
 use mathlib.Core.List.{List}

@@ -1,5 +1,5 @@
--- 17: "Do on and off share nothing and name only its arcs, do its arcs' machine sets name only its machines, and does activity at step 0 obey the step-0 state?"
--- The place is the station.
+-- 17: "Do on and off share nothing and name only its arcs, do its arcs' machine sets name only its machines, and does
+-- activity at step 0 obey the step-0 state?" The place is the station.
 -- Assumes nothing.
 use mathlib.Core.Bool.{Bool, not, _&&_, _||_}
 use mathlib.Core.List.{List, [], _∷_}

@@ -1,7 +1,7 @@
 -- How much room is enough, as include/gasplan.h has it: "A list of n numbers always fits into n * 10 bytes, and n bytes never hold more than n numbers."
 -- It is carried by two counts: a number has at most ten groups, and takes at least one byte.
 -- Assumes nothing.
-use mathlib.Core.Path.{_≡_, refl, ap, sym, _∙_}
+use mathlib.Core.Path.{_≡_, ap, _∙_}
 use mathlib.Core.Bool.{Bool, true, false, cond}
 use mathlib.Core.List.{List, [], _∷_}
 use Prim.Native.Nat.{ℕ, zero, suc, _+_, _*_, _/_, _%_, _≤_}
@@ -13,7 +13,7 @@ use lib.ListN.{length, drop, length-drop, length-append}
 use Rattle.numbers.specs.law.Told.{Told, gives, refuses, overlay}
 use Rattle.numbers.specs.law.Mapping.{unsignedOf}
 use Rattle.numbers.specs.law.Groups.{groupsUpTo, groups, encode, writeTold, written}
-use Rattle.numbers.specs.law.Reading.{numberOf, Read, Ending, all, no, afterNumber, readFrom, readOf, endTold, readTold}
+use Rattle.numbers.specs.law.Reading.{numberOf, Ending, all, no, afterNumber, readFrom, readOf, endTold, readTold}
 use Rattle.numbers.specs.inside.ReadingBounds.{Within, within-number}
 use Rattle.numbers.specs.declared.reader.Number.{Number}
 use Rattle.numbers.specs.declared.reader.Number.the-variants.{Whole, Refused}

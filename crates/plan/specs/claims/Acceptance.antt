@@ -1,15 +1,15 @@
 -- A plan is accepted exactly where every question of the case holds, 20 holds, and every rule from 21 to 33 holds of every item at every step.
 -- Assumes nothing.
-use mathlib.Core.Path.{_≡_, refl, sym, ap, _∙_}
+use mathlib.Core.Path.{_≡_, refl, ap}
 use mathlib.Core.Bool.{true}
-use mathlib.Core.List.{List, [], _∷_, _++_}
+use mathlib.Core.List.{List, [], _∷_}
 use Prim.Native.Nat.{ℕ, _+_, _<_}
 use native.Mathlib.Omega.{arith}
 use lib.IntN.{ℤ}
 use lib.ListN.{length}
 use Rattle.numbers.specs.law.Told.{Told}
 use Rattle.numbers.specs.law.Question.{Question, firstNo}
-use Rattle.numbers.specs.inside.QuestionLaws.{firstNo-append, all-yes, none-no}
+use Rattle.numbers.specs.inside.QuestionLaws.{firstNo-append, all-yes}
 use Rattle.numbers.specs.law.Items.{over}
 use Rattle.numbers.specs.inside.ItemLaws.{over-all}
 use Rattle.numbers.specs.declared.answer.Answer.{Answer}
@@ -19,7 +19,7 @@ use Rattle.case.specs.law.Records.{nodeOf, arcOf, artificialOf}
 use Rattle.case.specs.inside.FieldLaws.{first-yes, second-yes, item-yes}
 use Rattle.case.specs.law.Judged.{caseQuestions}
 use Rattle.plan.specs.declared.totals.Totals.{Totals}
-use Rattle.plan.specs.declared.verdict.Verdict.the-variants.{Accepted, Refused}
+use Rattle.plan.specs.declared.verdict.Verdict.the-variants.{Accepted}
 use Rattle.plan.specs.law.PlanLayout.{stepRows}
 use Rattle.plan.specs.law.PlanRecords.{nodeRow, arcRow}
 use Rattle.plan.specs.law.BeforeStep.{pressureAt}

@@ -54,7 +54,8 @@ module _ (b : ℕ) (next : Told) where
   read-past all s e = (refl, e)
   read-past (no n p) s e = let f : ⊥ = omega (arith, s .3, e) in absurd f
 
-  plan-read-past : (d : Ending) → Small b (onPlanBytes (readAnswer d)) → refusedOr (onPlanBytes (readAnswer d)) next .number ≡ 0 → (d ≡ all) × (next .number ≡ 0)
+  plan-read-past : (d : Ending) → Small b (onPlanBytes (readAnswer d)) → refusedOr (onPlanBytes (readAnswer d)) next .number ≡ 0
+      → (d ≡ all) × (next .number ≡ 0)
   plan-read-past all s e = (refl, e)
   plan-read-past (no n p) s e = let f : ⊥ = omega (arith, s .3, e) in absurd f
 

@@ -10,7 +10,6 @@ use lib.Signed.{leZ}
 use Rattle.case.specs.law.Field.{mostPressure}
 use Rattle.case.specs.declared.records.Artificial.{Artificial}
 use Rattle.case.specs.law.Records.{nodeOf, arcOf, artificialOf}
-use Rattle.plan.specs.declared.setting.Way.{Way}
 use Rattle.plan.specs.declared.setting.Mode.{Mode}
 use Rattle.plan.specs.declared.setting.Mode.the-variants.{Open, Regulating, Compressing}
 use Rattle.plan.specs.declared.setting.Setting.{Setting}

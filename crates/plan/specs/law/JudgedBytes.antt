@@ -1,5 +1,5 @@
--- "One call judges two byte strings with two lent lists, in this order: the case bytes are read, the case is judged, the plan bytes are read, the plan is judged;
--- 1 to 3 on plan bytes become 5 (for 1), 6, 7. A list not reached is unchanged." The numbers that were read are judged, not a lent list's whole length.
+-- "One call judges two byte strings with two lent lists, in this order: the case bytes are read, the case is judged, the plan bytes are read, the plan is
+-- judged; 1 to 3 on plan bytes become 5 (for 1), 6, 7. A list not reached is unchanged." The numbers that were read are judged, not a lent list's whole length.
 -- Assumes nothing.
 use mathlib.Core.Bool.{cond}
 use mathlib.Core.List.{List}

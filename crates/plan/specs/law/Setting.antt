@@ -1,7 +1,7 @@
 -- "Setting: valve 0 shut, 1 open; kinds 3 to 5: 0 off, 1 forward, 2 backward; combined: 0 off, 1 and 2 regulating forward and backward,
 -- 3 and 4 compressing forward and backward; else 0." A number that stands for nothing is unknown, which 24 refuses.
 -- Assumes nothing.
-use mathlib.Core.Bool.{Bool, true, false, cond}
+use mathlib.Core.Bool.{cond}
 use mathlib.Core.List.{List}
 use Prim.Native.Nat.{ℕ, _-_}
 use lib.Dec.{eqb, leb}
