@@ -55,6 +55,7 @@ sleep 3
 echo "fn case::head: proved"
 echo "rt: case proved (48 s)"
 echo "rt: plan proved (0 s)"
+echo "rt: line proved (2 s)"
 sleep 3
 echo "rt: checker proved (15 s)"
 echo "rt: checker ran, and wrote what its file 'stdout' has (0 s)"
@@ -62,7 +63,7 @@ END
     run "a prover at work" env PATH="$room/fake:$PATH" "$tree/judge" "$tree/examples/incident"
     ends 1 "$incident"
     cmp -s <(grep -E 'prov(ed \(|ing|es)' "$room/err") <(printf 'judge: %s\n' "the first run proves everything, which takes about three minutes" \
-        "proving case .." "case proved (48 s)" "plan proved (0 s)" "proving checker .." "checker proved (15 s)") || fail "other lines were due for the crates"
+        "proving case .." "case proved (48 s)" "plan proved (0 s)" "line proved (2 s)" "proving checker .." "checker proved (15 s)") || fail "other lines were due for the crates"
     is_silent_on 'fn case::head'
     grep -q 'fn case::head: proved' "$tree/target/judge.log" || fail "the log is not whole"
 
