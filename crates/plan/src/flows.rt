@@ -109,9 +109,8 @@ fn flow_allowed(c: Arc, r: ArcRow) -> bool
 {
     let kind = c.kind;
     match kind {
-        0 => no_flow_against(false, setting_of(kind, r.setting), r),
         1 | 2 => true,
-        _ => no_flow_against(true, setting_of(kind, r.setting), r),
+        _ => no_flow_against(3 <= kind, setting_of(kind, r.setting), r),
     }
 }
 
