@@ -14,7 +14,8 @@ use numbers::writer::Writing;
 pub extern "C" fn gasplan_read(bytes: &[u8], list: &mut [i64], out: &mut [i64]) -> i64
     ensures { λ r. ⌜ r ≡ codeOf (now (out .entry)) (readTold (readOf (now (bytes .entry)) (length (now (list .entry))))) ⌝ }
     ensures { λ _. ⌜ now (out .exit) ≡ outOf (now (out .entry)) (readTold (readOf (now (bytes .entry)) (length (now (list .entry))))) ⌝ }
-    ensures { λ _. ⌜ now (list .exit) ≡ ifRoom (now (out .entry)) (overlay (readOf (now (bytes .entry)) (length (now (list .entry))) .stored) (now (list .entry))) (now (list .entry)) ⌝ }
+    ensures { λ _. ⌜ now (list .exit) ≡ ifRoom (now (out .entry))
+        (overlay (readOf (now (bytes .entry)) (length (now (list .entry))) .stored) (now (list .entry))) (now (list .entry)) ⌝ }
 {
     if out.len() < 6 {
         return -1;

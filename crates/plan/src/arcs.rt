@@ -46,7 +46,8 @@ pub(crate) fn arc_answers(
     layout: Layout,
     i: usize,
 ) -> Answer
-    requires { ⌜ (AtStep (now case) layout i) × (PressuresSized (numberAt (now old)) (nodesOf (now case))) × (PressuresSized (pressureIn (now rows)) (nodesOf (now case))) ⌝ }
+    requires { ⌜ (AtStep (now case) layout i) × (PressuresSized (numberAt (now old)) (nodesOf (now case))) ×
+        (PressuresSized (pressureIn (now rows)) (nodesOf (now case))) ⌝ }
     ensures { λ r. ⌜ r ≡ firstNo (allArcQuestions (now (case .entry)) (numberAt (now (old .entry))) (now (rows .entry)) i) ⌝ }
 {
     let arcs = layout.arcs;

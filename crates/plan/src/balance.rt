@@ -85,7 +85,8 @@ pub(crate) fn node_residual(case: &[i64], rows: &[i64], i: usize, v: usize, net:
 // 33 of every node, and the sum of its left sides.
 pub(crate) fn balance(case: &[i64], rows: &[i64], layout: Layout, i: usize) -> Stepped
     requires { ⌜ (AtStep (now case) layout i) × (FlowsSized (now case) (now rows)) × (NodesSized (now case) (now rows)) ⌝ }
-    ensures { λ r. ⌜ r ≡ steppedBy (firstNo (allBalanceQuestions (now (case .entry)) (now (rows .entry)) i)) (nodeResiduals (now (case .entry)) (now (rows .entry)) i) ⌝ }
+    ensures { λ r. ⌜ r ≡ steppedBy (firstNo (allBalanceQuestions (now (case .entry)) (now (rows .entry)) i))
+        (nodeResiduals (now (case .entry)) (now (rows .entry)) i) ⌝ }
 {
     let nodes = layout.nodes;
     let most = at(case, 5);

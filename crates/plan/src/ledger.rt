@@ -186,7 +186,8 @@ fn figures(
 // The figures of an accepted plan, or the refusal by 40 or 41.
 fn region_ledger(case: &[i64], plan: &[i64], set: i64, s: i64, t: i64) -> Ledger
     requires { ⌜ PlanRules (now case) (now plan) ⌝ }
-    ensures { λ r. ⌜ r ≡ ledgerBy (firstNo (regionQuestions (now (case .entry)) set s t)) (figuresOf (now (case .entry)) (now (plan .entry)) set (posPart s) (posPart t)) ⌝ }
+    ensures { λ r. ⌜ r ≡ ledgerBy (firstNo (regionQuestions (now (case .entry)) set s t))
+        (figuresOf (now (case .entry)) (now (plan .entry)) set (posPart s) (posPart t)) ⌝ }
 {
     let a = region_answer(case, set, s, t);
     match a {

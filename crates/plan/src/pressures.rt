@@ -83,7 +83,8 @@ fn mode_pressures(
     u: usize,
     w: usize,
 ) -> bool
-    requires { ⌜ (AtArc (now case) (now rows) (now offsets) i e) × (u < nodesOf (now case)) × (w < nodesOf (now case)) × (mode ≡ modes.Compressing → 3 ≤ arcOf (now case) e .kind) ⌝ }
+    requires { ⌜ (AtArc (now case) (now rows) (now offsets) i e) × (u < nodesOf (now case)) × (w < nodesOf (now case)) ×
+        (mode ≡ modes.Compressing → 3 ≤ arcOf (now case) e .kind) ⌝ }
     ensures { λ r. ⌜ r ≡ modePressures (now (case .entry)) (now (rows .entry)) i e mode u w ⌝ }
 {
     match mode {

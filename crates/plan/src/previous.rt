@@ -85,7 +85,8 @@ fn start_states(case: &[i64], layout: Layout) -> [usize; 8]
 // Before step 1.
 pub(crate) fn start(case: &[i64], layout: Layout) -> Previous
     requires { ⌜ (Counted (now case)) × (LayoutOf (now case) layout) ⌝ }
-    ensures { λ r. ⌜ Carried (now (case .entry)) r (startPressure (now (case .entry))) (activeAtStart (now (case .entry))) (startDirection (now (case .entry))) (startState (now (case .entry))) ⌝ }
+    ensures { λ r. ⌜ Carried (now (case .entry)) r (startPressure (now (case .entry))) (activeAtStart (now (case .entry)))
+        (startDirection (now (case .entry))) (startState (now (case .entry))) ⌝ }
 {
     let pressures = start_pressures(case, layout.nodes);
     let active = start_active(case, layout.arcs);
@@ -154,7 +155,8 @@ fn row_states(old: [usize; 8], case: &[i64], rows: &[i64], stations: usize) -> [
 // Past a step, whose part of the plan is `rows`.
 pub(crate) fn after(previous: Previous, case: &[i64], rows: &[i64], layout: Layout) -> Previous
     requires { ⌜ (Counted (now case)) × (LayoutOf (now case) layout) ⌝ }
-    ensures { λ r. ⌜ Carried (now (case .entry)) r (pressureIn (now (rows .entry))) (activeIn (now (case .entry)) (now (rows .entry))) (directionIn (now (case .entry)) (now (rows .entry))) (stateIn (now (case .entry)) (now (rows .entry))) ⌝ }
+    ensures { λ r. ⌜ Carried (now (case .entry)) r (pressureIn (now (rows .entry))) (activeIn (now (case .entry)) (now (rows .entry)))
+        (directionIn (now (case .entry)) (now (rows .entry))) (stateIn (now (case .entry)) (now (rows .entry))) ⌝ }
 {
     let old_pressures = previous.pressures;
     let old_active = previous.active;

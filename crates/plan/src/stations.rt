@@ -141,7 +141,8 @@ fn station_answer(
     once: bool,
     flows: &[i64],
 ) -> Answer
-    requires { ⌜ (AtStation (now case) (now rows) layout i s) × (active ≡ activeBits (now case) (now rows) s) × (once ≡ machinesOnce (now case) (now rows) s) × (FlowsPassed (now case) (now rows) (now flows)) ⌝ }
+    requires { ⌜ (AtStation (now case) (now rows) layout i s) × (active ≡ activeBits (now case) (now rows) s) ×
+        (once ≡ machinesOnce (now case) (now rows) s) × (FlowsPassed (now case) (now rows) (now flows)) ⌝ }
     ensures { λ r. ⌜ r ≡ firstNo (stationQuestions (now (case .entry)) (now (rows .entry)) i s) ⌝ }
 {
     or_else(

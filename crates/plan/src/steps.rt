@@ -34,8 +34,11 @@ use numbers::answer::Answer;
 
 // Past the arcs: every station, and then the balance of every node.
 fn past_arcs(case: &[i64], rows: &[i64], layout: Layout, i: usize) -> Stepped
-    requires { ⌜ (AtStep (now case) layout i) × (FlowsSized (now case) (now rows)) × (NodesSized (now case) (now rows)) × (MachinesKept (now case) (now rows)) ⌝ }
-    ensures { λ r. ⌜ r ≡ steppedBy (firstNo (allStationQuestions (now (case .entry)) (now (rows .entry)) i ++ allBalanceQuestions (now (case .entry)) (now (rows .entry)) i)) (nodeResiduals (now (case .entry)) (now (rows .entry)) i) ⌝ }
+    requires { ⌜ (AtStep (now case) layout i) × (FlowsSized (now case) (now rows)) × (NodesSized (now case) (now rows)) ×
+        (MachinesKept (now case) (now rows)) ⌝ }
+    ensures { λ r. ⌜ r ≡ steppedBy (firstNo
+        (allStationQuestions (now (case .entry)) (now (rows .entry)) i ++ allBalanceQuestions (now (case .entry)) (now (rows .entry)) i))
+        (nodeResiduals (now (case .entry)) (now (rows .entry)) i) ⌝ }
 {
     let stations = station_answers(case, rows, layout, i);
     match stations {
@@ -51,7 +54,8 @@ fn past_arcs(case: &[i64], rows: &[i64], layout: Layout, i: usize) -> Stepped
 // Every question of a step, whose part of the plan is `rows`.
 fn step(case: &[i64], rows: &[i64], previous: Previous, layout: Layout, i: usize) -> Stepped
     requires { ⌜ (AtStep (now case) layout i) × (PressuresSized (numberAt (previous .pressures)) (nodesOf (now case))) ⌝ }
-    ensures { λ r. ⌜ r ≡ steppedBy (firstNo (stepQuestions (now (case .entry)) (numberAt (previous .pressures)) (now (rows .entry)) i)) (nodeResiduals (now (case .entry)) (now (rows .entry)) i) ⌝ }
+    ensures { λ r. ⌜ r ≡ steppedBy (firstNo (stepQuestions (now (case .entry)) (numberAt (previous .pressures)) (now (rows .entry)) i))
+        (nodeResiduals (now (case .entry)) (now (rows .entry)) i) ⌝ }
 {
     let old = previous.pressures;
     let nodes = node_answers(case, rows, i, layout.nodes);
@@ -129,7 +133,8 @@ fn part_of(plan: &[i64], i: usize, width: usize) -> &[i64]
 // A step judge that waves a step through falls to the promise, as does one that looks at the first step's part alone.
 pub(crate) fn steps(case: &[i64], plan: &[i64], layout: Layout) -> Verdict
     requires { ⌜ (AcceptedCase (now case)) × (LayoutOf (now case) layout) × (PlanLaid (now case) (now plan)) ⌝ }
-    ensures { λ r. ⌜ r ≡ verdictOf (firstNo (over (planStep (now (case .entry)) (now (plan .entry))) 0 (stepsOf (now (case .entry))))) (totalsOf (now (case .entry)) (now (plan .entry))) ⌝ }
+    ensures { λ r. ⌜ r ≡ verdictOf (firstNo (over (planStep (now (case .entry)) (now (plan .entry))) 0 (stepsOf (now (case .entry)))))
+        (totalsOf (now (case .entry)) (now (plan .entry))) ⌝ }
 {
     let count = layout.steps;
     let arcs = layout.arcs;

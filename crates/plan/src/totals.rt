@@ -206,7 +206,8 @@ pub(crate) fn added(
     i: usize,
     nodes: usize,
 ) -> Totals
-    requires { ⌜ (AtStep (now case) layout i) × (StepKept (now case) (previous .pressures) (now rows) i) × (TotalsSized totals) × (nodes ≡ nodeResiduals (now case) (now rows) i) ⌝ }
+    requires { ⌜ (AtStep (now case) layout i) × (StepKept (now case) (previous .pressures) (now rows) i) × (TotalsSized totals) ×
+        (nodes ≡ nodeResiduals (now case) (now rows) i) ⌝ }
     ensures { λ r. ⌜ Added (now (case .entry)) (now (rows .entry)) previous i totals r ⌝ }
 {
     let old = previous.pressures;
