@@ -20,26 +20,8 @@ abbrev μ-loop : tie.MeasureT-loop
 loop-holds : tie.Need-loop-holds Inv-loop μ-loop
 loop-holds c = (omega arith, let e : c .args .arcs - 0 ≡ c .args .arcs = omega arith in rw e)
 
-mul-offset : tie.Need-mul-offset Inv-loop μ-loop
-mul-offset c = omega arith
-
-add-offset : tie.Need-add-offset Inv-loop μ-loop
-add-offset c = omega arith
-
-end-fields-requires : tie.Need-end-fields-requires Inv-loop μ-loop
-end-fields-requires c κs = omega arith
-
-kind-fields-requires : tie.Need-kind-fields-requires Inv-loop μ-loop
-kind-fields-requires c κs = omega arith
-
-or-else-requires : tie.Need-or-else-requires Inv-loop μ-loop
-or-else-requires c κs = search needs
-
 enum-told : tie.Need-enum-told Inv-loop μ-loop
 enum-told c = search needs
-
-enum-told-2 : tie.Need-enum-told-2 Inv-loop μ-loop
-enum-told-2 c = search needs
 
 returns : tie.Need-returns Inv-loop μ-loop
 returns c = let b = c .before .before in
@@ -50,12 +32,6 @@ returns c = let b = c .before .before in
     let l = now (a .case) in
     let q : b .or-else .result ≡ firstNo (arcFields l (h .loop .e)) = arc-asked l (h .loop .e) (a .first + h .loop .e * 11) (arc-row l (h .loop .e) (s .pre .2)) (b .or-else .ensures) (b .before .before .end-fields .ensures) (b .before .kind-fields .ensures) in
     sym (rest-no (arcFields l) (h .loop .e) (a .arcs) (h .loop .inv .1) (t .loop-test .taken) q (c .enum-told2 .given .1))
-
-add-e : tie.Need-add-e Inv-loop μ-loop
-add-e c = omega arith
-
-loop-less : tie.Need-loop-less Inv-loop μ-loop
-loop-less c = omega arith
 
 loop-again : tie.Need-loop-again Inv-loop μ-loop
 loop-again c = let b = c .before .before in
@@ -74,21 +50,7 @@ returns-2 c = let h = c .before in
     sym (rest-end (arcFields l) (h .loop .e) (a .arcs) (h .loop .inv .1) (c .loop-test .left))
 
 pub arc-rows-spec : {M : Type 1} → statement M
-arc-rows-spec =
-    tie.close
-    (tie.spec
-    Inv-loop
-    μ-loop
-    loop-holds
-    mul-offset
-    add-offset
-    end-fields-requires
-    kind-fields-requires
-    or-else-requires
-    enum-told
-    enum-told-2
-    returns
-    add-e
-    loop-less
-    loop-again
+arc-rows-spec = tie.close (tie.spec
+    Inv-loop μ-loop loop-holds (λ c. omega arith) (λ c. omega arith) (λ c κs. omega arith) (λ c κs. omega arith)
+    (λ c κs. search needs) enum-told (λ c. search needs) returns (λ c. omega arith) (λ c. omega arith) loop-again
     returns-2)

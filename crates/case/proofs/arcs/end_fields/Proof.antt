@@ -12,33 +12,6 @@ use Rattle.numbers.specs.inside.SignedLocals.{kept}
 use Rattle.case.proofs.arcs.end_fields.Statement.{statement}
 use Rattle.case.proofs.arcs.end_fields.Tie as tie
 
-count-requires : tie.Need-count-requires
-count-requires c κs = search needs
-
-last-requires : tie.Need-last-requires
-last-requires c κs = c .count .ensures .small
-
-field-requires : tie.Need-field-requires
-field-requires c κs = search needs
-
-add-fields : tie.Need-add-fields
-add-fields c = search needs
-
-fields-requires : tie.Need-fields-requires
-fields-requires c κs = search needs
-
-add-field : tie.Need-add-field
-add-field c = search needs
-
-field-requires-2 : tie.Need-field-requires-2
-field-requires-2 c κs = search needs
-
-or-else-requires : tie.Need-or-else-requires
-or-else-requires c κs = search needs
-
-or-else-requires-2 : tie.Need-or-else-requires-2
-or-else-requires-2 c κs = search needs
-
 returns : tie.Need-returns
 unfolding endFields
 returns c = let t = c .before .before .before .before .before in
@@ -49,16 +22,7 @@ returns c = let t = c .before .before .before .before .before in
     (c .before .before .field2 .ensures)))
 
 pub end-fields-spec : {M : Type 1} → statement M
-end-fields-spec =
-    tie.close
-    (tie.spec
-    count-requires
-    last-requires
-    field-requires
-    add-fields
-    fields-requires
-    add-field
-    field-requires-2
-    or-else-requires
-    or-else-requires-2
+end-fields-spec = tie.close (tie.spec
+    (λ c κs. search needs) (λ c κs. c .count .ensures .small) (λ c κs. search needs) (λ c. search needs)
+    (λ c κs. search needs) (λ c. search needs) (λ c κs. search needs) (λ c κs. search needs) (λ c κs. search needs)
     returns)

@@ -12,38 +12,11 @@ use Rattle.case.proofs.Counting.{first-is}
 use Rattle.case.proofs.arcs.kind_fields.Statement.{statement}
 use Rattle.case.proofs.arcs.kind_fields.Tie as tie
 
-count-requires : tie.Need-count-requires
-count-requires c κs = search needs
-
-pipe-fields-requires : tie.Need-pipe-fields-requires
-pipe-fields-requires c κs = search needs
-
-add-fields : tie.Need-add-fields
-add-fields c = search needs
-
-fields-requires : tie.Need-fields-requires
-fields-requires c κs = search needs
-
 member-fields-requires : tie.Need-member-fields-requires
 member-fields-requires c κs = (c .before .before .before .before .pre, first-is (c .before .before .before .before .args .offset) (c .before .before .before .count .ensures))
 
-add-fields-2 : tie.Need-add-fields-2
-add-fields-2 c = search needs
-
-fields-requires-2 : tie.Need-fields-requires-2
-fields-requires-2 c κs = search needs
-
-or-else-requires : tie.Need-or-else-requires
-or-else-requires c κs = search needs
-
 member-fields-requires-2 : tie.Need-member-fields-requires-2
 member-fields-requires-2 c κs = (c .before .before .before .before .pre, first-is (c .before .before .before .before .args .offset) (c .before .before .before .count .ensures))
-
-compressor-fields-requires : tie.Need-compressor-fields-requires
-compressor-fields-requires c κs = search needs
-
-or-else-requires-2 : tie.Need-or-else-requires-2
-or-else-requires-2 c κs = search needs
 
 returns : tie.Need-returns
 unfolding kindFields
@@ -83,21 +56,7 @@ returns-4 c = let s = c .before .before .before .before .before .before in
     rw (lt-leb _ _ n, ne-eqb x 2 (λ e. m .before .match .rest .1 (k ∙ e)), lt-leb _ _ o, firstNo-append) (chain (c .or-else2 .ensures) (c .before .before .member-fields2 .ensures) (c .before .compressor-fields .ensures))
 
 pub kind-fields-spec : {M : Type 1} → statement M
-kind-fields-spec =
-    tie.close
-    (tie.spec
-    count-requires
-    pipe-fields-requires
-    add-fields
-    fields-requires
-    member-fields-requires
-    add-fields-2
-    fields-requires-2
-    or-else-requires
-    member-fields-requires-2
-    compressor-fields-requires
-    or-else-requires-2
-    returns
-    returns-2
-    returns-3
-    returns-4)
+kind-fields-spec = tie.close (tie.spec
+    (λ c κs. search needs) (λ c κs. search needs) (λ c. search needs) (λ c κs. search needs) member-fields-requires
+    (λ c. search needs) (λ c κs. search needs) (λ c κs. search needs) member-fields-requires-2 (λ c κs. search needs)
+    (λ c κs. search needs) returns returns-2 returns-3 returns-4)

@@ -12,48 +12,6 @@ use Rattle.numbers.specs.inside.SignedLocals.{kept}
 use Rattle.case.proofs.arcs.member_fields.Statement.{statement}
 use Rattle.case.proofs.arcs.member_fields.Tie as tie
 
-count-requires : tie.Need-count-requires
-count-requires c κs = search needs
-
-last-requires : tie.Need-last-requires
-last-requires c κs = c .count .ensures .small
-
-least-both-ways-requires : tie.Need-least-both-ways-requires
-least-both-ways-requires c κs = search needs
-
-add-field : tie.Need-add-field
-add-field c = search needs
-
-field-requires : tie.Need-field-requires
-field-requires c κs = search needs
-
-add-field-2 : tie.Need-add-field-2
-add-field-2 c = search needs
-
-field-requires-2 : tie.Need-field-requires-2
-field-requires-2 c κs = search needs
-
-add-field-3 : tie.Need-add-field-3
-add-field-3 c = search needs
-
-field-requires-3 : tie.Need-field-requires-3
-field-requires-3 c κs = search needs
-
-add-field-4 : tie.Need-add-field-4
-add-field-4 c = search needs
-
-field-requires-4 : tie.Need-field-requires-4
-field-requires-4 c κs = search needs
-
-or-else-requires : tie.Need-or-else-requires
-or-else-requires c κs = search needs
-
-or-else-requires-2 : tie.Need-or-else-requires-2
-or-else-requires-2 c κs = search needs
-
-or-else-requires-3 : tie.Need-or-else-requires-3
-or-else-requires-3 c κs = search needs
-
 returns : tie.Need-returns
 unfolding memberFields
 returns c = let u = c .before .before .before .before .before .before .before in
@@ -68,21 +26,8 @@ returns c = let u = c .before .before .before .before .before .before .before in
     (c .before .before .before .field4 .ensures))))
 
 pub member-fields-spec : {M : Type 1} → statement M
-member-fields-spec =
-    tie.close
-    (tie.spec
-    count-requires
-    last-requires
-    least-both-ways-requires
-    add-field
-    field-requires
-    add-field-2
-    field-requires-2
-    add-field-3
-    field-requires-3
-    add-field-4
-    field-requires-4
-    or-else-requires
-    or-else-requires-2
-    or-else-requires-3
+member-fields-spec = tie.close (tie.spec
+    (λ c κs. search needs) (λ c κs. c .count .ensures .small) (λ c κs. search needs) (λ c. search needs)
+    (λ c κs. search needs) (λ c. search needs) (λ c κs. search needs) (λ c. search needs) (λ c κs. search needs)
+    (λ c. search needs) (λ c κs. search needs) (λ c κs. search needs) (λ c κs. search needs) (λ c κs. search needs)
     returns)

@@ -12,18 +12,6 @@ use Rattle.numbers.specs.inside.SignedLocals.{kept}
 use Rattle.case.proofs.fields.field.Statement.{statement}
 use Rattle.case.proofs.fields.field.Tie as tie
 
-mul-x : tie.Need-mul-x
-mul-x c = search needs
-
-shared-slice-copy-out-x : tie.Need-shared-slice-copy-out-x
-shared-slice-copy-out-x c = search needs
-
-within-requires : tie.Need-within-requires
-within-requires c κs = search needs
-
-ask-requires : tie.Need-ask-requires
-ask-requires c κs = search needs
-
 returns : tie.Need-returns
 unfolding field
 returns c = let s = c .before .before .before .before in
@@ -37,6 +25,5 @@ unfolding field
 returns-2 c = rw (le-ltb _ _ (c .if1 .left))
 
 pub field-spec : {M : Type 1} → statement M
-field-spec =
-    tie.close
-    (tie.spec mul-x shared-slice-copy-out-x within-requires ask-requires returns returns-2)
+field-spec = tie.close (tie.spec
+    (λ c. search needs) (λ c. search needs) (λ c κs. search needs) (λ c κs. search needs) returns returns-2)

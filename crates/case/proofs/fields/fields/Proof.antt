@@ -22,17 +22,8 @@ loop-holds : tie.Need-loop-holds Inv-loop μ-loop
 unfolding fields
 loop-holds c = (omega arith, let e : c .args .n - 0 ≡ c .args .n = omega arith in rw e)
 
-add-field : tie.Need-add-field Inv-loop μ-loop
-add-field c = omega arith
-
-field-requires : tie.Need-field-requires Inv-loop μ-loop
-field-requires c κs = search needs
-
 enum-told : tie.Need-enum-told Inv-loop μ-loop
 enum-told c = search needs
-
-enum-told-2 : tie.Need-enum-told-2 Inv-loop μ-loop
-enum-told-2 c = search needs
 
 returns : tie.Need-returns Inv-loop μ-loop
 returns c = let b = c .before .before in
@@ -41,12 +32,6 @@ returns c = let b = c .before .before in
     let f = h .before .fits in
     simp (toZ-ofZ (f .low), toZ-ofZ (f .high)) at
     (sym (rest-no (nextField (now (a .case)) (a .i) (toZ w64 (ofZ w64 (a .low))) (toZ w64 (ofZ w64 (a .high)))) (h .loop .j) (a .n) (h .loop .inv .1) (b .before .loop-test .taken) (b .field .ensures) (c .enum-told2 .given .1)))
-
-add-j : tie.Need-add-j Inv-loop μ-loop
-add-j c = omega arith
-
-loop-less : tie.Need-loop-less Inv-loop μ-loop
-loop-less c = omega arith
 
 loop-again : tie.Need-loop-again Inv-loop μ-loop
 loop-again c = let b = c .before .before in
@@ -62,18 +47,6 @@ returns-2 c = let h = c .before in
     (sym (rest-end (nextField (now (a .case)) (a .i) (toZ w64 (ofZ w64 (a .low))) (toZ w64 (ofZ w64 (a .high)))) (h .loop .j) (a .n) (h .loop .inv .1) (c .loop-test .left)))
 
 pub fields-spec : {M : Type 1} → statement M
-fields-spec =
-    tie.close
-    (tie.spec
-    Inv-loop
-    μ-loop
-    loop-holds
-    add-field
-    field-requires
-    enum-told
-    enum-told-2
-    returns
-    add-j
-    loop-less
-    loop-again
-    returns-2)
+fields-spec = tie.close (tie.spec
+    Inv-loop μ-loop loop-holds (λ c. omega arith) (λ c κs. search needs) enum-told (λ c. search needs) returns
+    (λ c. omega arith) (λ c. omega arith) loop-again returns-2)

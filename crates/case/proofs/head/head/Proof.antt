@@ -5,21 +5,6 @@ use Rattle.case.proofs.Asked.{chain}
 use Rattle.case.proofs.head.head.Statement.{statement}
 use Rattle.case.proofs.head.head.Tie as tie
 
-counts-requires : tie.Need-counts-requires
-counts-requires c κs = search needs
-
-field-requires : tie.Need-field-requires
-field-requires c κs = search needs
-
-field-requires-2 : tie.Need-field-requires-2
-field-requires-2 c κs = search needs
-
-or-else-requires : tie.Need-or-else-requires
-or-else-requires c κs = search needs
-
-or-else-requires-2 : tie.Need-or-else-requires-2
-or-else-requires-2 c κs = search needs
-
 returns : tie.Need-returns
 unfolding headFields toleranceFields
 returns c = simp firstNo-append
@@ -28,12 +13,6 @@ returns c = simp firstNo-append
     (c .before .before .field2 .ensures)))
 
 pub head-spec : {M : Type 1} → statement M
-head-spec =
-    tie.close
-    (tie.spec
-    counts-requires
-    field-requires
-    field-requires-2
-    or-else-requires
-    or-else-requires-2
+head-spec = tie.close (tie.spec
+    (λ c κs. search needs) (λ c κs. search needs) (λ c κs. search needs) (λ c κs. search needs) (λ c κs. search needs)
     returns)

@@ -9,12 +9,6 @@ use Rattle.case.specs.law.TimeFields.{timeField}
 use Rattle.case.proofs.head.time_field.Statement.{statement}
 use Rattle.case.proofs.head.time_field.Tie as tie
 
-time-before-requires : tie.Need-time-before-requires
-time-before-requires c κs = search needs
-
-add-field : tie.Need-add-field
-add-field c = search needs
-
 add-field-2 : tie.Need-add-field-2
 add-field-2 c = let t = c in
     let b : Held (toZ w64 (ofZ w64 (t .time-before .result))) (timeBefore (now (t .before .args .case)) (t .before .args .i)) 4147200 = held (record { val = t .time-before .ensures; bound = t .before .pre .1 .bound }) tt in
@@ -25,9 +19,6 @@ add-field-3 c = let t = c in
     let b : Held (toZ w64 (ofZ w64 (t .time-before .result))) (timeBefore (now (t .before .args .case)) (t .before .args .i)) 4147200 = held (record { val = t .time-before .ensures; bound = t .before .pre .1 .bound }) tt in
     held-fits (b +ʳ literal (pos 86400)) tt
 
-field-requires : tie.Need-field-requires
-field-requires c κs = search needs
-
 returns : tie.Need-returns
 unfolding timeField
 returns c = let t = c .before in
@@ -35,6 +26,5 @@ returns c = let t = c .before in
     simp ((held (b +ʳ literal (pos 1)) tt) .val, (held (b +ʳ literal (pos 86400)) tt) .val) at (c .field .ensures)
 
 pub time-field-spec : {M : Type 1} → statement M
-time-field-spec =
-    tie.close
-    (tie.spec time-before-requires add-field add-field-2 add-field-3 field-requires returns)
+time-field-spec = tie.close (tie.spec
+    (λ c κs. search needs) (λ c. search needs) add-field-2 add-field-3 (λ c κs. search needs) returns)

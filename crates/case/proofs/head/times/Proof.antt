@@ -28,9 +28,6 @@ time-field-requires c κs = (omega arith, record { bound = omega (arith, c .befo
 enum-told : tie.Need-enum-told Inv-loop μ-loop
 enum-told c = search needs
 
-enum-told-2 : tie.Need-enum-told-2 Inv-loop μ-loop
-enum-told-2 c = search needs
-
 returns : tie.Need-returns Inv-loop μ-loop
 returns c = let b = c .before .before in
     let t = b .before in
@@ -38,12 +35,6 @@ returns c = let b = c .before .before in
     let a = h .before .args in
     let l = now (a .case) in
     sym (rest-no (timeField l) (h .loop .i) (a .steps) (h .loop .inv .1) (t .loop-test .taken) (b .time-field .ensures) (c .enum-told2 .given .1))
-
-add-i : tie.Need-add-i Inv-loop μ-loop
-add-i c = omega arith
-
-loop-less : tie.Need-loop-less Inv-loop μ-loop
-loop-less c = omega arith
 
 loop-again : tie.Need-loop-again Inv-loop μ-loop
 loop-again c = let b = c .before .before in
@@ -60,17 +51,6 @@ returns-2 c = let h = c .before in
     sym (rest-end (timeField l) (h .loop .i) (a .steps) (h .loop .inv .1) (c .loop-test .left))
 
 pub times-spec : {M : Type 1} → statement M
-times-spec =
-    tie.close
-    (tie.spec
-    Inv-loop
-    μ-loop
-    loop-holds
-    time-field-requires
-    enum-told
-    enum-told-2
-    returns
-    add-i
-    loop-less
-    loop-again
-    returns-2)
+times-spec = tie.close (tie.spec
+    Inv-loop μ-loop loop-holds time-field-requires enum-told (λ c. search needs) returns (λ c. omega arith)
+    (λ c. omega arith) loop-again returns-2)

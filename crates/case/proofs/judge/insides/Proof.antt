@@ -24,21 +24,6 @@ abbrev μ-loop : tie.MeasureT-loop
 loop-holds : tie.Need-loop-holds Inv-loop μ-loop
 loop-holds c = (omega arith, refl, holds-none, clear-new 8 0)
 
-station-nodes-requires : tie.Need-station-nodes-requires Inv-loop μ-loop
-station-nodes-requires c κs = search needs
-
-mul-inside : tie.Need-mul-inside Inv-loop μ-loop
-mul-inside c = omega arith
-
-array-set-from-inside : tie.Need-array-set-from-inside Inv-loop μ-loop
-array-set-from-inside c = omega arith
-
-add-s : tie.Need-add-s Inv-loop μ-loop
-add-s c = omega arith
-
-loop-less : tie.Need-loop-less Inv-loop μ-loop
-loop-less c = omega arith
-
 loop-again : tie.Need-loop-again Inv-loop μ-loop
 unfolding stationNodes
 loop-again c = let h = c .before .before in
@@ -56,16 +41,6 @@ returns c =
     (holds-to (h .loop .inv .2) (c .loop-test .left), rw e at (h .loop .inv .3))
 
 pub insides-spec : {M : Type 1} → statement M
-insides-spec =
-    tie.close
-    (tie.spec
-    Inv-loop
-    μ-loop
-    loop-holds
-    station-nodes-requires
-    mul-inside
-    array-set-from-inside
-    add-s
-    loop-less
-    loop-again
-    returns)
+insides-spec = tie.close (tie.spec
+    Inv-loop μ-loop loop-holds (λ c κs. search needs) (λ c. omega arith) (λ c. omega arith) (λ c. omega arith)
+    (λ c. omega arith) loop-again returns)

@@ -20,9 +20,6 @@ not-both y h = let z : _≡_ {A = ℕ} 0 1 = cc in omega arith
 passes : (c : tie.After-enum-told) → firstNo (listQuestions (now (c .before .before .before .args .case))) ≡ Yes
 passes c = sym (c .before .before .list-answer .ensures) ∙ c .enum-told .given .1
 
-list-answer-requires : tie.Need-list-answer-requires
-list-answer-requires c κs = search needs
-
 enum-told : tie.Need-enum-told
 enum-told c = search needs
 
@@ -34,9 +31,6 @@ rules-requires c κs =
     let e = c .before in
     let l = now (e .before .before .before .args .case) in
     (list-counted l (passes e), c .lay .ensures, list-stations l (passes e), list-ranged l (passes e))
-
-enum-told-2 : tie.Need-enum-told-2
-enum-told-2 c = search needs
 
 returns : tie.Need-returns
 unfolding judgedCase caseQuestions
@@ -63,13 +57,5 @@ returns-2 c =
     }
 
 pub judge-and-lay-spec : {M : Type 1} → statement M
-judge-and-lay-spec =
-    tie.close
-    (tie.spec
-    list-answer-requires
-    enum-told
-    lay-requires
-    rules-requires
-    enum-told-2
-    returns
-    returns-2)
+judge-and-lay-spec = tie.close (tie.spec
+    (λ c κs. search needs) enum-told lay-requires rules-requires (λ c. search needs) returns returns-2)

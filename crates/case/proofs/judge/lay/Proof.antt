@@ -12,24 +12,6 @@ use Rattle.case.proofs.Rows.{first-arc, first-station}
 use Rattle.case.proofs.judge.lay.Statement.{statement}
 use Rattle.case.proofs.judge.lay.Tie as tie
 
-count-requires : tie.Need-count-requires
-count-requires c κs = search needs
-
-count-requires-2 : tie.Need-count-requires-2
-count-requires-2 c κs = search needs
-
-count-requires-3 : tie.Need-count-requires-3
-count-requires-3 c κs = search needs
-
-count-requires-4 : tie.Need-count-requires-4
-count-requires-4 c κs = search needs
-
-add-first : tie.Need-add-first
-add-first c = search needs
-
-add-first-2 : tie.Need-add-first-2
-add-first-2 c = search needs
-
 mul-first : tie.Need-mul-first
 mul-first c = let s = c .before .before .before .before in
     let l = now (s .args .case) in
@@ -48,9 +30,6 @@ add-first-3 c = let s = c .before .before .before .before in
     let k : c .count4 .result ≡ stepsOf l = c .count4 .ensures .value in
     omega (arith, first-arc l n k, arcs-begin l (s .pre .0), first-station l n k a, stations-begin l (s .pre .0))
 
-mul-first-2 : tie.Need-mul-first-2
-mul-first-2 c = search needs
-
 add-first-4 : tie.Need-add-first-4
 add-first-4 c = let s = c .before .before .before .before in
     let l = now (s .args .case) in
@@ -68,12 +47,6 @@ station-firsts-requires c κs = let s = c .before .before .before .before in
     let t : c .before .count3 .result ≡ stationsOf l = c .before .count3 .ensures .value in
     let k : c .count4 .result ≡ stepsOf l = c .count4 .ensures .value in
     (omega (arith, first-arc l n k, arcs-begin l (s .pre .0), first-station l n k a, stations-begin l (s .pre .0)), first-station l n k a, omega (arith, t, s .pre .0 .stations), t, s .pre .1)
-
-insides-requires : tie.Need-insides-requires
-insides-requires c κs = search needs
-
-plain-nodes-requires : tie.Need-plain-nodes-requires
-plain-nodes-requires c κs = search needs
 
 returns : tie.Need-returns
 unfolding plainNodes
@@ -96,20 +69,7 @@ returns c = let s = c .before .before .before .before .before .before .before in
     }
 
 pub lay-spec : {M : Type 1} → statement M
-lay-spec =
-    tie.close
-    (tie.spec
-    count-requires
-    count-requires-2
-    count-requires-3
-    count-requires-4
-    add-first
-    add-first-2
-    mul-first
-    add-first-3
-    mul-first-2
-    add-first-4
-    station-firsts-requires
-    insides-requires
-    plain-nodes-requires
-    returns)
+lay-spec = tie.close (tie.spec
+    (λ c κs. search needs) (λ c κs. search needs) (λ c κs. search needs) (λ c κs. search needs) (λ c. search needs)
+    (λ c. search needs) mul-first add-first-3 (λ c. search needs) add-first-4 station-firsts-requires
+    (λ c κs. search needs) (λ c κs. search needs) returns)

@@ -8,17 +8,11 @@ use Rattle.case.proofs.Asked.{stopped, went}
 use Rattle.case.proofs.judge.list_answer.Statement.{statement}
 use Rattle.case.proofs.judge.list_answer.Tie as tie
 
-head-requires : tie.Need-head-requires
-head-requires c κs = search needs
-
 enum-told : tie.Need-enum-told
 enum-told c = search needs
 
 rows-requires : tie.Need-rows-requires
 rows-requires c κs = head-counted (now (c .before .before .before .args .case)) (sym (c .before .before .head .ensures) ∙ c .enum-told .given .1)
-
-enum-told-2 : tie.Need-enum-told-2
-enum-told-2 c = search needs
 
 returns : tie.Need-returns
 unfolding listQuestions
@@ -33,5 +27,5 @@ returns-2 c = let h = c .before .before in
     (stopped (headFields l) (rowQuestions l) (h .head .ensures) (c .enum-told2 .given .1))
 
 pub list-answer-spec : {M : Type 1} → statement M
-list-answer-spec =
-    tie.close (tie.spec head-requires enum-told rows-requires enum-told-2 returns returns-2)
+list-answer-spec = tie.close (tie.spec
+    (λ c κs. search needs) enum-told rows-requires (λ c. search needs) returns returns-2)

@@ -14,24 +14,6 @@ use Rattle.case.proofs.Rows.{first-arc, first-station}
 use Rattle.case.proofs.judge.rows.Statement.{statement}
 use Rattle.case.proofs.judge.rows.Tie as tie
 
-count-requires : tie.Need-count-requires
-count-requires c κs = search needs
-
-count-requires-2 : tie.Need-count-requires-2
-count-requires-2 c κs = search needs
-
-count-requires-3 : tie.Need-count-requires-3
-count-requires-3 c κs = search needs
-
-count-requires-4 : tie.Need-count-requires-4
-count-requires-4 c κs = search needs
-
-add-first-arc : tie.Need-add-first-arc
-add-first-arc c = search needs
-
-add-first-arc-2 : tie.Need-add-first-arc-2
-add-first-arc-2 c = search needs
-
 mul-first-arc : tie.Need-mul-first-arc
 mul-first-arc c = let s = c .before .before .before .before in
     let l = now (s .args .case) in
@@ -50,12 +32,6 @@ add-first-arc-3 c = let s = c .before .before .before .before in
     let k : c .count4 .result ≡ stepsOf l = c .count4 .ensures .value in
     omega (arith, first-arc l n k, arcs-begin l (s .pre), first-station l n k a, stations-begin l (s .pre))
 
-times-requires : tie.Need-times-requires
-times-requires c κs = search needs
-
-node-rows-requires : tie.Need-node-rows-requires
-node-rows-requires c κs = search needs
-
 arc-rows-requires : tie.Need-arc-rows-requires
 arc-rows-requires c κs = let s = c .before .before .before .before .before .before in
     let l = now (s .args .case) in
@@ -64,9 +40,6 @@ arc-rows-requires c κs = let s = c .before .before .before .before .before .bef
     let t : c .before .before .before .count3 .result ≡ stationsOf l = c .before .before .before .count3 .ensures .value in
     let k : c .before .before .count4 .result ≡ stepsOf l = c .before .before .count4 .ensures .value in
     (omega (arith, first-arc l n k, arcs-begin l (s .pre), first-station l n k a, stations-begin l (s .pre)), omega (arith, a, s .pre .arcs), first-arc l n k)
-
-mul-station-rows : tie.Need-mul-station-rows
-mul-station-rows c = search needs
 
 add-station-rows : tie.Need-add-station-rows
 add-station-rows c = let s = c .before .before .before .before .before .before .before in
@@ -86,15 +59,6 @@ station-rows-requires c κs = let s = c .before .before .before .before .before 
     let k : c .before .before .before .count4 .result ≡ stepsOf l = c .before .before .before .count4 .ensures .value in
     (omega (arith, first-arc l n k, arcs-begin l (s .pre), first-station l n k a, stations-begin l (s .pre)), first-station l n k a, omega (arith, t, s .pre .stations), t)
 
-or-else-requires : tie.Need-or-else-requires
-or-else-requires c κs = search needs
-
-or-else-requires-2 : tie.Need-or-else-requires-2
-or-else-requires-2 c κs = search needs
-
-or-else-requires-3 : tie.Need-or-else-requires-3
-or-else-requires-3 c κs = search needs
-
 returns : tie.Need-returns
 unfolding rowQuestions timeFields allNodeFields allArcFields
 returns c = let s = c .before .before .before .before .before .before .before .before .before .before .before in
@@ -110,24 +74,8 @@ returns c = let s = c .before .before .before .before .before .before .before .b
     (simp firstNo-append at (c .before .before .before .station-rows .ensures)))))
 
 pub rows-spec : {M : Type 1} → statement M
-rows-spec =
-    tie.close
-    (tie.spec
-    count-requires
-    count-requires-2
-    count-requires-3
-    count-requires-4
-    add-first-arc
-    add-first-arc-2
-    mul-first-arc
-    add-first-arc-3
-    times-requires
-    node-rows-requires
-    arc-rows-requires
-    mul-station-rows
-    add-station-rows
-    station-rows-requires
-    or-else-requires
-    or-else-requires-2
-    or-else-requires-3
-    returns)
+rows-spec = tie.close (tie.spec
+    (λ c κs. search needs) (λ c κs. search needs) (λ c κs. search needs) (λ c κs. search needs) (λ c. search needs)
+    (λ c. search needs) mul-first-arc add-first-arc-3 (λ c κs. search needs) (λ c κs. search needs) arc-rows-requires
+    (λ c. search needs) add-station-rows station-rows-requires (λ c κs. search needs) (λ c κs. search needs)
+    (λ c κs. search needs) returns)

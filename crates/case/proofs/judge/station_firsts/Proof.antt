@@ -21,24 +21,12 @@ abbrev μ-loop : tie.MeasureT-loop
 loop-holds : tie.Need-loop-holds Inv-loop μ-loop
 loop-holds c = (omega arith, c .pre .1, omega (arith, c .pre .0), refl, holds-none, clear-new 8 0)
 
-mul-offsets : tie.Need-mul-offsets Inv-loop μ-loop
-mul-offsets c = omega arith
-
-array-write-offsets : tie.Need-array-write-offsets Inv-loop μ-loop
-array-write-offsets c = omega arith
-
 station-end-requires : tie.Need-station-end-requires Inv-loop μ-loop
 station-end-requires c κs = let h = c .before in
     let s = h .before in
     let l = now (s .args .case) in
     let p : h .loop .s < stationsOf l = omega (arith, s .pre .3, c .loop-test .taken) in
     (omega (arith, h .loop .inv .2, s .pre .2, c .loop-test .taken), rw (h .loop .inv .1) (s .pre .4 .each (h .loop .s) p))
-
-add-s : tie.Need-add-s Inv-loop μ-loop
-add-s c = omega arith
-
-loop-less : tie.Need-loop-less Inv-loop μ-loop
-loop-less c = omega arith
 
 loop-again : tie.Need-loop-again Inv-loop μ-loop
 loop-again c = let h = c .before .before in
@@ -63,16 +51,6 @@ returns c =
     (holds-to (h .loop .inv .4) (c .loop-test .left), rw e at (h .loop .inv .5))
 
 pub station-firsts-spec : {M : Type 1} → statement M
-station-firsts-spec =
-    tie.close
-    (tie.spec
-    Inv-loop
-    μ-loop
-    loop-holds
-    mul-offsets
-    array-write-offsets
-    station-end-requires
-    add-s
-    loop-less
-    loop-again
-    returns)
+station-firsts-spec = tie.close (tie.spec
+    Inv-loop μ-loop loop-holds (λ c. omega arith) (λ c. omega arith) station-end-requires (λ c. omega arith)
+    (λ c. omega arith) loop-again returns)

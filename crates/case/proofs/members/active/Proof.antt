@@ -5,16 +5,10 @@ use Rattle.case.proofs.Reading.{count-in}
 use Rattle.case.proofs.members.active.Statement.{statement}
 use Rattle.case.proofs.members.active.Tie as tie
 
-arc-at-requires : tie.Need-arc-at-requires
-arc-at-requires c κs = search needs
-
-count-requires : tie.Need-count-requires
-count-requires c κs = search needs
-
 returns : tie.Need-returns
 returns c = let a = c .before .before .args in
     let l = now (a .case) in
     rw (count-in l (arcAt l (a .e)) 7 (c .before .arc-at .ensures) (c .count .ensures .value))
 
 pub active-spec : {M : Type 1} → statement M
-active-spec = tie.close (tie.spec arc-at-requires count-requires returns)
+active-spec = tie.close (tie.spec (λ c κs. search needs) (λ c κs. search needs) returns)

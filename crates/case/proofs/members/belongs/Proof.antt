@@ -8,15 +8,6 @@ use Rattle.case.proofs.Reading.{count-in, first-count}
 use Rattle.case.proofs.members.belongs.Statement.{statement}
 use Rattle.case.proofs.members.belongs.Tie as tie
 
-arc-at-requires : tie.Need-arc-at-requires
-arc-at-requires c κs = search needs
-
-count-requires : tie.Need-count-requires
-count-requires c κs = search needs
-
-count-requires-2 : tie.Need-count-requires-2
-count-requires-2 c κs = search needs
-
 returns : tie.Need-returns
 returns c = let u = c .before .before .before in
     let a = u .before .args in
@@ -32,5 +23,5 @@ returns-2 c = let u = c .before .before in
     rw (← k, lt-leb _ _ (c .if1 .left))
 
 pub belongs-spec : {M : Type 1} → statement M
-belongs-spec =
-    tie.close (tie.spec arc-at-requires count-requires count-requires-2 returns returns-2)
+belongs-spec = tie.close (tie.spec
+    (λ c κs. search needs) (λ c κs. search needs) (λ c κs. search needs) returns returns-2)

@@ -5,16 +5,10 @@ use Rattle.case.proofs.Reading.{first-count}
 use Rattle.case.proofs.members.plain.Statement.{statement}
 use Rattle.case.proofs.members.plain.Tie as tie
 
-arc-at-requires : tie.Need-arc-at-requires
-arc-at-requires c κs = search needs
-
-count-requires : tie.Need-count-requires
-count-requires c κs = search needs
-
 returns : tie.Need-returns
 returns c = let a = c .before .before .args in
     let l = now (a .case) in
     rw (first-count l (arcAt l (a .e)) (c .before .arc-at .ensures) (c .count .ensures .value))
 
 pub plain-spec : {M : Type 1} → statement M
-plain-spec = tie.close (tie.spec arc-at-requires count-requires returns)
+plain-spec = tie.close (tie.spec (λ c κs. search needs) (λ c κs. search needs) returns)

@@ -29,9 +29,6 @@ abbrev μ-loop : tie.MeasureT-loop
 loop-holds : tie.Need-loop-holds Inv-loop μ-loop
 loop-holds c = let l = now (c .args .case) in (omega arith, sym (before-none l (c .args .s)), sym (arcs-none l (c .args .s) (activeAtStart l)))
 
-belongs-requires : tie.Need-belongs-requires Inv-loop μ-loop
-belongs-requires c κs = search needs
-
 with-arc-requires : tie.Need-with-arc-requires Inv-loop μ-loop
 with-arc-requires c κs = let b = c .before in
     let h = b .before .before in
@@ -44,12 +41,6 @@ with-arc-requires c κs = let b = c .before in
 
 add-n : tie.Need-add-n Inv-loop μ-loop
 add-n c = let h = c .before .before .before .before in omega (arith, h .loop .inv .1, before-le (now (h .before .args .case)) (h .before .args .s) (h .loop .e))
-
-add-e : tie.Need-add-e Inv-loop μ-loop
-add-e c = omega arith
-
-loop-less : tie.Need-loop-less Inv-loop μ-loop
-loop-less c = omega arith
 
 loop-again : tie.Need-loop-again Inv-loop μ-loop
 loop-again c = let b = c .before in
@@ -83,17 +74,6 @@ returns c = let h = c .before in
     toZ-pos w64 (set-fits l (a .s) (h .loop .e) (a .arcs) (h .loop .inv .0) (h .before .pre) (h .loop .inv .2)) ∙ ap pos (rw e at (h .loop .inv .2))
 
 pub start-set-spec : {M : Type 1} → statement M
-start-set-spec =
-    tie.close
-    (tie.spec
-    Inv-loop
-    μ-loop
-    loop-holds
-    belongs-requires
-    with-arc-requires
-    add-n
-    add-e
-    loop-less
-    loop-again
-    cast-result
-    returns)
+start-set-spec = tie.close (tie.spec
+    Inv-loop μ-loop loop-holds (λ c κs. search needs) with-arc-requires add-n (λ c. omega arith) (λ c. omega arith)
+    loop-again cast-result returns)

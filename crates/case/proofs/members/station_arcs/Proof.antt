@@ -18,17 +18,8 @@ abbrev μ-loop : tie.MeasureT-loop
 loop-holds : tie.Need-loop-holds Inv-loop μ-loop
 loop-holds c = (omega arith, sym (before-none (now (c .args .case)) (c .args .s)))
 
-belongs-requires : tie.Need-belongs-requires Inv-loop μ-loop
-belongs-requires c κs = search needs
-
 add-own : tie.Need-add-own Inv-loop μ-loop
 add-own c = let h = c .before .before .before in omega (arith, before-le (now (h .before .args .case)) (h .before .args .s) (h .loop .e))
-
-add-e : tie.Need-add-e Inv-loop μ-loop
-add-e c = omega arith
-
-loop-less : tie.Need-loop-less Inv-loop μ-loop
-loop-less c = omega arith
 
 loop-again : tie.Need-loop-again Inv-loop μ-loop
 loop-again c = let b = c .before in
@@ -47,6 +38,5 @@ returns : tie.Need-returns Inv-loop μ-loop
 returns c = let e : c .before .loop .e ≡ c .before .before .args .arcs = omega arith in rw e at (c .before .loop .inv .1)
 
 pub station-arcs-spec : {M : Type 1} → statement M
-station-arcs-spec =
-    tie.close
-    (tie.spec Inv-loop μ-loop loop-holds belongs-requires add-own add-e loop-less loop-again returns)
+station-arcs-spec = tie.close (tie.spec
+    Inv-loop μ-loop loop-holds (λ c κs. search needs) add-own (λ c. omega arith) (λ c. omega arith) loop-again returns)

@@ -22,18 +22,6 @@ abbrev μ-loop : tie.MeasureT-loop
 loop-holds : tie.Need-loop-holds Inv-loop μ-loop
 loop-holds c = let l = now (c .args .case) in let a = c .args in (omega arith, sym (ends-none l (belongs l (a .s))))
 
-belongs-requires : tie.Need-belongs-requires Inv-loop μ-loop
-belongs-requires c κs = search needs
-
-with-ends-requires : tie.Need-with-ends-requires Inv-loop μ-loop
-with-ends-requires c κs = search needs
-
-add-e : tie.Need-add-e Inv-loop μ-loop
-add-e c = omega arith
-
-loop-less : tie.Need-loop-less Inv-loop μ-loop
-loop-less c = omega arith
-
 loop-again : tie.Need-loop-again Inv-loop μ-loop
 loop-again c = let b = c .before in
     let h = b .before .before in
@@ -62,16 +50,6 @@ returns c = let h = c .before in
     toZ-pos w64 f ∙ ap pos (rw e at (h .loop .inv .1))
 
 pub station-nodes-spec : {M : Type 1} → statement M
-station-nodes-spec =
-    tie.close
-    (tie.spec
-    Inv-loop
-    μ-loop
-    loop-holds
-    belongs-requires
-    with-ends-requires
-    add-e
-    loop-less
-    loop-again
-    cast-result
-    returns)
+station-nodes-spec = tie.close (tie.spec
+    Inv-loop μ-loop loop-holds (λ c κs. search needs) (λ c κs. search needs) (λ c. omega arith) (λ c. omega arith)
+    loop-again cast-result returns)

@@ -7,12 +7,6 @@ use Rattle.numbers.specs.inside.ItemBits.{shifted}
 use Rattle.case.proofs.members.with_arc.Statement.{statement}
 use Rattle.case.proofs.members.with_arc.Tie as tie
 
-active-requires : tie.Need-active-requires
-active-requires c κs = search needs
-
-shl-result : tie.Need-shl-result
-shl-result c = omega arith
-
 add-result : tie.Need-add-result
 add-result c = let s = c .before .before in
     let p : 2 ^ s .args .n < 2 ^ 62 = pow-lt (s .pre .0) in
@@ -28,4 +22,4 @@ returns-2 c = let s = c .before .before in
     rw (sym (c .before .active .ensures) ∙ c .if1 .left) (omega arith)
 
 pub with-arc-spec : {M : Type 1} → statement M
-with-arc-spec = tie.close (tie.spec active-requires shl-result add-result returns returns-2)
+with-arc-spec = tie.close (tie.spec (λ c κs. search needs) (λ c. omega arith) add-result returns returns-2)

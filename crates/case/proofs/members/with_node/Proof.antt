@@ -6,9 +6,6 @@ use Rattle.numbers.specs.inside.ItemBits.{shifted}
 use Rattle.case.proofs.members.with_node.Statement.{statement}
 use Rattle.case.proofs.members.with_node.Tie as tie
 
-shl-result : tie.Need-shl-result
-shl-result c = search needs
-
 returns : tie.Need-returns
 unfolding withNode
 returns c = rw (shifted (c .before .args .v) (omega arith), lt-ltb _ _ (c .if1 .taken))
@@ -18,4 +15,4 @@ unfolding withNode
 returns-2 c = rw (le-ltb _ _ (c .if1 .left))
 
 pub with-node-spec : {M : Type 1} → statement M
-with-node-spec = tie.close (tie.spec shl-result returns returns-2)
+with-node-spec = tie.close (tie.spec (λ c. search needs) returns returns-2)

@@ -12,45 +12,6 @@ use Rattle.numbers.specs.inside.SignedLocals.{kept}
 use Rattle.case.proofs.nodes.bound_fields.Statement.{statement}
 use Rattle.case.proofs.nodes.bound_fields.Tie as tie
 
-number-requires : tie.Need-number-requires
-number-requires c κs = search needs
-
-number-requires-2 : tie.Need-number-requires-2
-number-requires-2 c κs = search needs
-
-number-requires-3 : tie.Need-number-requires-3
-number-requires-3 c κs = search needs
-
-field-requires : tie.Need-field-requires
-field-requires c κs = search needs
-
-add-fields : tie.Need-add-fields
-add-fields c = search needs
-
-fields-requires : tie.Need-fields-requires
-fields-requires c κs = search needs
-
-add-field : tie.Need-add-field
-add-field c = search needs
-
-field-requires-2 : tie.Need-field-requires-2
-field-requires-2 c κs = search needs
-
-add-field-2 : tie.Need-add-field-2
-add-field-2 c = search needs
-
-field-requires-3 : tie.Need-field-requires-3
-field-requires-3 c κs = search needs
-
-or-else-requires : tie.Need-or-else-requires
-or-else-requires c κs = search needs
-
-or-else-requires-2 : tie.Need-or-else-requires-2
-or-else-requires-2 c κs = search needs
-
-or-else-requires-3 : tie.Need-or-else-requires-3
-or-else-requires-3 c κs = search needs
-
 returns : tie.Need-returns
 unfolding boundFields
 returns c = let u = c .before .before .before .before .before .before .before in
@@ -68,20 +29,7 @@ returns c = let u = c .before .before .before .before .before .before .before in
     (simp (actlow, high) at (c .before .before .before .field3 .ensures)))))
 
 pub bound-fields-spec : {M : Type 1} → statement M
-bound-fields-spec =
-    tie.close
-    (tie.spec
-    number-requires
-    number-requires-2
-    number-requires-3
-    field-requires
-    add-fields
-    fields-requires
-    add-field
-    field-requires-2
-    add-field-2
-    field-requires-3
-    or-else-requires
-    or-else-requires-2
-    or-else-requires-3
-    returns)
+bound-fields-spec = tie.close (tie.spec
+    (λ c κs. search needs) (λ c κs. search needs) (λ c κs. search needs) (λ c κs. search needs) (λ c. search needs)
+    (λ c κs. search needs) (λ c. search needs) (λ c κs. search needs) (λ c. search needs) (λ c κs. search needs)
+    (λ c κs. search needs) (λ c κs. search needs) (λ c κs. search needs) returns)

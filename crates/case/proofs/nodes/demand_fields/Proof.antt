@@ -8,27 +8,6 @@ use Rattle.case.proofs.Counting.{first-is}
 use Rattle.case.proofs.nodes.demand_fields.Statement.{statement}
 use Rattle.case.proofs.nodes.demand_fields.Tie as tie
 
-count-requires : tie.Need-count-requires
-count-requires c κs = search needs
-
-add-fields : tie.Need-add-fields
-add-fields c = search needs
-
-fields-requires : tie.Need-fields-requires
-fields-requires c κs = search needs
-
-add-fields-2 : tie.Need-add-fields-2
-add-fields-2 c = search needs
-
-fields-requires-2 : tie.Need-fields-requires-2
-fields-requires-2 c κs = search needs
-
-add-fields-3 : tie.Need-add-fields-3
-add-fields-3 c = search needs
-
-fields-requires-3 : tie.Need-fields-requires-3
-fields-requires-3 c κs = search needs
-
 returns : tie.Need-returns
 unfolding demandFields
 returns c = let s = c .before .before .before in
@@ -52,16 +31,6 @@ returns-3 c = let s = c .before .before .before in
     rw (ne-eqb (countAt l (s .args .offset)) 1 (λ e. r .0 .1 (k ∙ e)), ne-eqb (countAt l (s .args .offset)) 2 (λ e. r .1 (k ∙ e)), ← s .pre .2) (c .fields3 .ensures)
 
 pub demand-fields-spec : {M : Type 1} → statement M
-demand-fields-spec =
-    tie.close
-    (tie.spec
-    count-requires
-    add-fields
-    fields-requires
-    add-fields-2
-    fields-requires-2
-    add-fields-3
-    fields-requires-3
-    returns
-    returns-2
-    returns-3)
+demand-fields-spec = tie.close (tie.spec
+    (λ c κs. search needs) (λ c. search needs) (λ c κs. search needs) (λ c. search needs) (λ c κs. search needs)
+    (λ c. search needs) (λ c κs. search needs) returns returns-2 returns-3)

@@ -11,12 +11,6 @@ use Rattle.case.proofs.Counting.{node-row}
 use Rattle.case.proofs.nodes.node_fields.Statement.{statement}
 use Rattle.case.proofs.nodes.node_fields.Tie as tie
 
-add-offset : tie.Need-add-offset
-add-offset c = search needs
-
-add-offset-2 : tie.Need-add-offset-2
-add-offset-2 c = search needs
-
 mul-offset : tie.Need-mul-offset
 mul-offset c = omega (arith, node-row (c .args .v) (c .args .steps) (c .pre .0) (c .pre .1))
 
@@ -29,9 +23,6 @@ bound-fields-requires c κs = omega (arith, node-row (c .args .v) (c .args .step
 demand-fields-requires : tie.Need-demand-fields-requires
 demand-fields-requires c κs = let s = c .before in (omega (arith, node-row (s .args .v) (s .args .steps) (s .pre .0) (s .pre .1)), s .pre .1, s .pre .2)
 
-or-else-requires : tie.Need-or-else-requires
-or-else-requires c κs = search needs
-
 returns : tie.Need-returns
 unfolding nodeFields nodeAt
 returns c = let s = c .before .before .before in
@@ -42,14 +33,6 @@ returns c = let s = c .before .before .before in
     (simp offset at (c .before .demand-fields .ensures)))
 
 pub node-fields-spec : {M : Type 1} → statement M
-node-fields-spec =
-    tie.close
-    (tie.spec
-    add-offset
-    add-offset-2
-    mul-offset
-    add-offset-3
-    bound-fields-requires
-    demand-fields-requires
-    or-else-requires
-    returns)
+node-fields-spec = tie.close (tie.spec
+    (λ c. search needs) (λ c. search needs) mul-offset add-offset-3 bound-fields-requires demand-fields-requires
+    (λ c κs. search needs) returns)

@@ -25,9 +25,6 @@ node-fields-requires c κs = (omega arith, omega arith, c .before .before .pre .
 enum-told : tie.Need-enum-told Inv-loop μ-loop
 enum-told c = search needs
 
-enum-told-2 : tie.Need-enum-told-2 Inv-loop μ-loop
-enum-told-2 c = search needs
-
 returns : tie.Need-returns Inv-loop μ-loop
 returns c = let b = c .before .before in
     let t = b .before in
@@ -35,12 +32,6 @@ returns c = let b = c .before .before in
     let a = h .before .args in
     let l = now (a .case) in
     sym (rest-no (nodeFields l) (h .loop .v) (a .nodes) (h .loop .inv .1) (t .loop-test .taken) (b .node-fields .ensures) (c .enum-told2 .given .1))
-
-add-v : tie.Need-add-v Inv-loop μ-loop
-add-v c = omega arith
-
-loop-less : tie.Need-loop-less Inv-loop μ-loop
-loop-less c = omega arith
 
 loop-again : tie.Need-loop-again Inv-loop μ-loop
 loop-again c = let b = c .before .before in
@@ -57,17 +48,6 @@ returns-2 c = let h = c .before in
     sym (rest-end (nodeFields l) (h .loop .v) (a .nodes) (h .loop .inv .1) (c .loop-test .left))
 
 pub node-rows-spec : {M : Type 1} → statement M
-node-rows-spec =
-    tie.close
-    (tie.spec
-    Inv-loop
-    μ-loop
-    loop-holds
-    node-fields-requires
-    enum-told
-    enum-told-2
-    returns
-    add-v
-    loop-less
-    loop-again
-    returns-2)
+node-rows-spec = tie.close (tie.spec
+    Inv-loop μ-loop loop-holds node-fields-requires enum-told (λ c. search needs) returns (λ c. omega arith)
+    (λ c. omega arith) loop-again returns-2)

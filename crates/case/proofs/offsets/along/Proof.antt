@@ -8,12 +8,6 @@ use Rattle.case.proofs.offsets.along.Tie as tie
 returns : tie.Need-returns
 returns c = search needs
 
-sub-if2 : tie.Need-sub-if2
-sub-if2 c = search needs
-
-div-if2 : tie.Need-div-if2
-div-if2 c = search needs
-
 returns-2 : tie.Need-returns-2
 returns-2 c = let a = c .before .before .args in omega (arith, rows-past (a .end - a .at) (a .count) (a .width) (c .before .before .pre) (c .if2 .taken))
 
@@ -27,4 +21,5 @@ returns-3 : tie.Need-returns-3
 returns-3 c = let a = c .before .before .args in omega (arith, rows-fit (a .end - a .at) (a .count) (a .width) (c .before .before .pre) (c .if2 .left))
 
 pub along-spec : {M : Type 1} → statement M
-along-spec = tie.close (tie.spec returns sub-if2 div-if2 returns-2 mul-result add-result returns-3)
+along-spec = tie.close (tie.spec
+    returns (λ c. search needs) (λ c. search needs) returns-2 mul-result add-result returns-3)

@@ -8,16 +8,10 @@ use Rattle.case.proofs.Reading.{count-small}
 use Rattle.case.proofs.offsets.count.Statement.{statement}
 use Rattle.case.proofs.offsets.count.Tie as tie
 
-number-requires : tie.Need-number-requires
-number-requires c κs = search needs
-
-index-requires : tie.Need-index-requires
-index-requires c κs = search needs
-
 returns : tie.Need-returns
 returns c = let n = c .before .number in
     let e : toZ w64 (ofZ w64 (n .result)) ≡ n .result = kept (n .result) (n .ok) in
     record { value = c .index .ensures ∙ ap posPart (e ∙ n .ensures); small = rw (c .index .ensures, e) (count-small (n .result) (n .ok)) }
 
 pub count-spec : {M : Type 1} → statement M
-count-spec = tie.close (tie.spec number-requires index-requires returns)
+count-spec = tie.close (tie.spec (λ c κs. search needs) (λ c κs. search needs) returns)

@@ -9,9 +9,6 @@ use Rattle.numbers.specs.inside.SignedParts.{ints, taken}
 use Rattle.case.proofs.offsets.last.Statement.{statement}
 use Rattle.case.proofs.offsets.last.Tie as tie
 
-cast-result : tie.Need-cast-result
-cast-result c = search needs
-
 sub-result : tie.Need-sub-result
 sub-result c = ranged _ (rw (toZ-pos w64 (c .pre)) (omega (ints, taken (pos (c .args .n)) (pos 1))))
 
@@ -20,4 +17,4 @@ returns c = let e : toZ w64 (c .args .n) ≡ pos (c .args .n) = toZ-pos w64 (c .
     toZ-ofZ (ranged (toZ w64 (c .args .n) -ℤ pos 1) (rw e (omega (ints, taken (pos (c .args .n)) (pos 1))))) ∙ rw e
 
 pub last-spec : {M : Type 1} → statement M
-last-spec = tie.close (tie.spec cast-result sub-result returns)
+last-spec = tie.close (tie.spec (λ c. search needs) sub-result returns)

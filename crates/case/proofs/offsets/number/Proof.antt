@@ -6,18 +6,6 @@ use Rattle.case.proofs.Reading.{past}
 use Rattle.case.proofs.offsets.number.Statement.{statement}
 use Rattle.case.proofs.offsets.number.Tie as tie
 
-sub-if2 : tie.Need-sub-if2
-sub-if2 c = search needs
-
-add-result : tie.Need-add-result
-add-result c = search needs
-
-mul-result : tie.Need-mul-result
-mul-result c = search needs
-
-shared-slice-copy-out-result : tie.Need-shared-slice-copy-out-result
-shared-slice-copy-out-result c = search needs
-
 returns : tie.Need-returns
 returns c = search needs
 
@@ -28,13 +16,5 @@ returns-3 : tie.Need-returns-3
 returns-3 c = let a = c .before .args in past (now (a .case)) (a .offset + a .j) (omega arith)
 
 pub number-spec : {M : Type 1} → statement M
-number-spec =
-    tie.close
-    (tie.spec
-    sub-if2
-    add-result
-    mul-result
-    shared-slice-copy-out-result
-    returns
-    returns-2
-    returns-3)
+number-spec = tie.close (tie.spec
+    (λ c. search needs) (λ c. search needs) (λ c. search needs) (λ c. search needs) returns returns-2 returns-3)

@@ -7,15 +7,6 @@ use Rattle.case.specs.law.Layout.{countAt, directionCount, stateAt}
 use Rattle.case.proofs.offsets.state_at.Statement.{statement}
 use Rattle.case.proofs.offsets.state_at.Tie as tie
 
-count-requires : tie.Need-count-requires
-count-requires c κs = search needs
-
-direction-at-requires : tie.Need-direction-at-requires
-direction-at-requires c κs = search needs
-
-along-requires : tie.Need-along-requires
-along-requires c κs = search needs
-
 returns : tie.Need-returns
 unfolding stateAt
 returns c = let a = c .before .before .before .args in
@@ -23,4 +14,4 @@ returns c = let a = c .before .before .before .args in
     c .along .ensures ∙ rw (c .before .direction-at .ensures, n) (omega arith)
 
 pub state-at-spec : {M : Type 1} → statement M
-state-at-spec = tie.close (tie.spec count-requires direction-at-requires along-requires returns)
+state-at-spec = tie.close (tie.spec (λ c κs. search needs) (λ c κs. search needs) (λ c κs. search needs) returns)

@@ -7,21 +7,6 @@ use Rattle.case.proofs.Reading.{number-in, count-in, first-count}
 use Rattle.case.proofs.read.arc.Statement.{statement}
 use Rattle.case.proofs.read.arc.Tie as tie
 
-arc-at-requires : tie.Need-arc-at-requires
-arc-at-requires c κs = search needs
-
-count-requires : tie.Need-count-requires
-count-requires c κs = search needs
-
-count-requires-2 : tie.Need-count-requires-2
-count-requires-2 c κs = search needs
-
-count-requires-3 : tie.Need-count-requires-3
-count-requires-3 c κs = search needs
-
-number-requires : tie.Need-number-requires
-number-requires c κs = search needs
-
 returns : tie.Need-returns
 returns c = let a = c .before .before .before .before .before .args in
     let l = now (a .case) in
@@ -34,12 +19,6 @@ returns c = let a = c .before .before .before .before .before .args in
     rw (e0, e1, e2, e3)
 
 pub arc-spec : {M : Type 1} → statement M
-arc-spec =
-    tie.close
-    (tie.spec
-    arc-at-requires
-    count-requires
-    count-requires-2
-    count-requires-3
-    number-requires
+arc-spec = tie.close (tie.spec
+    (λ c κs. search needs) (λ c κs. search needs) (λ c κs. search needs) (λ c κs. search needs) (λ c κs. search needs)
     returns)

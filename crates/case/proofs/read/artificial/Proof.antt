@@ -7,30 +7,6 @@ use Rattle.case.proofs.Reading.{number-in, count-in}
 use Rattle.case.proofs.read.artificial.Statement.{statement}
 use Rattle.case.proofs.read.artificial.Tie as tie
 
-arc-at-requires : tie.Need-arc-at-requires
-arc-at-requires c κs = search needs
-
-count-requires : tie.Need-count-requires
-count-requires c κs = search needs
-
-count-requires-2 : tie.Need-count-requires-2
-count-requires-2 c κs = search needs
-
-count-requires-3 : tie.Need-count-requires-3
-count-requires-3 c κs = search needs
-
-count-requires-4 : tie.Need-count-requires-4
-count-requires-4 c κs = search needs
-
-number-requires : tie.Need-number-requires
-number-requires c κs = search needs
-
-count-requires-5 : tie.Need-count-requires-5
-count-requires-5 c κs = search needs
-
-number-requires-2 : tie.Need-number-requires-2
-number-requires-2 c κs = search needs
-
 returns : tie.Need-returns
 returns c = let a = c .before .before .before .before .before .before .before .before .args in
     let l = now (a .case) in
@@ -46,15 +22,6 @@ returns c = let a = c .before .before .before .before .before .before .before .b
     rw (e0, e1, e2, e3, e4, e5, e6)
 
 pub artificial-spec : {M : Type 1} → statement M
-artificial-spec =
-    tie.close
-    (tie.spec
-    arc-at-requires
-    count-requires
-    count-requires-2
-    count-requires-3
-    count-requires-4
-    number-requires
-    count-requires-5
-    number-requires-2
-    returns)
+artificial-spec = tie.close (tie.spec
+    (λ c κs. search needs) (λ c κs. search needs) (λ c κs. search needs) (λ c κs. search needs) (λ c κs. search needs)
+    (λ c κs. search needs) (λ c κs. search needs) (λ c κs. search needs) returns)

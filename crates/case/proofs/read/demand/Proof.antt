@@ -9,12 +9,6 @@ use Rattle.case.proofs.Reading.{past}
 use Rattle.case.proofs.read.demand.Statement.{statement}
 use Rattle.case.proofs.read.demand.Tie as tie
 
-add-number : tie.Need-add-number
-add-number c = search needs
-
-number-requires : tie.Need-number-requires
-number-requires c κs = search needs
-
 returns : tie.Need-returns
 returns c = let a = c .before .before .args in
     let e : a .offset + (6 + a .i) ≡ demandsAt (a .offset) + a .i = omega arith in
@@ -24,4 +18,4 @@ returns-2 : tie.Need-returns-2
 returns-2 c = let a = c .before .args in past (now (a .case)) (demandsAt (a .offset) + a .i) (omega arith)
 
 pub demand-spec : {M : Type 1} → statement M
-demand-spec = tie.close (tie.spec add-number number-requires returns returns-2)
+demand-spec = tie.close (tie.spec (λ c. search needs) (λ c κs. search needs) returns returns-2)

@@ -7,18 +7,6 @@ use Rattle.case.proofs.Reading.{number-in, count-in, first-number}
 use Rattle.case.proofs.read.direction.Statement.{statement}
 use Rattle.case.proofs.read.direction.Tie as tie
 
-direction-at-requires : tie.Need-direction-at-requires
-direction-at-requires c κs = search needs
-
-number-requires : tie.Need-number-requires
-number-requires c κs = search needs
-
-number-requires-2 : tie.Need-number-requires-2
-number-requires-2 c κs = search needs
-
-count-requires : tie.Need-count-requires
-count-requires c κs = search needs
-
 returns : tie.Need-returns
 returns c = let a = c .before .before .before .before .args in
     let l = now (a .case) in
@@ -30,6 +18,5 @@ returns c = let a = c .before .before .before .before .args in
     rw (e0, e1, e2)
 
 pub direction-spec : {M : Type 1} → statement M
-direction-spec =
-    tie.close
-    (tie.spec direction-at-requires number-requires number-requires-2 count-requires returns)
+direction-spec = tie.close (tie.spec
+    (λ c κs. search needs) (λ c κs. search needs) (λ c κs. search needs) (λ c κs. search needs) returns)

@@ -7,15 +7,6 @@ use Rattle.case.proofs.Reading.{number-in, first-number}
 use Rattle.case.proofs.read.machine.Statement.{statement}
 use Rattle.case.proofs.read.machine.Tie as tie
 
-machine-at-requires : tie.Need-machine-at-requires
-machine-at-requires c κs = search needs
-
-number-requires : tie.Need-number-requires
-number-requires c κs = search needs
-
-number-requires-2 : tie.Need-number-requires-2
-number-requires-2 c κs = search needs
-
 returns : tie.Need-returns
 returns c = let a = c .before .before .before .args in
     let l = now (a .case) in
@@ -26,4 +17,4 @@ returns c = let a = c .before .before .before .args in
     rw (e0, e1)
 
 pub machine-spec : {M : Type 1} → statement M
-machine-spec = tie.close (tie.spec machine-at-requires number-requires number-requires-2 returns)
+machine-spec = tie.close (tie.spec (λ c κs. search needs) (λ c κs. search needs) (λ c κs. search needs) returns)

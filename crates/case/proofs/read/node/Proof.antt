@@ -9,30 +9,6 @@ use Rattle.case.proofs.Reading.{number-in, first-count}
 use Rattle.case.proofs.read.node.Statement.{statement}
 use Rattle.case.proofs.read.node.Tie as tie
 
-node-at-requires : tie.Need-node-at-requires
-node-at-requires c κs = search needs
-
-count-requires : tie.Need-count-requires
-count-requires c κs = search needs
-
-number-requires : tie.Need-number-requires
-number-requires c κs = search needs
-
-number-requires-2 : tie.Need-number-requires-2
-number-requires-2 c κs = search needs
-
-number-requires-3 : tie.Need-number-requires-3
-number-requires-3 c κs = search needs
-
-number-requires-4 : tie.Need-number-requires-4
-number-requires-4 c κs = search needs
-
-number-requires-5 : tie.Need-number-requires-5
-number-requires-5 c κs = search needs
-
-demand-requires : tie.Need-demand-requires
-demand-requires c κs = search needs
-
 returns : tie.Need-returns
 returns c = let a = c .before .before .before .before .before .before .before .before .args in
     let l = now (a .case) in
@@ -51,15 +27,6 @@ returns c = let a = c .before .before .before .before .before .before .before .b
     rw (e0, e1, e2, e3, e4, e5, e6)
 
 pub node-spec : {M : Type 1} → statement M
-node-spec =
-    tie.close
-    (tie.spec
-    node-at-requires
-    count-requires
-    number-requires
-    number-requires-2
-    number-requires-3
-    number-requires-4
-    number-requires-5
-    demand-requires
-    returns)
+node-spec = tie.close (tie.spec
+    (λ c κs. search needs) (λ c κs. search needs) (λ c κs. search needs) (λ c κs. search needs) (λ c κs. search needs)
+    (λ c κs. search needs) (λ c κs. search needs) (λ c κs. search needs) returns)

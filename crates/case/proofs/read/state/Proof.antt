@@ -7,21 +7,6 @@ use Rattle.case.proofs.Reading.{number-in, count-in, first-number}
 use Rattle.case.proofs.read.state.Statement.{statement}
 use Rattle.case.proofs.read.state.Tie as tie
 
-state-at-requires : tie.Need-state-at-requires
-state-at-requires c κs = search needs
-
-number-requires : tie.Need-number-requires
-number-requires c κs = search needs
-
-number-requires-2 : tie.Need-number-requires-2
-number-requires-2 c κs = search needs
-
-number-requires-3 : tie.Need-number-requires-3
-number-requires-3 c κs = search needs
-
-count-requires : tie.Need-count-requires
-count-requires c κs = search needs
-
 returns : tie.Need-returns
 returns c = let a = c .before .before .before .before .before .args in
     let l = now (a .case) in
@@ -34,12 +19,6 @@ returns c = let a = c .before .before .before .before .before .args in
     rw (e0, e1, e2, e3)
 
 pub state-spec : {M : Type 1} → statement M
-state-spec =
-    tie.close
-    (tie.spec
-    state-at-requires
-    number-requires
-    number-requires-2
-    number-requires-3
-    count-requires
+state-spec = tie.close (tie.spec
+    (λ c κs. search needs) (λ c κs. search needs) (λ c κs. search needs) (λ c κs. search needs) (λ c κs. search needs)
     returns)

@@ -6,21 +6,6 @@ use Rattle.case.specs.law.Layout.{countAt}
 use Rattle.case.proofs.read.station.Statement.{statement}
 use Rattle.case.proofs.read.station.Tie as tie
 
-count-requires : tie.Need-count-requires
-count-requires c κs = search needs
-
-count-requires-2 : tie.Need-count-requires-2
-count-requires-2 c κs = search needs
-
-count-requires-3 : tie.Need-count-requires-3
-count-requires-3 c κs = search needs
-
-count-requires-4 : tie.Need-count-requires-4
-count-requires-4 c κs = search needs
-
-count-requires-5 : tie.Need-count-requires-5
-count-requires-5 c κs = search needs
-
 returns : tie.Need-returns
 returns c = let a = c .before .before .before .before .before .args in
     let l = now (a .case) in
@@ -32,12 +17,6 @@ returns c = let a = c .before .before .before .before .before .args in
     rw (e0, e1, e2, e3, e4)
 
 pub station-spec : {M : Type 1} → statement M
-station-spec =
-    tie.close
-    (tie.spec
-    count-requires
-    count-requires-2
-    count-requires-3
-    count-requires-4
-    count-requires-5
+station-spec = tie.close (tie.spec
+    (λ c κs. search needs) (λ c κs. search needs) (λ c κs. search needs) (λ c κs. search needs) (λ c κs. search needs)
     returns)

@@ -6,12 +6,6 @@ use Rattle.numbers.specs.inside.SignedLocals.{kept}
 use Rattle.case.proofs.read.time_before.Statement.{statement}
 use Rattle.case.proofs.read.time_before.Tie as tie
 
-sub-time : tie.Need-sub-time
-sub-time c = search needs
-
-time-requires : tie.Need-time-requires
-time-requires c κs = search needs
-
 returns : tie.Need-returns
 returns c = rw (c .if1 .taken)
 
@@ -21,4 +15,4 @@ returns-2 c = let a = c .before .before .args in
     rw e (kept (c .time .result) (c .time .ok) ∙ c .time .ensures)
 
 pub time-before-spec : {M : Type 1} → statement M
-time-before-spec = tie.close (tie.spec sub-time time-requires returns returns-2)
+time-before-spec = tie.close (tie.spec (λ c. search needs) (λ c κs. search needs) returns returns-2)

@@ -24,9 +24,6 @@ loop-holds : tie.Need-loop-holds Inv-loop μ-loop
 unfolding allArcEnds
 loop-holds c = (omega arith, let e : c .args .arcs - 0 ≡ arcsOf (now (c .args .case)) = omega (arith, c .pre) in rw e)
 
-arc-requires : tie.Need-arc-requires Inv-loop μ-loop
-arc-requires c κs = search needs
-
 returns : tie.Need-returns Inv-loop μ-loop
 unfolding arcEnds
 returns c = let b = c .before .before in
@@ -38,12 +35,6 @@ returns c = let b = c .before .before in
     let to = ap (λ (x : Arc). x .to) (b .arc .ensures) in
     let q : No 13 0 e ≡ firstNo (arcEnds l e) = rw (eq-eqb (arcOf l e .from) (arcOf l e .to) (sym from ∙ c .if1 .taken ∙ to)) in
     sym (rest-no (arcEnds l) e (a .arcs) (h .loop .inv .1) (b .before .loop-test .taken) q refl)
-
-add-e : tie.Need-add-e Inv-loop μ-loop
-add-e c = omega arith
-
-loop-less : tie.Need-loop-less Inv-loop μ-loop
-loop-less c = omega arith
 
 loop-again : tie.Need-loop-again Inv-loop μ-loop
 unfolding arcEnds
@@ -63,6 +54,5 @@ returns-2 c = let h = c .before in
     sym (rest-end (arcEnds (now (a .case))) (h .loop .e) (a .arcs) (h .loop .inv .1) (c .loop-test .left))
 
 pub arc-ends-spec : {M : Type 1} → statement M
-arc-ends-spec =
-    tie.close
-    (tie.spec Inv-loop μ-loop loop-holds arc-requires returns add-e loop-less loop-again returns-2)
+arc-ends-spec = tie.close (tie.spec
+    Inv-loop μ-loop loop-holds (λ c κs. search needs) returns (λ c. omega arith) (λ c. omega arith) loop-again returns-2)

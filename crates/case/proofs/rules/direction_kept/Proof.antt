@@ -27,12 +27,6 @@ sets-are c =
     let e = c .before .direction .ensures in
     (kept _ (t .0 .1) ∙ ap (λ (x : Direction). x .entry) e, kept _ (t .1 .0 .1) ∙ ap (λ (x : Direction). x .exit) e)
 
-direction-requires : tie.Need-direction-requires
-direction-requires c κs = search needs
-
-disjoint-requires : tie.Need-disjoint-requires
-disjoint-requires c κs = search needs
-
 only-fence-requires : tie.Need-only-fence-requires
 only-fence-requires c κs =
     let t = c .before .before .before in
@@ -83,13 +77,5 @@ returns-3 c =
     rw e
 
 pub direction-kept-spec : {M : Type 1} → statement M
-direction-kept-spec =
-    tie.close
-    (tie.spec
-    direction-requires
-    disjoint-requires
-    only-fence-requires
-    only-fence-requires-2
-    returns
-    returns-2
-    returns-3)
+direction-kept-spec = tie.close (tie.spec
+    (λ c κs. search needs) (λ c κs. search needs) only-fence-requires only-fence-requires-2 returns returns-2 returns-3)

@@ -59,12 +59,6 @@ returns c = let b = c .before in
     let q = directions-asked l i (getD (s .args .t2 .offsets) i 0) (toZ w64 (ofZ w64 (getD (s .args .t2 .inside) i (pos 0)))) (toZ w64 (ofZ w64 (s .args .t2 .plain))) (y .offsets .each i p) (kept _ (b .before .inside .given) ∙ y .inside .each i p) (kept _ (h .before .struct-told .given .1 .1 .1 .1 .1 .1 .0 .1) ∙ y .plain) (b .directions-kept .ensures) (not-true _ (c .if1 .taken)) in
     sym (rest-no (directionSets l) i (s .args .t2 .stations) (h .loop .inv .1) (t .loop-test .taken) q refl)
 
-add-s : tie.Need-add-s Inv-loop μ-loop
-add-s c = omega arith
-
-loop-less : tie.Need-loop-less Inv-loop μ-loop
-loop-less c = omega arith
-
 loop-again : tie.Need-loop-again Inv-loop μ-loop
 loop-again c = let b = c .before in
     let t = b .before .before .before in
@@ -83,19 +77,6 @@ returns-2 c = let h = c .before in
     sym (rest-end (directionSets (now (s .args .case))) (h .loop .s) (s .args .t2 .stations) (h .loop .inv .1) (c .loop-test .left))
 
 pub direction-sets-spec : {M : Type 1} → statement M
-direction-sets-spec =
-    tie.close
-    (tie.spec
-    Inv-loop
-    μ-loop
-    loop-holds
-    mul-offset
-    element-copy-out-offset
-    mul-inside
-    element-copy-out-inside
-    directions-kept-requires
-    returns
-    add-s
-    loop-less
-    loop-again
-    returns-2)
+direction-sets-spec = tie.close (tie.spec
+    Inv-loop μ-loop loop-holds mul-offset element-copy-out-offset mul-inside element-copy-out-inside
+    directions-kept-requires returns (λ c. omega arith) (λ c. omega arith) loop-again returns-2)

@@ -29,9 +29,6 @@ Inv-loop case offset inside plain directions f₀ f = (f ≤ directions) × (eve
 abbrev μ-loop : tie.MeasureT-loop
 μ-loop case offset inside plain directions f₀ f = directions - f
 
-station-requires : tie.Need-station-requires Inv-loop μ-loop
-station-requires c κs = search needs
-
 loop-holds : tie.Need-loop-holds Inv-loop μ-loop
 loop-holds c = (omega arith, refl)
 
@@ -53,12 +50,6 @@ returns c = let b = c .before in
     let r = every-not (h .before .station .result .directions) k (h .loop .f) (t .loop-test .taken) e in
     rw (← d) (sym (simp (toZ-ofZ (f .inside), toZ-ofZ (f .plain)) at r))
 
-add-f : tie.Need-add-f Inv-loop μ-loop
-add-f c = omega arith
-
-loop-less : tie.Need-loop-less Inv-loop μ-loop
-loop-less c = omega arith
-
 loop-again : tie.Need-loop-again Inv-loop μ-loop
 loop-again c = let b = c .before in
     let t = b .before in
@@ -78,16 +69,6 @@ returns-2 c = let h = c .before in
     rw (← d) (sym (simp (toZ-ofZ (f .inside), toZ-ofZ (f .plain)) at (rw e at (h .loop .inv .1))))
 
 pub directions-kept-spec : {M : Type 1} → statement M
-directions-kept-spec =
-    tie.close
-    (tie.spec
-    Inv-loop
-    μ-loop
-    station-requires
-    loop-holds
-    direction-kept-requires
-    returns
-    add-f
-    loop-less
-    loop-again
-    returns-2)
+directions-kept-spec = tie.close (tie.spec
+    Inv-loop μ-loop (λ c κs. search needs) loop-holds direction-kept-requires returns (λ c. omega arith)
+    (λ c. omega arith) loop-again returns-2)

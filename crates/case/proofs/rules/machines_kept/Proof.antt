@@ -28,15 +28,6 @@ abbrev μ-loop : tie.MeasureT-loop
 loop-holds : tie.Need-loop-holds Inv-loop μ-loop
 loop-holds c = (omega arith, refl)
 
-belongs-requires : tie.Need-belongs-requires Inv-loop μ-loop
-belongs-requires c κs = search needs
-
-artificial-requires : tie.Need-artificial-requires Inv-loop μ-loop
-artificial-requires c κs = search needs
-
-subset-requires : tie.Need-subset-requires Inv-loop μ-loop
-subset-requires c κs = search needs
-
 returns : tie.Need-returns Inv-loop μ-loop
 unfolding machinesKept
 returns c = let b = c .before .before .before .before .before in
@@ -53,12 +44,6 @@ returns c = let b = c .before .before .before .before .before in
     let z : subsetOf (artificialOf l e .machines) (toZ w64 (ofZ w64 (a .own))) ≡ false = simp m at (sym (c .before .subset .ensures) ∙ not-true _ (c .if2 .taken)) in
     let f : w e ≡ false = rw (y, z) in
     sym (simp (toZ-ofZ (s .fits .own)) at (every-not (a .arcs) w e (t .loop-test .taken) f))
-
-add-e : tie.Need-add-e Inv-loop μ-loop
-add-e c = omega arith
-
-loop-less : tie.Need-loop-less Inv-loop μ-loop
-loop-less c = omega arith
 
 loop-again : tie.Need-loop-again Inv-loop μ-loop
 unfolding machinesKept
@@ -87,17 +72,6 @@ returns-2 c = let h = c .before in
     sym (simp (toZ-ofZ (s .fits .own)) at (rw e at (h .loop .inv .1)))
 
 pub machines-kept-spec : {M : Type 1} → statement M
-machines-kept-spec =
-    tie.close
-    (tie.spec
-    Inv-loop
-    μ-loop
-    loop-holds
-    belongs-requires
-    artificial-requires
-    subset-requires
-    returns
-    add-e
-    loop-less
-    loop-again
-    returns-2)
+machines-kept-spec = tie.close (tie.spec
+    Inv-loop μ-loop loop-holds (λ c κs. search needs) (λ c κs. search needs) (λ c κs. search needs) returns
+    (λ c. omega arith) (λ c. omega arith) loop-again returns-2)

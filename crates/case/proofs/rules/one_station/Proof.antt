@@ -32,12 +32,6 @@ returns c = let b = c .before in
     let n = b .stations-with .ensures ∙ stations-with y (h .loop .v) in
     sym (rest-no (oneStation l) (h .loop .v) (s .args .layout .nodes) (h .loop .inv .1) (b .before .loop-test .taken) (one-no l (h .loop .v) n (c .if1 .taken)) refl)
 
-add-v : tie.Need-add-v Inv-loop μ-loop
-add-v c = omega arith
-
-loop-less : tie.Need-loop-less Inv-loop μ-loop
-loop-less c = omega arith
-
 loop-again : tie.Need-loop-again Inv-loop μ-loop
 loop-again c = let b = c .before in
     let h = b .before .before in
@@ -53,15 +47,5 @@ returns-2 c = let h = c .before in
     sym (rest-end (oneStation (now (s .args .case))) (h .loop .v) (s .args .layout .nodes) (h .loop .inv .1) (c .loop-test .left))
 
 pub one-station-spec : {M : Type 1} → statement M
-one-station-spec =
-    tie.close
-    (tie.spec
-    Inv-loop
-    μ-loop
-    loop-holds
-    stations-with-requires
-    returns
-    add-v
-    loop-less
-    loop-again
-    returns-2)
+one-station-spec = tie.close (tie.spec
+    Inv-loop μ-loop loop-holds stations-with-requires returns (λ c. omega arith) (λ c. omega arith) loop-again returns-2)

@@ -7,12 +7,6 @@ use Rattle.case.specs.inside.SetLaws.{only-both}
 use Rattle.case.proofs.rules.only_fence.Statement.{statement}
 use Rattle.case.proofs.rules.only_fence.Tie as tie
 
-subset-requires : tie.Need-subset-requires
-subset-requires c κs = search needs
-
-subset-requires-2 : tie.Need-subset-requires-2
-subset-requires-2 c κs = search needs
-
 returns : tie.Need-returns
 returns c = let s = c .before .before .before in
     let a = s .args in
@@ -29,4 +23,4 @@ returns-2 c = let s = c .before .before in
     f ∙ only-both (a .inside) (a .plain) (a .set) (s .pre)
 
 pub only-fence-spec : {M : Type 1} → statement M
-only-fence-spec = tie.close (tie.spec subset-requires subset-requires-2 returns returns-2)
+only-fence-spec = tie.close (tie.spec (λ c κs. search needs) (λ c κs. search needs) returns returns-2)

@@ -10,27 +10,6 @@ use Rattle.case.proofs.Asked.{chain, stopped, went}
 use Rattle.case.proofs.rules.rules.Statement.{statement}
 use Rattle.case.proofs.rules.rules.Tie as tie
 
-arc-ends-requires : tie.Need-arc-ends-requires
-arc-ends-requires c κs = search needs
-
-one-station-requires : tie.Need-one-station-requires
-one-station-requires c κs = search needs
-
-station-size-requires : tie.Need-station-size-requires
-station-size-requires c κs = search needs
-
-direction-sets-requires : tie.Need-direction-sets-requires
-direction-sets-requires c κs = search needs
-
-or-else-requires : tie.Need-or-else-requires
-or-else-requires c κs = search needs
-
-or-else-requires-2 : tie.Need-or-else-requires-2
-or-else-requires-2 c κs = search needs
-
-or-else-requires-3 : tie.Need-or-else-requires-3
-or-else-requires-3 c κs = search needs
-
 enum-told : tie.Need-enum-told
 enum-told c = search needs
 
@@ -44,9 +23,6 @@ state-sets-requires c κs = let s = c .before .before .before .before .before .b
     (chain (c .before .before .before .or-else2 .ensures) (c .before .before .before .before .before .before .before .one-station .ensures)
     (chain (c .before .before .before .before .or-else .ensures) (c .before .before .before .before .before .before .station-size .ensures) (c .before .before .before .before .before .direction-sets .ensures)))) in
     (s .pre .0, s .pre .1, rules-sized l (sym e ∙ c .enum-told .given .1), s .pre .2)
-
-enum-told-2 : tie.Need-enum-told-2
-enum-told-2 c = search needs
 
 returns : tie.Need-returns
 unfolding earlyRules ruleQuestions
@@ -71,18 +47,6 @@ returns-2 c = let s = c .before .before .before .before .before .before .before 
     stopped (earlyRules l) (allStateSets l) e (c .enum-told2 .given .1)
 
 pub rules-spec : {M : Type 1} → statement M
-rules-spec =
-    tie.close
-    (tie.spec
-    arc-ends-requires
-    one-station-requires
-    station-size-requires
-    direction-sets-requires
-    or-else-requires
-    or-else-requires-2
-    or-else-requires-3
-    enum-told
-    state-sets-requires
-    enum-told-2
-    returns
-    returns-2)
+rules-spec = tie.close (tie.spec
+    (λ c κs. search needs) (λ c κs. search needs) (λ c κs. search needs) (λ c κs. search needs) (λ c κs. search needs)
+    (λ c κs. search needs) (λ c κs. search needs) enum-told state-sets-requires (λ c. search needs) returns returns-2)

@@ -14,18 +14,6 @@ use Rattle.numbers.specs.inside.SignedLocals.{kept}
 use Rattle.case.proofs.rules.start_kept.Statement.{statement}
 use Rattle.case.proofs.rules.start_kept.Tie as tie
 
-station-requires : tie.Need-station-requires
-station-requires c κs = search needs
-
-state-requires : tie.Need-state-requires
-state-requires c κs = search needs
-
-subset-requires : tie.Need-subset-requires
-subset-requires c κs = search needs
-
-disjoint-requires : tie.Need-disjoint-requires
-disjoint-requires c κs = search needs
-
 returns : tie.Need-returns
 unfolding startKept
 returns c = let d = c .before .before .before .before .before in
@@ -57,6 +45,5 @@ returns-2 c = let d = c .before .before .before .before in
     rw e
 
 pub start-kept-spec : {M : Type 1} → statement M
-start-kept-spec =
-    tie.close
-    (tie.spec station-requires state-requires subset-requires disjoint-requires returns returns-2)
+start-kept-spec = tie.close (tie.spec
+    (λ c κs. search needs) (λ c κs. search needs) (λ c κs. search needs) (λ c κs. search needs) returns returns-2)

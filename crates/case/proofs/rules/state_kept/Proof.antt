@@ -13,18 +13,6 @@ use Rattle.numbers.specs.inside.SignedLocals.{kept}
 use Rattle.case.proofs.rules.state_kept.Statement.{statement}
 use Rattle.case.proofs.rules.state_kept.Tie as tie
 
-state-requires : tie.Need-state-requires
-state-requires c κs = search needs
-
-disjoint-requires : tie.Need-disjoint-requires
-disjoint-requires c κs = search needs
-
-subset-requires : tie.Need-subset-requires
-subset-requires c κs = search needs
-
-subset-requires-2 : tie.Need-subset-requires-2
-subset-requires-2 c κs = search needs
-
 returns : tie.Need-returns
 unfolding stateKept
 returns c = let d = c .before .before .before .before .before .before .before in
@@ -67,13 +55,6 @@ returns-3 c = let d = c .before .before .before .before in
     rw e
 
 pub state-kept-spec : {M : Type 1} → statement M
-state-kept-spec =
-    tie.close
-    (tie.spec
-    state-requires
-    disjoint-requires
-    subset-requires
-    subset-requires-2
-    returns
-    returns-2
+state-kept-spec = tie.close (tie.spec
+    (λ c κs. search needs) (λ c κs. search needs) (λ c κs. search needs) (λ c κs. search needs) returns returns-2
     returns-3)

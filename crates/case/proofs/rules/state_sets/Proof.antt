@@ -46,12 +46,6 @@ returns c = let b = c .before in
     let q = states-asked l i (b .station-kept .ensures) (not-true _ (c .if1 .taken)) in
     sym (rest-no (stateSets l) i (s .args .t2 .stations) (h .loop .inv .1) (t .loop-test .taken) q refl)
 
-add-s : tie.Need-add-s Inv-loop μ-loop
-add-s c = omega arith
-
-loop-less : tie.Need-loop-less Inv-loop μ-loop
-loop-less c = omega arith
-
 loop-again : tie.Need-loop-again Inv-loop μ-loop
 loop-again c = let b = c .before in
     let t = b .before .before in
@@ -68,17 +62,6 @@ returns-2 c = let h = c .before in
     sym (rest-end (stateSets (now (s .args .case))) (h .loop .s) (s .args .t2 .stations) (h .loop .inv .1) (c .loop-test .left))
 
 pub state-sets-spec : {M : Type 1} → statement M
-state-sets-spec =
-    tie.close
-    (tie.spec
-    Inv-loop
-    μ-loop
-    loop-holds
-    mul-offset
-    element-copy-out-offset
-    station-kept-requires
-    returns
-    add-s
-    loop-less
-    loop-again
-    returns-2)
+state-sets-spec = tie.close (tie.spec
+    Inv-loop μ-loop loop-holds mul-offset element-copy-out-offset station-kept-requires returns (λ c. omega arith)
+    (λ c. omega arith) loop-again returns-2)

@@ -21,14 +21,8 @@ Inv-loop case offset own states z₀ z = (z ≤ states) × (every z (stateKept c
 abbrev μ-loop : tie.MeasureT-loop
 μ-loop case offset own states z₀ z = states - z
 
-station-requires : tie.Need-station-requires Inv-loop μ-loop
-station-requires c κs = search needs
-
 loop-holds : tie.Need-loop-holds Inv-loop μ-loop
 loop-holds c = (omega arith, refl)
-
-state-kept-requires : tie.Need-state-kept-requires Inv-loop μ-loop
-state-kept-requires c κs = search needs
 
 returns : tie.Need-returns Inv-loop μ-loop
 returns c = let b = c .before in
@@ -40,12 +34,6 @@ returns c = let b = c .before in
     let d = ap (λ (x : Station). x .states) (h .before .station .ensures) in
     let r = every-not (h .before .station .result .states) (stateKept l (a .offset) (toZ w64 (ofZ w64 (a .own)))) (h .loop .z) (t .loop-test .taken) (sym (b .state-kept .ensures) ∙ not-true _ (c .if1 .taken)) in
     rw (← d) (sym (simp (toZ-ofZ (f .own)) at r))
-
-add-z : tie.Need-add-z Inv-loop μ-loop
-add-z c = omega arith
-
-loop-less : tie.Need-loop-less Inv-loop μ-loop
-loop-less c = omega arith
 
 loop-again : tie.Need-loop-again Inv-loop μ-loop
 loop-again c = let b = c .before in
@@ -65,16 +53,6 @@ returns-2 c = let h = c .before in
     rw (← d) (sym (simp (toZ-ofZ (f .own)) at (rw e at (h .loop .inv .1))))
 
 pub states-kept-spec : {M : Type 1} → statement M
-states-kept-spec =
-    tie.close
-    (tie.spec
-    Inv-loop
-    μ-loop
-    station-requires
-    loop-holds
-    state-kept-requires
-    returns
-    add-z
-    loop-less
-    loop-again
-    returns-2)
+states-kept-spec = tie.close (tie.spec
+    Inv-loop μ-loop (λ c κs. search needs) loop-holds (λ c κs. search needs) returns (λ c. omega arith)
+    (λ c. omega arith) loop-again returns-2)

@@ -17,29 +17,14 @@ use Rattle.numbers.specs.inside.SignedLocals.{kept}
 use Rattle.case.proofs.rules.station_kept.Statement.{statement}
 use Rattle.case.proofs.rules.station_kept.Tie as tie
 
-station-arcs-requires : tie.Need-station-arcs-requires
-station-arcs-requires c κs = search needs
-
 first-items-requires : tie.Need-first-items-requires
 first-items-requires c κs = let s = c .before in omega (arith, c .station-arcs .ensures, ap (arcsBefore (now (s .args .case)) (s .args .s)) (s .pre .1), s .pre .2)
-
-station-requires : tie.Need-station-requires
-station-requires c κs = search needs
 
 first-items-requires-2 : tie.Need-first-items-requires-2
 first-items-requires-2 c κs = let s = c .before .before .before in omega (arith, ap (λ (x : Station). x .machines) (c .station .ensures), s .pre .3 .machines)
 
 start-set-requires : tie.Need-start-set-requires
 start-set-requires c κs = let s = c .before .before .before .before in rw (s .pre .1) (s .pre .2)
-
-states-kept-requires : tie.Need-states-kept-requires
-states-kept-requires c κs = search needs
-
-machines-kept-requires : tie.Need-machines-kept-requires
-machines-kept-requires c κs = search needs
-
-start-kept-requires : tie.Need-start-kept-requires
-start-kept-requires c κs = search needs
 
 returns : tie.Need-returns
 unfolding stationKept
@@ -95,17 +80,6 @@ returns-3 c = let x = c .before .before in
     rw e
 
 pub station-kept-spec : {M : Type 1} → statement M
-station-kept-spec =
-    tie.close
-    (tie.spec
-    station-arcs-requires
-    first-items-requires
-    station-requires
-    first-items-requires-2
-    start-set-requires
-    states-kept-requires
-    machines-kept-requires
-    start-kept-requires
-    returns
-    returns-2
-    returns-3)
+station-kept-spec = tie.close (tie.spec
+    (λ c κs. search needs) first-items-requires (λ c κs. search needs) first-items-requires-2 start-set-requires
+    (λ c κs. search needs) (λ c κs. search needs) (λ c κs. search needs) returns returns-2 returns-3)

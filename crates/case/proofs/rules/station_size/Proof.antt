@@ -22,9 +22,6 @@ loop-holds : tie.Need-loop-holds Inv-loop μ-loop
 unfolding allStationSizes
 loop-holds c = (omega arith, let e : c .args .layout .stations - 0 ≡ stationsOf (now (c .args .case)) = omega (arith, c .pre .stations) in rw e)
 
-station-arcs-requires : tie.Need-station-arcs-requires Inv-loop μ-loop
-station-arcs-requires c κs = search needs
-
 returns : tie.Need-returns Inv-loop μ-loop
 returns c = let b = c .before in
     let h = b .before .before in
@@ -32,12 +29,6 @@ returns c = let b = c .before in
     let l = now (s .args .case) in
     let n : b .station-arcs .result ≡ stationArcs l (h .loop .s) = b .station-arcs .ensures ∙ ap (arcsBefore l (h .loop .s)) (s .pre .arcs) in
     sym (rest-no (stationSize l) (h .loop .s) (s .args .layout .stations) (h .loop .inv .1) (b .before .loop-test .taken) (size-no l (h .loop .s) n (c .if1 .taken)) refl)
-
-add-s : tie.Need-add-s Inv-loop μ-loop
-add-s c = omega arith
-
-loop-less : tie.Need-loop-less Inv-loop μ-loop
-loop-less c = omega arith
 
 loop-again : tie.Need-loop-again Inv-loop μ-loop
 loop-again c = let b = c .before in
@@ -53,15 +44,5 @@ returns-2 c = let h = c .before in
     sym (rest-end (stationSize (now (s .args .case))) (h .loop .s) (s .args .layout .stations) (h .loop .inv .1) (c .loop-test .left))
 
 pub station-size-spec : {M : Type 1} → statement M
-station-size-spec =
-    tie.close
-    (tie.spec
-    Inv-loop
-    μ-loop
-    loop-holds
-    station-arcs-requires
-    returns
-    add-s
-    loop-less
-    loop-again
-    returns-2)
+station-size-spec = tie.close (tie.spec
+    Inv-loop μ-loop loop-holds (λ c κs. search needs) returns (λ c. omega arith) (λ c. omega arith) loop-again returns-2)

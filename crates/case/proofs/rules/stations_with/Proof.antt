@@ -21,23 +21,8 @@ abbrev μ-loop : tie.MeasureT-loop
 loop-holds : tie.Need-loop-holds Inv-loop μ-loop
 loop-holds c = (omega arith, sym (count-none (inSet (c .args .t1) (c .args .v))))
 
-mul-member : tie.Need-mul-member Inv-loop μ-loop
-mul-member c = omega arith
-
-array-copy-out-member : tie.Need-array-copy-out-member Inv-loop μ-loop
-array-copy-out-member c = omega arith
-
-member-requires : tie.Need-member-requires Inv-loop μ-loop
-member-requires c κs = search needs
-
 add-n : tie.Need-add-n Inv-loop μ-loop
 add-n c = let h = c .before .before .before .before in let a = h .before .args in omega (arith, h .loop .inv .1, count-le (inSet (a .t1) (a .v)) (h .loop .s))
-
-add-s : tie.Need-add-s Inv-loop μ-loop
-add-s c = omega arith
-
-loop-less : tie.Need-loop-less Inv-loop μ-loop
-loop-less c = omega arith
 
 loop-again : tie.Need-loop-again Inv-loop μ-loop
 loop-again c = let b = c .before in
@@ -57,17 +42,6 @@ returns : tie.Need-returns Inv-loop μ-loop
 returns c = let e : c .before .loop .s ≡ c .before .before .args .stations = omega arith in rw e at (c .before .loop .inv .1)
 
 pub stations-with-spec : {M : Type 1} → statement M
-stations-with-spec =
-    tie.close
-    (tie.spec
-    Inv-loop
-    μ-loop
-    loop-holds
-    mul-member
-    array-copy-out-member
-    member-requires
-    add-n
-    add-s
-    loop-less
-    loop-again
-    returns)
+stations-with-spec = tie.close (tie.spec
+    Inv-loop μ-loop loop-holds (λ c. omega arith) (λ c. omega arith) (λ c κs. search needs) add-n (λ c. omega arith)
+    (λ c. omega arith) loop-again returns)

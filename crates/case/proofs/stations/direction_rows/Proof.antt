@@ -22,32 +22,8 @@ abbrev μ-loop : tie.MeasureT-loop
 loop-holds : tie.Need-loop-holds Inv-loop μ-loop
 loop-holds c = (omega arith, let e : c .args .directions - 0 ≡ c .args .directions = omega arith in rw e)
 
-add-at : tie.Need-add-at Inv-loop μ-loop
-add-at c = omega arith
-
-mul-at : tie.Need-mul-at Inv-loop μ-loop
-mul-at c = omega arith
-
-add-at-2 : tie.Need-add-at-2 Inv-loop μ-loop
-add-at-2 c = omega arith
-
-fields-requires : tie.Need-fields-requires Inv-loop μ-loop
-fields-requires c κs = omega arith
-
-add-field : tie.Need-add-field Inv-loop μ-loop
-add-field c = omega arith
-
-field-requires : tie.Need-field-requires Inv-loop μ-loop
-field-requires c κs = search needs
-
-or-else-requires : tie.Need-or-else-requires Inv-loop μ-loop
-or-else-requires c κs = search needs
-
 enum-told : tie.Need-enum-told Inv-loop μ-loop
 enum-told c = search needs
-
-enum-told-2 : tie.Need-enum-told-2 Inv-loop μ-loop
-enum-told-2 c = search needs
 
 returns : tie.Need-returns Inv-loop μ-loop
 unfolding directionFields directionAt
@@ -59,12 +35,6 @@ returns c = let b = c .before .before in
     let l = now (a .case) in
     let q : b .or-else .result ≡ firstNo (directionFields l (a .offset) (h .loop .f)) = rw firstNo-append (chain (b .or-else .ensures) (b .before .before .fields .ensures) (b .before .field .ensures)) in
     sym (rest-no (directionFields l (a .offset)) (h .loop .f) (a .directions) (h .loop .inv .1) (t .loop-test .taken) q (c .enum-told2 .given .1))
-
-add-f : tie.Need-add-f Inv-loop μ-loop
-add-f c = omega arith
-
-loop-less : tie.Need-loop-less Inv-loop μ-loop
-loop-less c = omega arith
 
 loop-again : tie.Need-loop-again Inv-loop μ-loop
 unfolding directionFields directionAt
@@ -84,23 +54,7 @@ returns-2 c = let h = c .before in
     sym (rest-end (directionFields l (a .offset)) (h .loop .f) (a .directions) (h .loop .inv .1) (c .loop-test .left))
 
 pub direction-rows-spec : {M : Type 1} → statement M
-direction-rows-spec =
-    tie.close
-    (tie.spec
-    Inv-loop
-    μ-loop
-    loop-holds
-    add-at
-    mul-at
-    add-at-2
-    fields-requires
-    add-field
-    field-requires
-    or-else-requires
-    enum-told
-    enum-told-2
-    returns
-    add-f
-    loop-less
-    loop-again
-    returns-2)
+direction-rows-spec = tie.close (tie.spec
+    Inv-loop μ-loop loop-holds (λ c. omega arith) (λ c. omega arith) (λ c. omega arith) (λ c κs. omega arith)
+    (λ c. omega arith) (λ c κs. search needs) (λ c κs. search needs) enum-told (λ c. search needs) returns
+    (λ c. omega arith) (λ c. omega arith) loop-again returns-2)

@@ -7,9 +7,6 @@ use Rattle.numbers.specs.inside.ItemBits.{shifted, items-fit}
 use Rattle.case.proofs.stations.first_items.Statement.{statement}
 use Rattle.case.proofs.stations.first_items.Tie as tie
 
-shl-result : tie.Need-shl-result
-shl-result c = search needs
-
 sub-result : tie.Need-sub-result
 sub-result c = rw (shifted (c .args .n) (omega arith)) (pow-pos (c .args .n))
 
@@ -20,4 +17,4 @@ returns : tie.Need-returns
 returns c = rw (shifted (c .args .n) (omega arith)) (toZ-pos w64 (items-fit (c .args .n) (c .pre)))
 
 pub first-items-spec : {M : Type 1} → statement M
-first-items-spec = tie.close (tie.spec shl-result sub-result cast-result returns)
+first-items-spec = tie.close (tie.spec (λ c. search needs) sub-result cast-result returns)

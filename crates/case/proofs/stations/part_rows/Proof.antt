@@ -10,15 +10,6 @@ use Rattle.case.proofs.Counting.{first-is}
 use Rattle.case.proofs.stations.part_rows.Statement.{statement}
 use Rattle.case.proofs.stations.part_rows.Tie as tie
 
-count-requires : tie.Need-count-requires
-count-requires c κs = search needs
-
-count-requires-2 : tie.Need-count-requires-2
-count-requires-2 c κs = search needs
-
-count-requires-3 : tie.Need-count-requires-3
-count-requires-3 c κs = search needs
-
 direction-rows-requires : tie.Need-direction-rows-requires
 direction-rows-requires c κs = let s = c .before .before .before in
     let p = s .pre .1 in
@@ -39,9 +30,6 @@ state-rows-requires c κs = let s = c .before .before .before .before in
     let m : c .before .count3 .result ≡ machineCount l offset = c .before .count3 .ensures .value in
     (s .pre .0, omega arith, d, omega arith)
 
-add-machine-rows : tie.Need-add-machine-rows
-add-machine-rows c = search needs
-
 mul-machine-rows : tie.Need-mul-machine-rows
 mul-machine-rows c = let s = c .before .before .before .before .before in
     let p = s .pre .1 in
@@ -61,9 +49,6 @@ add-machine-rows-2 c = let s = c .before .before .before .before .before in
     let z : c .before .before .before .count2 .result ≡ stateCount l offset = c .before .before .before .count2 .ensures .value in
     let m : c .before .before .count3 .result ≡ machineCount l offset = c .before .before .count3 .ensures .value in
     omega arith
-
-mul-machine-rows-2 : tie.Need-mul-machine-rows-2
-mul-machine-rows-2 c = search needs
 
 add-machine-rows-3 : tie.Need-add-machine-rows-3
 add-machine-rows-3 c = let s = c .before .before .before .before .before in
@@ -86,12 +71,6 @@ machine-rows-requires c κs = let s = c .before .before .before .before .before 
     let m : c .before .before .count3 .result ≡ machineCount l offset = c .before .before .count3 .ensures .value in
     (omega arith, omega arith, omega arith)
 
-or-else-requires : tie.Need-or-else-requires
-or-else-requires c κs = search needs
-
-or-else-requires-2 : tie.Need-or-else-requires-2
-or-else-requires-2 c κs = search needs
-
 returns : tie.Need-returns
 unfolding partFields
 returns c = let s = c .before .before .before .before .before .before .before .before in
@@ -106,20 +85,7 @@ returns c = let s = c .before .before .before .before .before .before .before .b
     (chain (c .before .or-else .ensures) (simp z at (c .before .before .before .state-rows .ensures)) (simp m at (c .before .before .machine-rows .ensures))))
 
 pub part-rows-spec : {M : Type 1} → statement M
-part-rows-spec =
-    tie.close
-    (tie.spec
-    count-requires
-    count-requires-2
-    count-requires-3
-    direction-rows-requires
-    state-rows-requires
-    add-machine-rows
-    mul-machine-rows
-    add-machine-rows-2
-    mul-machine-rows-2
-    add-machine-rows-3
-    machine-rows-requires
-    or-else-requires
-    or-else-requires-2
-    returns)
+part-rows-spec = tie.close (tie.spec
+    (λ c κs. search needs) (λ c κs. search needs) (λ c κs. search needs) direction-rows-requires state-rows-requires
+    (λ c. search needs) mul-machine-rows add-machine-rows-2 (λ c. search needs) add-machine-rows-3 machine-rows-requires
+    (λ c κs. search needs) (λ c κs. search needs) returns)

@@ -21,35 +21,11 @@ Inv-loop case offset directions states sets first z₀ z = (z ≤ states) × (fi
 abbrev μ-loop : tie.MeasureT-loop
 μ-loop case offset directions states sets first z₀ z = states - z
 
-first-items-requires : tie.Need-first-items-requires Inv-loop μ-loop
-first-items-requires c κs = omega arith
-
-add-first : tie.Need-add-first Inv-loop μ-loop
-add-first c = omega arith
-
-mul-first : tie.Need-mul-first Inv-loop μ-loop
-mul-first c = omega arith
-
-add-first-2 : tie.Need-add-first-2 Inv-loop μ-loop
-add-first-2 c = omega arith
-
 loop-holds : tie.Need-loop-holds Inv-loop μ-loop
 loop-holds c = (omega arith, let e : c .before .args .states - 0 ≡ c .before .args .states = omega arith in rw e)
 
-mul-state-fields : tie.Need-mul-state-fields Inv-loop μ-loop
-mul-state-fields c = omega arith
-
-add-state-fields : tie.Need-add-state-fields Inv-loop μ-loop
-add-state-fields c = omega arith
-
-state-fields-requires : tie.Need-state-fields-requires Inv-loop μ-loop
-state-fields-requires c κs = omega arith
-
 enum-told : tie.Need-enum-told Inv-loop μ-loop
 enum-told c = search needs
-
-enum-told-2 : tie.Need-enum-told-2 Inv-loop μ-loop
-enum-told-2 c = search needs
 
 returns : tie.Need-returns Inv-loop μ-loop
 unfolding stateFields
@@ -63,12 +39,6 @@ returns c = let b = c .before .before in
     let y : toZ w64 (ofZ w64 (h .before .first-items .result)) ≡ firstItems (directionCount l (a .offset)) = kept _ (h .before .first-items .ok) ∙ h .before .first-items .ensures ∙ ap firstItems (s .pre .2) in
     rw (← state-row l (a .offset) (h .loop .z) (s .pre .2), ← y) (b .state-fields .ensures) in
     sym (rest-no (stateFields l (a .offset)) (h .loop .z) (a .states) (h .loop .inv .1) (t .loop-test .taken) q (c .enum-told2 .given .1))
-
-add-z : tie.Need-add-z Inv-loop μ-loop
-add-z c = omega arith
-
-loop-less : tie.Need-loop-less Inv-loop μ-loop
-loop-less c = omega arith
 
 loop-again : tie.Need-loop-again Inv-loop μ-loop
 unfolding stateFields
@@ -90,23 +60,7 @@ returns-2 c = let h = c .before in
     sym (rest-end (stateFields l (a .offset)) (h .loop .z) (a .states) (h .loop .inv .1) (c .loop-test .left))
 
 pub state-rows-spec : {M : Type 1} → statement M
-state-rows-spec =
-    tie.close
-    (tie.spec
-    Inv-loop
-    μ-loop
-    first-items-requires
-    add-first
-    mul-first
-    add-first-2
-    loop-holds
-    mul-state-fields
-    add-state-fields
-    state-fields-requires
-    enum-told
-    enum-told-2
-    returns
-    add-z
-    loop-less
-    loop-again
-    returns-2)
+state-rows-spec = tie.close (tie.spec
+    Inv-loop μ-loop (λ c κs. omega arith) (λ c. omega arith) (λ c. omega arith) (λ c. omega arith) loop-holds
+    (λ c. omega arith) (λ c. omega arith) (λ c κs. omega arith) enum-told (λ c. search needs) returns (λ c. omega arith)
+    (λ c. omega arith) loop-again returns-2)

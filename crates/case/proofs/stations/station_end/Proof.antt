@@ -7,18 +7,6 @@ use Rattle.case.proofs.Counting.{first-is}
 use Rattle.case.proofs.stations.station_end.Statement.{statement}
 use Rattle.case.proofs.stations.station_end.Tie as tie
 
-count-requires : tie.Need-count-requires
-count-requires c κs = search needs
-
-count-requires-2 : tie.Need-count-requires-2
-count-requires-2 c κs = search needs
-
-count-requires-3 : tie.Need-count-requires-3
-count-requires-3 c κs = search needs
-
-add-result : tie.Need-add-result
-add-result c = search needs
-
 mul-result : tie.Need-mul-result
 mul-result c = let s = c .before .before .before in
     let l = now (s .args .case) in
@@ -37,9 +25,6 @@ add-result-2 c = let s = c .before .before .before in
     let m : c .count3 .result ≡ machineCount l (s .args .offset) = c .count3 .ensures .value in
     omega arith
 
-mul-result-2 : tie.Need-mul-result-2
-mul-result-2 c = search needs
-
 add-result-3 : tie.Need-add-result-3
 add-result-3 c = let s = c .before .before .before in
     let l = now (s .args .case) in
@@ -48,9 +33,6 @@ add-result-3 c = let s = c .before .before .before in
     let z : c .before .count2 .result ≡ stateCount l (s .args .offset) = c .before .count2 .ensures .value in
     let m : c .count3 .result ≡ machineCount l (s .args .offset) = c .count3 .ensures .value in
     omega arith
-
-mul-result-3 : tie.Need-mul-result-3
-mul-result-3 c = search needs
 
 add-result-4 : tie.Need-add-result-4
 add-result-4 c = let s = c .before .before .before in
@@ -72,17 +54,6 @@ returns c = let s = c .before .before .before in
     omega arith
 
 pub station-end-spec : {M : Type 1} → statement M
-station-end-spec =
-    tie.close
-    (tie.spec
-    count-requires
-    count-requires-2
-    count-requires-3
-    add-result
-    mul-result
-    add-result-2
-    mul-result-2
-    add-result-3
-    mul-result-3
-    add-result-4
-    returns)
+station-end-spec = tie.close (tie.spec
+    (λ c κs. search needs) (λ c κs. search needs) (λ c κs. search needs) (λ c. search needs) mul-result add-result-2
+    (λ c. search needs) add-result-3 (λ c. search needs) add-result-4 returns)

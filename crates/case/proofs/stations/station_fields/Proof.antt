@@ -7,17 +7,11 @@ use Rattle.case.proofs.Asked.{stopped, went}
 use Rattle.case.proofs.stations.station_fields.Statement.{statement}
 use Rattle.case.proofs.stations.station_fields.Tie as tie
 
-station-head-requires : tie.Need-station-head-requires
-station-head-requires c κs = search needs
-
 enum-told : tie.Need-enum-told
 enum-told c = search needs
 
 part-rows-requires : tie.Need-part-rows-requires
 part-rows-requires c κs = let s = c .before .before .before in (s .pre, station-counted (now (s .args .case)) (s .args .offset) (sym (c .before .before .station-head .ensures) ∙ c .enum-told .given .1))
-
-enum-told-2 : tie.Need-enum-told-2
-enum-told-2 c = search needs
 
 returns : tie.Need-returns
 unfolding rowFields
@@ -34,6 +28,5 @@ returns-2 c = let h = c .before .before in
     stopped (stationHead l offset) (partFields l offset) (h .station-head .ensures) (c .enum-told2 .given .1)
 
 pub station-fields-spec : {M : Type 1} → statement M
-station-fields-spec =
-    tie.close
-    (tie.spec station-head-requires enum-told part-rows-requires enum-told-2 returns returns-2)
+station-fields-spec = tie.close (tie.spec
+    (λ c κs. search needs) enum-told part-rows-requires (λ c. search needs) returns returns-2)

@@ -24,14 +24,8 @@ loop-holds : tie.Need-loop-holds Inv-loop μ-loop
 unfolding allStationFields
 loop-holds c = (omega arith, c .pre .1, omega (arith, c .pre .0), let e : c .args .stations - 0 ≡ stationsOf (now (c .args .case)) = omega (arith, c .pre .3) in rw e)
 
-station-fields-requires : tie.Need-station-fields-requires Inv-loop μ-loop
-station-fields-requires c κs = omega arith
-
 enum-told : tie.Need-enum-told Inv-loop μ-loop
 enum-told c = search needs
-
-enum-told-2 : tie.Need-enum-told-2 Inv-loop μ-loop
-enum-told-2 c = search needs
 
 returns : tie.Need-returns Inv-loop μ-loop
 unfolding stationFields
@@ -46,12 +40,6 @@ returns c = let b = c .before .before in
 
 station-end-requires : tie.Need-station-end-requires Inv-loop μ-loop
 station-end-requires c κs = let b = c .before .before in let h = b .before .before in (omega arith, row-counted (now (h .before .args .case)) (h .loop .offset) (sym (b .station-fields .ensures) ∙ c .enum-told .given .1))
-
-add-s : tie.Need-add-s Inv-loop μ-loop
-add-s c = omega arith
-
-loop-less : tie.Need-loop-less Inv-loop μ-loop
-loop-less c = omega arith
 
 loop-again : tie.Need-loop-again Inv-loop μ-loop
 unfolding stationFields
@@ -70,9 +58,6 @@ loop-again c = let b = c .before .before .before in
       rest-on (stationFields l) i (s .args .stations) (h .loop .inv .3) (t .loop-test .taken) q y,
     )
 
-ask-requires : tie.Need-ask-requires Inv-loop μ-loop
-ask-requires c κs = search needs
-
 returns-2 : tie.Need-returns-2 Inv-loop μ-loop
 unfolding leftover
 returns-2 c = let h = c .before .before in
@@ -84,19 +69,6 @@ returns-2 c = let h = c .before .before in
     (c .ask .ensures ∙ rw (r, orElse-yes))
 
 pub station-rows-spec : {M : Type 1} → statement M
-station-rows-spec =
-    tie.close
-    (tie.spec
-    Inv-loop
-    μ-loop
-    loop-holds
-    station-fields-requires
-    enum-told
-    enum-told-2
-    returns
-    station-end-requires
-    add-s
-    loop-less
-    loop-again
-    ask-requires
-    returns-2)
+station-rows-spec = tie.close (tie.spec
+    Inv-loop μ-loop loop-holds (λ c κs. omega arith) enum-told (λ c. search needs) returns station-end-requires
+    (λ c. omega arith) (λ c. omega arith) loop-again (λ c κs. search needs) returns-2)

@@ -14,14 +14,8 @@ use Rattle.gasplan.proofs.judge.gasplan_case.Tie as tie
 returns : tie.Need-returns
 returns c = rw (lt-leb _ _ (c .if1 .taken)) (refl, refl)
 
-judge-case-requires : tie.Need-judge-case-requires
-judge-case-requires c κs = search needs
-
 enum-told : tie.Need-enum-told
 enum-told c = search needs
-
-enum-known-a : tie.Need-enum-known-a
-enum-known-a c = search needs
 
 refusal-requires : tie.Need-refusal-requires
 refusal-requires c κs =
@@ -36,9 +30,6 @@ returns-2 c =
     let e = ap told (sym (c .enum-told .given .1)) ∙ d .judge-case .ensures in
     rw (le-leb _ _ (d .before .if1 .left), sym e) (refl, refl)
 
-same-length : tie.Need-same-length
-same-length c = search needs
-
 returns-3 : tie.Need-returns-3
 returns-3 c =
     let k = c .before in
@@ -50,14 +41,6 @@ returns-3 c =
     rw (le-leb _ _ (d .before .if1 .left)) x
 
 pub gasplan-case-spec : {M : Type 1} → statement M
-gasplan-case-spec =
-    tie.close
-    (tie.spec
-    returns
-    judge-case-requires
-    enum-told
-    enum-known-a
-    refusal-requires
-    returns-2
-    same-length
+gasplan-case-spec = tie.close (tie.spec
+    returns (λ c κs. search needs) enum-told (λ c. search needs) refusal-requires returns-2 (λ c. search needs)
     returns-3)

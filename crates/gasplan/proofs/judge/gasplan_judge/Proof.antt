@@ -11,16 +11,10 @@ use Rattle.gasplan.proofs.judge.gasplan_judge.Tie as tie
 returns : tie.Need-returns
 returns c = rw (lt-leb _ _ (c .if1 .taken)) (refl, refl)
 
-judge-requires : tie.Need-judge-requires
-judge-requires c κs = search needs
-
 tell-verdict-requires : tie.Need-tell-verdict-requires
 tell-verdict-requires c κs =
     let a = c .before .before .before .args in
     (c .before .before .if1 .left, judge-fits (now (a .case)) (now (a .plan)) (c .judge .result) (c .judge .ensures))
-
-same-length : tie.Need-same-length
-same-length c = search needs
 
 returns-2 : tie.Need-returns-2
 returns-2 c =
@@ -30,5 +24,5 @@ returns-2 c =
     (kept _ (k .tell-verdict .ok) ∙ k .tell-verdict .ensures .0 ∙ ap (codeOf out) e, k .tell-verdict .ensures .1 ∙ ap (outOf out) e)
 
 pub gasplan-judge-spec : {M : Type 1} → statement M
-gasplan-judge-spec =
-    tie.close (tie.spec returns judge-requires tell-verdict-requires same-length returns-2)
+gasplan-judge-spec = tie.close (tie.spec
+    returns (λ c κs. search needs) tell-verdict-requires (λ c. search needs) returns-2)

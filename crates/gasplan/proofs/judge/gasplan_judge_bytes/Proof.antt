@@ -12,9 +12,6 @@ use Rattle.gasplan.proofs.judge.gasplan_judge_bytes.Tie as tie
 returns : tie.Need-returns
 returns c = rw (lt-leb _ _ (c .if1 .taken)) (refl, (refl, (refl, refl)))
 
-judge-bytes-requires : tie.Need-judge-bytes-requires
-judge-bytes-requires c κs = search needs
-
 tell-verdict-requires : tie.Need-tell-verdict-requires
 tell-verdict-requires c κs =
     let j = c .before .before in
@@ -22,15 +19,6 @@ tell-verdict-requires c κs =
     let a = d .before .before .before .args in
     let f = bytes-fit (now (a .casebytes)) (now (a .planbytes)) (now (a .caselist)) (now (a .planlist)) (omega arith) (omega arith) in
     (d .if1 .left, f (j .judge-bytes .result) (j .judge-bytes .ensures .0))
-
-same-length : tie.Need-same-length
-same-length c = search needs
-
-same-length-2 : tie.Need-same-length-2
-same-length-2 c = search needs
-
-same-length-3 : tie.Need-same-length-3
-same-length-3 c = search needs
 
 returns-2 : tie.Need-returns-2
 returns-2 c =
@@ -43,13 +31,6 @@ returns-2 c =
     (kept _ (k .tell-verdict .ok) ∙ t .0 ∙ ap (codeOf out) e, (t .1 ∙ ap (outOf out) e, (rw (le-leb _ _ (d .if1 .left)) (j .judge-bytes .ensures .1 .0), rw (le-leb _ _ (d .if1 .left)) (j .judge-bytes .ensures .1 .1))))
 
 pub gasplan-judge-bytes-spec : {M : Type 1} → statement M
-gasplan-judge-bytes-spec =
-    tie.close
-    (tie.spec
-    returns
-    judge-bytes-requires
-    tell-verdict-requires
-    same-length
-    same-length-2
-    same-length-3
+gasplan-judge-bytes-spec = tie.close (tie.spec
+    returns (λ c κs. search needs) tell-verdict-requires (λ c. search needs) (λ c. search needs) (λ c. search needs)
     returns-2)

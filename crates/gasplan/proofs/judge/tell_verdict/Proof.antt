@@ -13,9 +13,6 @@ use borrow.Author.Needs.{needs}
 use Rattle.gasplan.proofs.judge.tell_verdict.Statement.{statement}
 use Rattle.gasplan.proofs.judge.tell_verdict.Tie as tie
 
-enum-known-v : tie.Need-enum-known-v
-enum-known-v c = search needs
-
 cast-switching : tie.Need-cast-switching
 cast-switching c =
     let v = c .before .before in
@@ -28,21 +25,12 @@ cast-residual c =
     let w = subst (Fit (2 ^ 63)) (v .v .given .1) (v .before .before .pre .1) in
     record { sfits = w .1 }
 
-six-requires : tie.Need-six-requires
-six-requires c κs = search needs
-
-enum-known-v-2 : tie.Need-enum-known-v-2
-enum-known-v-2 c = search needs
-
 refusal-requires : tie.Need-refusal-requires
 refusal-requires c κs =
     let v = c .before .before in
     let s = v .before .before in
     let w = subst (Fit (2 ^ 63)) (v .v2 .given .1) (s .pre .1) in
     (s .pre .0, w .0, w .1, w .2)
-
-same-length : tie.Need-same-length
-same-length c = search needs
 
 returns : tie.Need-returns
 returns c =
@@ -57,9 +45,6 @@ returns c =
     let x = coded (now (s .args .out)) (ap verdictTold (sym (v .v .given .1))) (omega arith) (k .six .ensures .0) n in
     rw (le-leb _ _ (s .pre .0)) x
 
-same-length-2 : tie.Need-same-length-2
-same-length-2 c = search needs
-
 returns-2 : tie.Need-returns-2
 returns-2 c =
     let k = c .before in
@@ -70,16 +55,6 @@ returns-2 c =
     rw (le-leb _ _ (s .pre .0)) x
 
 pub tell-verdict-spec : {M : Type 1} → statement M
-tell-verdict-spec =
-    tie.close
-    (tie.spec
-    enum-known-v
-    cast-switching
-    cast-residual
-    six-requires
-    enum-known-v-2
-    refusal-requires
-    same-length
-    returns
-    same-length-2
-    returns-2)
+tell-verdict-spec = tie.close (tie.spec
+    (λ c. search needs) cast-switching cast-residual (λ c κs. search needs) (λ c. search needs) refusal-requires
+    (λ c. search needs) returns (λ c. search needs) returns-2)

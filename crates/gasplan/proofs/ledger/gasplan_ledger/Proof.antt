@@ -12,17 +12,11 @@ use Rattle.gasplan.proofs.ledger.gasplan_ledger.Tie as tie
 returns : tie.Need-returns
 returns c = rw (lt-leb _ _ (c .if1 .taken)) (refl, refl)
 
-ledger-requires : tie.Need-ledger-requires
-ledger-requires c κs = search needs
-
 tell-ledger-requires : tie.Need-tell-ledger-requires
 tell-ledger-requires c κs =
     let s = c .before .before .before in
     let a = s .args in
     (c .before .before .if1 .left, ledger-fits (now (a .case)) (now (a .plan)) (a .set) (a .s) (a .t) (c .ledger .result) (simp (toZ-ofZ (s .fits .set), toZ-ofZ (s .fits .s), toZ-ofZ (s .fits .t)) at (c .ledger .ensures .0)))
-
-same-length : tie.Need-same-length
-same-length c = search needs
 
 returns-2 : tie.Need-returns-2
 returns-2 c =
@@ -33,5 +27,5 @@ returns-2 c =
     (kept _ (k .tell-ledger .ok) ∙ k .tell-ledger .ensures .0 ∙ ap (codeOf out) e, k .tell-ledger .ensures .1 ∙ ap (outOf out) e)
 
 pub gasplan-ledger-spec : {M : Type 1} → statement M
-gasplan-ledger-spec =
-    tie.close (tie.spec returns ledger-requires tell-ledger-requires same-length returns-2)
+gasplan-ledger-spec = tie.close (tie.spec
+    returns (λ c κs. search needs) tell-ledger-requires (λ c. search needs) returns-2)

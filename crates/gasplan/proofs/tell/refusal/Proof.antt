@@ -10,28 +10,12 @@ use Rattle.numbers.specs.inside.OverlayLaws.{overlay-sets}
 use Rattle.gasplan.proofs.tell.refusal.Statement.{statement}
 use Rattle.gasplan.proofs.tell.refusal.Tie as tie
 
-cast-out : tie.Need-cast-out
-cast-out c = search needs
-
-slice-set-from-out : tie.Need-slice-set-from-out
-slice-set-from-out c = search needs
-
-cast-out-2 : tie.Need-cast-out-2
-cast-out-2 c = search needs
-
-slice-set-from-out-2 : tie.Need-slice-set-from-out-2
-slice-set-from-out-2 c = simp length-set (omega (arith, c .pre .0))
-
-cast-result : tie.Need-cast-result
-cast-result c = search needs
-
-same-length : tie.Need-same-length
-same-length c = search needs
-
 returns : tie.Need-returns
 returns c =
     let p = c .pre in
     (toZ-pos w64 (p .1), rw (toZ-pos w64 (p .2), toZ-pos w64 (p .3)) (overlay-sets (pos (c .args .step) ∷ pos (c .args .place) ∷ []) (now (c .args .out)) (omega (arith, p .0))))
 
 pub refusal-spec : {M : Type 1} → statement M
-refusal-spec = tie.close (tie.spec cast-out slice-set-from-out cast-out-2 slice-set-from-out-2 cast-result same-length returns)
+refusal-spec = tie.close (tie.spec
+    (λ c. search needs) (λ c. search needs) (λ c. search needs) (λ c. simp length-set (omega (arith, c .pre .0)))
+    (λ c. search needs) (λ c. search needs) returns)

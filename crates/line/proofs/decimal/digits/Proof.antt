@@ -15,9 +15,6 @@ Inv-loop n line₀ at end rest₀ i₀ line rest i = Writing line₀ at n line r
 abbrev μ-loop : tie.MeasureT-loop
 μ-loop n line₀ at end rest₀ i₀ line rest i = rest
 
-width-requires : tie.Need-width-requires Inv-loop μ-loop
-width-requires c κs = search needs
-
 add-end : tie.Need-add-end Inv-loop μ-loop
 add-end c = omega (arith, c .width .ensures, c .before .before .pre)
 
@@ -27,30 +24,15 @@ sub-i c = omega (arith, c .width .ensures, some-digit (c .before .before .args .
 loop-holds : tie.Need-loop-holds Inv-loop μ-loop
 loop-holds c = writing _ _ _ _ (omega (arith, c .width .ensures, some-digit (c .before .before .args .n))) (c .before .before .pre)
 
-last-digit-requires : tie.Need-last-digit-requires Inv-loop μ-loop
-last-digit-requires c κs = search needs
-
-slice-write-line : tie.Need-slice-write-line Inv-loop μ-loop
-slice-write-line c = c .before .before .loop .inv .room
-
 sub-i-2 : tie.Need-sub-i-2 Inv-loop μ-loop
 sub-i-2 c =
     let l = c .before .before in
     omega (arith, l .loop .inv .here, longer (l .loop .rest) (c .before .loop-test .taken), some-digit (l .loop .rest / 10))
 
-loop-less : tie.Need-loop-less Inv-loop μ-loop
-loop-less c = omega arith
-
 loop-again : tie.Need-loop-again Inv-loop μ-loop
 loop-again c =
     let l = c .before .before in
     rw (c .last-digit .ensures) (write-turn (l .loop .inv) (c .before .loop-test .taken))
-
-last-digit-requires-2 : tie.Need-last-digit-requires-2 Inv-loop μ-loop
-last-digit-requires-2 c κs = search needs
-
-slice-write-line-2 : tie.Need-slice-write-line-2 Inv-loop μ-loop
-slice-write-line-2 c = c .before .before .loop .inv .room
 
 same-length : tie.Need-same-length Inv-loop μ-loop
 same-length c = length-set (c .before .before .loop .line) _ _ ∙ c .before .before .loop .inv .whole
@@ -67,21 +49,7 @@ returns c =
     }
 
 pub digits-spec : {M : Type 1} → statement M
-digits-spec =
-    tie.close
-    (tie.spec
-    Inv-loop
-    μ-loop
-    width-requires
-    add-end
-    sub-i
-    loop-holds
-    last-digit-requires
-    slice-write-line
-    sub-i-2
-    loop-less
-    loop-again
-    last-digit-requires-2
-    slice-write-line-2
-    same-length
-    returns)
+digits-spec = tie.close (tie.spec
+    Inv-loop μ-loop (λ c κs. search needs) add-end sub-i loop-holds (λ c κs. search needs)
+    (λ c. c .before .before .loop .inv .room) sub-i-2 (λ c. omega arith) loop-again (λ c κs. search needs)
+    (λ c. c .before .before .loop .inv .room) same-length returns)

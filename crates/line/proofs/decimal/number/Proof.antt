@@ -16,18 +16,6 @@ use Rattle.line.proofs.Signs.{below-zero, from-zero}
 use Rattle.line.proofs.decimal.number.Statement.{statement}
 use Rattle.line.proofs.decimal.number.Tie as tie
 
-unsigned-requires : tie.Need-unsigned-requires
-unsigned-requires c κs = search needs
-
-slice-write-line : tie.Need-slice-write-line
-slice-write-line c = search needs
-
-add-digits : tie.Need-add-digits
-add-digits c = search needs
-
-add-digits-2 : tie.Need-add-digits-2
-add-digits-2 c = search needs
-
 -- half of a u64 and one more has at most 19 digits
 few : (m : ℕ) → m < 2 ^ 64 → (length (decimal (m / 2 + 1)) ≤ 19) × (length (decimal (m / 2)) ≤ 19)
 few m h = (few-digits (m / 2 + 1) 18 (omega arith), few-digits (m / 2) 18 (omega arith))
@@ -59,9 +47,6 @@ returns c =
     let w = ap (λ (m : ℕ). 45 ∷ decimal (m / 2 + 1)) e ∙ below-zero (s .args .x) n in
     (rw w at p, omega (arith, p .after, few (u .unsigned .result) (u .unsigned .ok) .0))
 
-same-length-2 : tie.Need-same-length-2
-same-length-2 c = search needs
-
 returns-2 : tie.Need-returns-2
 returns-2 c =
     let d = c .before .before in
@@ -75,16 +60,6 @@ returns-2 c =
     (rw w at p, omega (arith, p .after, few (u .unsigned .result) (u .unsigned .ok) .1))
 
 pub number-spec : {M : Type 1} → statement M
-number-spec =
-    tie.close
-    (tie.spec
-    unsigned-requires
-    slice-write-line
-    add-digits
-    add-digits-2
-    digits-requires
-    digits-requires-2
-    same-length
-    returns
-    same-length-2
-    returns-2)
+number-spec = tie.close (tie.spec
+    (λ c κs. search needs) (λ c. search needs) (λ c. search needs) (λ c. search needs) digits-requires digits-requires-2
+    same-length returns (λ c. search needs) returns-2)

@@ -26,9 +26,6 @@ add-count c =
     let small : n < 2 ^ 64 = search needs in
     omega (arith, c .before .loop .inv, few-digits n 19 (omega arith))
 
-loop-less : tie.Need-loop-less Inv-loop μ-loop
-loop-less c = omega arith
-
 loop-again : tie.Need-loop-again Inv-loop μ-loop
 loop-again c = omega (arith, c .before .loop .inv, longer (c .before .loop .rest) (c .loop-test .taken))
 
@@ -36,4 +33,4 @@ returns : tie.Need-returns Inv-loop μ-loop
 returns c = omega (arith, c .before .loop .inv, ap length (one-digit (c .before .loop .rest) (c .loop-test .left)))
 
 pub width-spec : {M : Type 1} → statement M
-width-spec = tie.close (tie.spec Inv-loop μ-loop loop-holds add-count loop-less loop-again returns)
+width-spec = tie.close (tie.spec Inv-loop μ-loop loop-holds add-count (λ c. omega arith) loop-again returns)

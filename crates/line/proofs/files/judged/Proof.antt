@@ -5,15 +5,6 @@ use Rattle.plan.specs.inside.VerdictSizes.{bytes-fit}
 use Rattle.line.proofs.files.judged.Statement.{statement}
 use Rattle.line.proofs.files.judged.Tie as tie
 
-slice-aggregate-judge-bytes : tie.Need-slice-aggregate-judge-bytes
-slice-aggregate-judge-bytes c = search needs
-
-slice-aggregate-judge-bytes-2 : tie.Need-slice-aggregate-judge-bytes-2
-slice-aggregate-judge-bytes-2 c = search needs
-
-judge-bytes-requires : tie.Need-judge-bytes-requires
-judge-bytes-requires c κs = search needs
-
 tell-requires : tie.Need-tell-requires
 tell-requires c κs =
     let j = c .before .before .before in
@@ -22,9 +13,6 @@ tell-requires c κs =
     let e = j .judge-bytes .ensures .0 in
     (s .pre, bytes-fit _ _ _ _ (omega arith) (omega arith) v e)
 
-same-length : tie.Need-same-length
-same-length c = search needs
-
 returns : tie.Need-returns
 returns c =
     let t = c .before .before in
@@ -32,5 +20,5 @@ returns c =
     rw (j .judge-bytes .ensures .0) at (t .tell .ensures)
 
 pub judged-spec : {M : Type 1} → statement M
-judged-spec =
-    tie.close (tie.spec slice-aggregate-judge-bytes slice-aggregate-judge-bytes-2 judge-bytes-requires tell-requires same-length returns)
+judged-spec = tie.close (tie.spec
+    (λ c. search needs) (λ c. search needs) (λ c κs. search needs) tell-requires (λ c. search needs) returns)

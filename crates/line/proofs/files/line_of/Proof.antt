@@ -12,21 +12,6 @@ use Rattle.line.proofs.files.line_of.Tie as tie
 returns : tie.Need-returns
 returns c = rw (lt-leb _ _ (c .if1 .taken)) (refl, (refl, (omega arith, refl)))
 
-within-requires : tie.Need-within-requires
-within-requires c κs = search needs
-
-judged-requires : tie.Need-judged-requires
-judged-requires c κs = search needs
-
-slice-aggregate-copy : tie.Need-slice-aggregate-copy
-slice-aggregate-copy c = search needs
-
-copy-requires : tie.Need-copy-requires
-copy-requires c κs = search needs
-
-same-length : tie.Need-same-length
-same-length c = search needs
-
 returns-2 : tie.Need-returns-2
 unfolding filesLine
 returns-2 c =
@@ -36,9 +21,6 @@ returns-2 c =
     let p = j .judged .ensures in
     let o = put-overlay p in
     rw (le-leb _ _ (w .before .if1 .left), sym (w .within .ensures) ∙ t .if2 .taken) (o .0, (o .1, put-counts p))
-
-same-length-2 : tie.Need-same-length-2
-same-length-2 c = search needs
 
 returns-3 : tie.Need-returns-3
 unfolding filesLine
@@ -52,15 +34,6 @@ returns-3 c =
     rw (le-leb _ _ l, sym (w .within .ensures) ∙ e .if2 .left) (o .0, (o .1, put-counts p))
 
 pub line-of-spec : {M : Type 1} → statement M
-line-of-spec =
-    tie.close
-    (tie.spec
-    returns
-    within-requires
-    judged-requires
-    slice-aggregate-copy
-    copy-requires
-    same-length
-    returns-2
-    same-length-2
-    returns-3)
+line-of-spec = tie.close (tie.spec
+    returns (λ c κs. search needs) (λ c κs. search needs) (λ c. search needs) (λ c κs. search needs) (λ c. search needs)
+    returns-2 (λ c. search needs) returns-3)

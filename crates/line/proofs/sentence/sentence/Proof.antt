@@ -9,17 +9,8 @@ use Rattle.line.specs.inside.Put.{put-front, put-both, put-one}
 use Rattle.line.proofs.sentence.sentence.Statement.{statement}
 use Rattle.line.proofs.sentence.sentence.Tie as tie
 
-copy-requires : tie.Need-copy-requires
-copy-requires c κs = search needs
-
-values-requires : tie.Need-values-requires
-values-requires c κs = search needs
-
 slice-write-line : tie.Need-slice-write-line
 slice-write-line c = search needs
-
-add-result : tie.Need-add-result
-add-result c = search needs
 
 same-length : tie.Need-same-length
 same-length c =
@@ -37,4 +28,5 @@ returns c =
     put-both p (put-both (v .values .ensures .0) (put-one _ _ 10 (slice-write-line c)))
 
 pub sentence-spec : {M : Type 1} → statement M
-sentence-spec = tie.close (tie.spec copy-requires values-requires slice-write-line add-result same-length returns)
+sentence-spec = tie.close (tie.spec
+    (λ c κs. search needs) (λ c κs. search needs) slice-write-line (λ c. search needs) same-length returns)

@@ -22,12 +22,6 @@ loop-holds c = spacing _ _ _ (c .before .pre)
 slice-write-line : tie.Need-slice-write-line Inv-loop μ-loop
 slice-write-line c = omega (arith, space-room (c .before .loop .inv) (c .loop-test .taken) (c .before .before .before .pre))
 
-mul-number : tie.Need-mul-number Inv-loop μ-loop
-mul-number c = search needs
-
-shared-slice-copy-out-number : tie.Need-shared-slice-copy-out-number Inv-loop μ-loop
-shared-slice-copy-out-number c = search needs
-
 add-number : tie.Need-add-number Inv-loop μ-loop
 add-number c =
     let l = c .before .before in
@@ -38,12 +32,6 @@ number-requires c κs =
     let l = c .before .before in
     simp length-set (omega (arith, space-room (l .before .loop .inv) (l .loop-test .taken) (l .before .before .before .pre)))
 
-add-i : tie.Need-add-i Inv-loop μ-loop
-add-i c = omega arith
-
-loop-less : tie.Need-loop-less Inv-loop μ-loop
-loop-less c = omega arith
-
 loop-again : tie.Need-loop-again Inv-loop μ-loop
 loop-again c =
     let n = c .before .before in
@@ -52,28 +40,12 @@ loop-again c =
     let f = element (now (l .before .before .before .args .list)) (l .before .loop .i) (a .number-arg .given) in
     space-turn (l .before .loop .inv) (l .loop-test .taken) (simp (toZ-ofZ f) at (n .number .ensures .0)) (n .number .ensures .1)
 
-same-length : tie.Need-same-length Inv-loop μ-loop
-same-length c = c .before .loop .inv .whole
-
 returns : tie.Need-returns Inv-loop μ-loop
 returns c =
     let l = c .before .loop .inv in
     (space-end l (c .loop-test .left), omega (arith, l .near, l .upto))
 
 pub values-spec : {M : Type 1} → statement M
-values-spec =
-    tie.close
-    (tie.spec
-    Inv-loop
-    μ-loop
-    loop-holds
-    slice-write-line
-    mul-number
-    shared-slice-copy-out-number
-    add-number
-    number-requires
-    add-i
-    loop-less
-    loop-again
-    same-length
-    returns)
+values-spec = tie.close (tie.spec
+    Inv-loop μ-loop loop-holds slice-write-line (λ c. search needs) (λ c. search needs) add-number number-requires
+    (λ c. omega arith) (λ c. omega arith) loop-again (λ c. c .before .loop .inv .whole) returns)

@@ -6,24 +6,6 @@ use Rattle.numbers.specs.inside.SignedLocals.{kept}
 use Rattle.line.proofs.verdict.accepted.Statement.{statement}
 use Rattle.line.proofs.verdict.accepted.Tie as tie
 
-cast-switching : tie.Need-cast-switching
-cast-switching c = search needs
-
-cast-residual : tie.Need-cast-residual
-cast-residual c = search needs
-
-slice-aggregate-sentence : tie.Need-slice-aggregate-sentence
-slice-aggregate-sentence c = search needs
-
-slice-aggregate-sentence-2 : tie.Need-slice-aggregate-sentence-2
-slice-aggregate-sentence-2 c = search needs
-
-sentence-requires : tie.Need-sentence-requires
-sentence-requires c κs = search needs
-
-same-length : tie.Need-same-length
-same-length c = search needs
-
 returns : tie.Need-returns
 returns c =
     let k = c .before .before in
@@ -38,13 +20,6 @@ returns c =
     simp (pressure, demand, toZ-pos w64 (s .pre .1 .0), toZ-pos w64 (s .pre .1 .1), opening, closing) at (k .sentence .ensures)
 
 pub accepted-spec : {M : Type 1} → statement M
-accepted-spec =
-    tie.close
-    (tie.spec
-    cast-switching
-    cast-residual
-    slice-aggregate-sentence
-    slice-aggregate-sentence-2
-    sentence-requires
-    same-length
-    returns)
+accepted-spec = tie.close (tie.spec
+    (λ c. search needs) (λ c. search needs) (λ c. search needs) (λ c. search needs) (λ c κs. search needs)
+    (λ c. search needs) returns)

@@ -15,17 +15,11 @@ use Rattle.line.proofs.verdict.tell.Tie as tie
 of : {old new : List ℕ} {next : ℕ} {v w : Verdict} → v ≡ w → Put old new 0 (lineOf (verdictTold w)) next → Put old new 0 (lineOf (verdictTold v)) next
 of {old} {new} {next} e p = subst (λ (u : Verdict). Put old new 0 (lineOf (verdictTold u)) next) (sym e) p
 
-enum-known-verdict : tie.Need-enum-known-verdict
-enum-known-verdict c = search needs
-
 accepted-requires : tie.Need-accepted-requires
 accepted-requires c κs =
     let v = c .before .before in
     let s = v .before .before .before in
     (s .pre .0, subst (Fit (2 ^ 63)) (v .verdict .given .1) (s .pre .1))
-
-enum-known-verdict-2 : tie.Need-enum-known-verdict-2
-enum-known-verdict-2 c = search needs
 
 refused-requires : tie.Need-refused-requires
 refused-requires c κs =
@@ -34,17 +28,11 @@ refused-requires c κs =
     let e = v .verdict2 .given .1 in
     (s .pre .0, subst (Fit (2 ^ 63)) e (s .pre .1))
 
-same-length : tie.Need-same-length
-same-length c = search needs
-
 returns : tie.Need-returns
 returns c =
     let k = c .before .before in
     let v = k .before .before .before in
     of (v .verdict .given .1) (k .accepted .ensures)
-
-same-length-2 : tie.Need-same-length-2
-same-length-2 c = search needs
 
 returns-2 : tie.Need-returns-2
 returns-2 c =
@@ -53,14 +41,6 @@ returns-2 c =
     of (v .verdict2 .given .1) (k .refused .ensures)
 
 pub tell-spec : {M : Type 1} → statement M
-tell-spec =
-    tie.close
-    (tie.spec
-    enum-known-verdict
-    accepted-requires
-    enum-known-verdict-2
-    refused-requires
-    same-length
-    returns
-    same-length-2
-    returns-2)
+tell-spec = tie.close (tie.spec
+    (λ c. search needs) accepted-requires (λ c. search needs) refused-requires (λ c. search needs) returns
+    (λ c. search needs) returns-2)

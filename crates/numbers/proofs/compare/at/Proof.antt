@@ -6,12 +6,6 @@ use lib.ListN.{List·getD-eq-default}
 use Rattle.numbers.proofs.compare.at.Statement.{statement}
 use Rattle.numbers.proofs.compare.at.Tie as tie
 
-mul-result : tie.Need-mul-result
-mul-result c = search needs
-
-shared-slice-copy-out-result : tie.Need-shared-slice-copy-out-result
-shared-slice-copy-out-result c = search needs
-
 returns : tie.Need-returns
 returns c = search needs
 
@@ -19,4 +13,4 @@ returns-2 : tie.Need-returns-2
 returns-2 c = sym (List·getD-eq-default (now (c .before .args .list)) (pos 0) (c .if1 .left))
 
 pub at-spec : {M : Type 1} → statement M
-at-spec = tie.close (tie.spec mul-result shared-slice-copy-out-result returns returns-2)
+at-spec = tie.close (tie.spec (λ c. search needs) (λ c. search needs) returns returns-2)

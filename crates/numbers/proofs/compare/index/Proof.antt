@@ -3,9 +3,6 @@ use Rattle.numbers.specs.inside.SignedLocals.{castu, below-zero, from-ze
 use Rattle.numbers.proofs.compare.index.Statement.{statement}
 use Rattle.numbers.proofs.compare.index.Tie as tie
 
-cast-result : tie.Need-cast-result
-cast-result c = castu (c .before .fits .x) (c .if1 .left)
-
 returns : tie.Need-returns
 returns c = sym (below-zero (c .before .fits .x) (c .if1 .taken))
 
@@ -13,4 +10,4 @@ returns-2 : tie.Need-returns-2
 returns-2 c = from-zero (c .before .fits .x) (c .if1 .left)
 
 pub index-spec : {M : Type 1} → statement M
-index-spec = tie.close (tie.spec cast-result returns returns-2)
+index-spec = tie.close (tie.spec (λ c. castu (c .before .fits .x) (c .if1 .left)) returns returns-2)

@@ -3,11 +3,8 @@ use borrow.Author.Needs.{needs}
 use Rattle.numbers.proofs.compare.same.Statement.{statement}
 use Rattle.numbers.proofs.compare.same.Tie as tie
 
-within-requires : tie.Need-within-requires
-within-requires c κs = search needs
-
 returns : tie.Need-returns
 returns c = let f = c .before .fits in cc (c .within .ensures, toZ-ofZ (f .a), toZ-ofZ (f .b))
 
 pub same-spec : {M : Type 1} → statement M
-same-spec = tie.close (tie.spec within-requires returns)
+same-spec = tie.close (tie.spec (λ c κs. search needs) returns)

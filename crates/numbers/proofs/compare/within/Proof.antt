@@ -6,12 +6,6 @@ use borrow.Author.Needs.{needs}
 use Rattle.numbers.proofs.compare.within.Statement.{statement}
 use Rattle.numbers.proofs.compare.within.Tie as tie
 
-at-most-requires : tie.Need-at-most-requires
-at-most-requires c κs = search needs
-
-at-most-requires-2 : tie.Need-at-most-requires-2
-at-most-requires-2 c κs = search needs
-
 returns : tie.Need-returns
 returns c =
     let a = c .before .before .before .args in
@@ -27,4 +21,4 @@ returns-2 c =
     rw e
 
 pub within-spec : {M : Type 1} → statement M
-within-spec = tie.close (tie.spec at-most-requires at-most-requires-2 returns returns-2)
+within-spec = tie.close (tie.spec (λ c κs. search needs) (λ c κs. search needs) returns returns-2)

@@ -25,9 +25,6 @@ module _ (m : ℕ) (f : Fits w64 m) where
   odd-is : pos 0 -ℤ pos (m / 2) -ℤ pos 1 ≡ negsuc (m / 2)
   odd-is = omega (ints, taken (pos 0) (pos (m / 2)), taken (pos 0 -ℤ pos (m / 2)) (pos 1))
 
-cast-half : tie.Need-cast-half
-cast-half c = search needs
-
 sub-result : tie.Need-sub-result
 sub-result c = rw (half-is _ (c .before .fits .m)) (neg-fits _ (c .before .fits .m))
 
@@ -43,4 +40,4 @@ returns-2 c =
     rw (half-is _ f, toZ-ofZ (neg-fits _ f), toZ-ofZ (neg1-fits _ f)) (odd-is _ f ∙ sym (signed-odd _ (c .if1 .left)))
 
 pub signed-spec : {M : Type 1} → statement M
-signed-spec = tie.close (tie.spec cast-half sub-result sub-result-2 returns returns-2)
+signed-spec = tie.close (tie.spec (λ c. search needs) sub-result sub-result-2 returns returns-2)

@@ -57,12 +57,6 @@ mul-result c = rw (size-is _ (c .before .fits .x) (neg c)) (omega arith)
 add-result : tie.Need-add-result
 add-result c = rw (size-is _ (c .before .fits .x) (neg c)) (omega arith)
 
-cast-result : tie.Need-cast-result
-cast-result c = rw (nonneg c) (tt, omega arith)
-
-mul-result-2 : tie.Need-mul-result-2
-mul-result-2 c = rw (nonneg c) (omega arith)
-
 returns : tie.Need-returns
 returns c = rw (size-is _ (c .before .fits .x) (neg c), unsigned-neg _ (neg c))
 
@@ -70,4 +64,6 @@ returns-2 : tie.Need-returns-2
 returns-2 c = rw (nonneg c) (ap unsignedOf (sym (signed-pos (c .before .args .x) (lt← (c .before .fits .x) (sfits-lit {z = pos 0} tt) (c .if1 .left)))))
 
 pub unsigned-spec : {M : Type 1} → statement M
-unsigned-spec = tie.close (tie.spec add-size sub-size cast-size mul-result add-result cast-result mul-result-2 returns returns-2)
+unsigned-spec = tie.close (tie.spec
+    add-size sub-size cast-size mul-result add-result (λ c. rw (nonneg c) (tt, omega arith))
+    (λ c. rw (nonneg c) (omega arith)) returns returns-2)

@@ -12,9 +12,6 @@ mul-t7 c = let p = c .before .pre in record { fits = omega (arith, product-small
 add-t8 : tie.Need-add-t8
 add-t8 c = let p = c .before .pre in record { fits = omega (arith, product-small (p .0) (p .2)) }
 
-add-t9 : tie.Need-add-t9
-add-t9 c = search needs
-
 returns : tie.Need-returns
 returns c = rw (eq-eqb _ _ (c .if1 .taken))
 
@@ -22,4 +19,4 @@ returns-2 : tie.Need-returns-2
 returns-2 c = rw (ne-eqb _ _ (c .if1 .left))
 
 pub last-spec : {M : Type 1} → statement M
-last-spec = tie.close (tie.spec mul-t7 add-t8 add-t9 returns returns-2)
+last-spec = tie.close (tie.spec mul-t7 add-t8 (λ c. search needs) returns returns-2)

@@ -32,15 +32,6 @@ loop-holds c = let p = c .before .pre in gathering _ _ _ (p .0) (p .1)
 returns : tie.Need-returns Inv-loop μ-loop
 returns c = gather-none (c .before .before .loop .inv) (c .if1 .taken)
 
-shared-slice-read-wide : tie.Need-shared-slice-read-wide Inv-loop μ-loop
-shared-slice-read-wide c = omega arith
-
-wide-requires : tie.Need-wide-requires Inv-loop μ-loop
-wide-requires c κs = search needs
-
-sub-last : tie.Need-sub-last Inv-loop μ-loop
-sub-last c = omega arith
-
 last-requires : tie.Need-last-requires Inv-loop μ-loop
 last-requires c κs =
     let i = c .before .before .before .before in
@@ -72,15 +63,6 @@ mul-scale c =
     let i = c .before .before .before .before in
     record { fits = omega (arith, scale-most _ (i .before .loop .inv) (i .loop-test .taken)) }
 
-add-at : tie.Need-add-at Inv-loop μ-loop
-add-at c = omega arith
-
-sub-more : tie.Need-sub-more Inv-loop μ-loop
-sub-more c = omega arith
-
-loop-less : tie.Need-loop-less Inv-loop μ-loop
-loop-less c = omega arith
-
 loop-again : tie.Need-loop-again Inv-loop μ-loop
 loop-again c =
     let w = c .before in
@@ -98,24 +80,7 @@ returns-3 : tie.Need-returns-3 Inv-loop μ-loop
 returns-3 c = c .tenth .ensures ∙ gather-tenth _ (c .before .before .loop .inv) (c .before .loop-test .left)
 
 pub later-spec : {M : Type 1} → statement M
-later-spec =
-    tie.close
-    (tie.spec
-    Inv-loop
-    μ-loop
-    loop-holds
-    returns
-    shared-slice-read-wide
-    wide-requires
-    sub-last
-    last-requires
-    returns-2
-    mul-value
-    add-value
-    mul-scale
-    add-at
-    sub-more
-    loop-less
-    loop-again
-    tenth-requires
-    returns-3)
+later-spec = tie.close (tie.spec
+    Inv-loop μ-loop loop-holds returns (λ c. omega arith) (λ c κs. search needs) (λ c. omega arith) last-requires
+    returns-2 mul-value add-value mul-scale (λ c. omega arith) (λ c. omega arith) (λ c. omega arith) loop-again
+    tenth-requires returns-3)

@@ -6,21 +6,12 @@ use Rattle.numbers.proofs.Gathered.{number-one, number-more}
 use Rattle.numbers.proofs.reader.number_at.Statement.{statement}
 use Rattle.numbers.proofs.reader.number_at.Tie as tie
 
-shared-slice-read-wide : tie.Need-shared-slice-read-wide
-shared-slice-read-wide c = search needs
-
-wide-requires : tie.Need-wide-requires
-wide-requires c κs = search needs
-
 returns : tie.Need-returns
 returns c =
     let w = c .before in
     let a = w .before .before .before in
     let b = w .wide .ensures in
     rw b (sym (number-one _ _ (a .pre) (subst (λ (n : ℕ). n < 128) b (c .if1 .taken))))
-
-add-later : tie.Need-add-later
-add-later c = search needs
 
 later-requires : tie.Need-later-requires
 later-requires c κs =
@@ -36,6 +27,5 @@ returns-2 c =
     c .later .ensures ∙ rw b (sym (number-more _ _ (a .pre) (subst (λ (n : ℕ). 128 ≤ n) b (c .before .if1 .left))))
 
 pub number-at-spec : {M : Type 1} → statement M
-number-at-spec =
-    tie.close
-    (tie.spec shared-slice-read-wide wide-requires returns add-later later-requires returns-2)
+number-at-spec = tie.close (tie.spec
+    (λ c. search needs) (λ c κs. search needs) returns (λ c. search needs) later-requires returns-2)

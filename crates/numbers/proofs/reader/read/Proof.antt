@@ -30,28 +30,10 @@ number-is c = sym (c .before .before .number-at .ensures) ∙ c .n .given .1
 loop-holds : tie.Need-loop-holds Inv-loop μ-loop
 loop-holds c = storing _ _
 
-same-length : tie.Need-same-length Inv-loop μ-loop
-same-length c = c .before .before .loop .inv .whole
-
 returns : tie.Need-returns Inv-loop μ-loop
 returns c =
     let s = store-full (c .before .before .loop .inv) (c .before .loop-test .taken) (c .if1 .taken) in
     (s .told, s .stored)
-
-number-at-requires : tie.Need-number-at-requires Inv-loop μ-loop
-number-at-requires c κs = search needs
-
-enum-known-n : tie.Need-enum-known-n Inv-loop μ-loop
-enum-known-n c = search needs
-
-signed-requires : tie.Need-signed-requires Inv-loop μ-loop
-signed-requires c κs = search needs
-
-mul-t12 : tie.Need-mul-t12 Inv-loop μ-loop
-mul-t12 c = search needs
-
-slice-set-from-list : tie.Need-slice-set-from-list Inv-loop μ-loop
-slice-set-from-list c = search needs
 
 add-count : tie.Need-add-count Inv-loop μ-loop
 add-count c =
@@ -81,9 +63,6 @@ loop-again c =
     let v : toZ w64 (ofZ w64 (c .signed .result)) ≡ signedOf (n .n .given .0 .0) = toZ-ofZ {w = w64} (record { sfits = c .signed .ok }) ∙ c .signed .ensures in
     rw v (store-turn (i .before .loop .inv) (i .loop-test .taken) (e .if1 .left) (number-is n))
 
-enum-known-n-2 : tie.Need-enum-known-n-2 Inv-loop μ-loop
-enum-known-n-2 c = search needs
-
 same-length-2 : tie.Need-same-length-2 Inv-loop μ-loop
 same-length-2 c = c .before .before .before .before .before .before .loop .inv .whole
 
@@ -96,34 +75,13 @@ returns-2 c =
     let s = store-no (i .before .loop .inv) (i .loop-test .taken) (e .if1 .left) (sym (k .number-at .ensures) ∙ n .n2 .given .1) in
     (s .told, s .stored)
 
-same-length-3 : tie.Need-same-length-3 Inv-loop μ-loop
-same-length-3 c = c .before .loop .inv .whole
-
 returns-3 : tie.Need-returns-3 Inv-loop μ-loop
 returns-3 c =
     let s = store-end (c .before .loop .inv) (c .loop-test .left) in
     (s .told, s .stored)
 
 pub read-spec : {M : Type 1} → statement M
-read-spec =
-    tie.close
-    (tie.spec
-    Inv-loop
-    μ-loop
-    loop-holds
-    same-length
-    returns
-    number-at-requires
-    enum-known-n
-    signed-requires
-    mul-t12
-    slice-set-from-list
-    add-count
-    add-at
-    loop-less
-    loop-again
-    enum-known-n-2
-    same-length-2
-    returns-2
-    same-length-3
-    returns-3)
+read-spec = tie.close (tie.spec
+    Inv-loop μ-loop loop-holds (λ c. c .before .before .loop .inv .whole) returns (λ c κs. search needs)
+    (λ c. search needs) (λ c κs. search needs) (λ c. search needs) (λ c. search needs) add-count add-at loop-less
+    loop-again (λ c. search needs) same-length-2 returns-2 (λ c. c .before .loop .inv .whole) returns-3)

@@ -9,15 +9,6 @@ use Rattle.numbers.proofs.reader.tenth.Tie as tie
 returns : tie.Need-returns
 returns c = sym (ap (shifted _ (2 ^ 63) 9) (later-none 0 _ _ (c .if1 .taken)))
 
-shared-slice-read-wide : tie.Need-shared-slice-read-wide
-shared-slice-read-wide c = search needs
-
-wide-requires : tie.Need-wide-requires
-wide-requires c κs = search needs
-
-add-t10 : tie.Need-add-t10
-add-t10 c = search needs
-
 returns-2 : tie.Need-returns-2
 returns-2 c =
     let w = c .before in
@@ -31,5 +22,5 @@ returns-3 c =
     sym (ap (shifted _ (2 ^ 63) 9) (tenth-other _ _ (e .if1 .left) (λ o. c .if2 .left (w .wide .ensures ∙ o))))
 
 pub tenth-spec : {M : Type 1} → statement M
-tenth-spec =
-    tie.close (tie.spec returns shared-slice-read-wide wide-requires add-t10 returns-2 returns-3)
+tenth-spec = tie.close (tie.spec
+    returns (λ c. search needs) (λ c κs. search needs) (λ c. search needs) returns-2 returns-3)

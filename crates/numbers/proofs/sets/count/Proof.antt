@@ -10,9 +10,6 @@ use Rattle.numbers.proofs.sets.count.Tie as tie
 items : (c : tie.After-index) → c .index .result ≡ posPart (c .before .args .set)
 items c = simp (toZ-ofZ (c .before .fits .set)) at (c .index .ensures)
 
-index-requires : tie.Need-index-requires
-index-requires c κs = search needs
-
 cast-result : tie.Need-cast-result
 cast-result c = record { fits = omega (arith, ones-le 64 (c .index .result) (search needs)) }
 
@@ -20,4 +17,4 @@ returns : tie.Need-returns
 returns c = rw (items c)
 
 pub count-spec : {M : Type 1} → statement M
-count-spec = tie.close (tie.spec index-requires cast-result returns)
+count-spec = tie.close (tie.spec (λ c κs. search needs) cast-result returns)

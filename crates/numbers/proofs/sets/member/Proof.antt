@@ -17,12 +17,6 @@ use Rattle.numbers.proofs.sets.member.Tie as tie
 below : {z : ℤ} → SFits w64 z → posPart z < 2 ^ 64
 below f = omega (arith, range f)
 
-index-requires : tie.Need-index-requires
-index-requires c κs = search needs
-
-shr-bit : tie.Need-shr-bit
-shr-bit c = search needs
-
 returns : tie.Need-returns
 returns c =
     let s = c .before .before in
@@ -33,4 +27,4 @@ returns-2 : tie.Need-returns-2
 returns-2 c = rw (bit-high 64 (posPart (c .before .args .set)) (c .before .args .i) (below (c .before .fits .set)) (c .if1 .left))
 
 pub member-spec : {M : Type 1} → statement M
-member-spec = tie.close (tie.spec index-requires shr-bit returns returns-2)
+member-spec = tie.close (tie.spec (λ c κs. search needs) (λ c. search needs) returns returns-2)

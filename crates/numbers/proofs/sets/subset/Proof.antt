@@ -5,12 +5,6 @@ use Rattle.numbers.specs.law.Signed.{posPart}
 use Rattle.numbers.proofs.sets.subset.Statement.{statement}
 use Rattle.numbers.proofs.sets.subset.Tie as tie
 
-index-requires : tie.Need-index-requires
-index-requires c κs = search needs
-
-index-requires-2 : tie.Need-index-requires-2
-index-requires-2 c κs = search needs
-
 returns : tie.Need-returns
 returns c =
     let s = c .before .before in
@@ -19,4 +13,4 @@ returns c =
     rw (a, b)
 
 pub subset-spec : {M : Type 1} → statement M
-subset-spec = tie.close (tie.spec index-requires index-requires-2 returns)
+subset-spec = tie.close (tie.spec (λ c κs. search needs) (λ c κs. search needs) returns)

@@ -17,12 +17,6 @@ abbrev μ-loop : tie.MeasureT-loop
 loop-holds : tie.Need-loop-holds Inv-loop μ-loop
 loop-holds c = placing _ _ _ (search needs)
 
-add-bytes : tie.Need-add-bytes Inv-loop μ-loop
-add-bytes c = search needs
-
-cast-bytes : tie.Need-cast-bytes Inv-loop μ-loop
-cast-bytes c = search needs
-
 slice-write-bytes : tie.Need-slice-write-bytes Inv-loop μ-loop
 slice-write-bytes c = place-free (c .before .loop .inv) (c .before .before .pre)
 
@@ -32,14 +26,8 @@ add-i c =
     let f = place-free l (c .before .before .pre) in
     omega (arith, l .whole)
 
-loop-less : tie.Need-loop-less Inv-loop μ-loop
-loop-less c = omega arith
-
 loop-again : tie.Need-loop-again Inv-loop μ-loop
 loop-again c = place-turn (c .before .loop .inv) (c .loop-test .taken)
-
-cast-bytes-2 : tie.Need-cast-bytes-2 Inv-loop μ-loop
-cast-bytes-2 c = search needs
 
 slice-write-bytes-2 : tie.Need-slice-write-bytes-2 Inv-loop μ-loop
 slice-write-bytes-2 c = place-free (c .before .loop .inv) (c .before .before .pre)
@@ -60,20 +48,6 @@ returns c =
     (p .1, rw e (p .0))
 
 pub put-spec : {M : Type 1} → statement M
-put-spec =
-    tie.close
-    (tie.spec
-    Inv-loop
-    μ-loop
-    loop-holds
-    add-bytes
-    cast-bytes
-    slice-write-bytes
-    add-i
-    loop-less
-    loop-again
-    cast-bytes-2
-    slice-write-bytes-2
-    add-result
-    same-length
-    returns)
+put-spec = tie.close (tie.spec
+    Inv-loop μ-loop loop-holds (λ c. search needs) (λ c. search needs) slice-write-bytes add-i (λ c. omega arith)
+    loop-again (λ c. search needs) slice-write-bytes-2 add-result same-length returns)

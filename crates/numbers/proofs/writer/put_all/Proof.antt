@@ -31,25 +31,10 @@ groups-are c =
 loop-holds : tie.Need-loop-holds Inv-loop μ-loop
 loop-holds c = filling _ _
 
-mul-unsigned : tie.Need-mul-unsigned Inv-loop μ-loop
-mul-unsigned c = search needs
-
-shared-slice-copy-out-unsigned : tie.Need-shared-slice-copy-out-unsigned Inv-loop μ-loop
-shared-slice-copy-out-unsigned c = search needs
-
-unsigned-requires : tie.Need-unsigned-requires Inv-loop μ-loop
-unsigned-requires c κs = search needs
-
 put-requires : tie.Need-put-requires Inv-loop μ-loop
 put-requires c κs =
     let l = c .before .before .before in
     rw (groups-are c) (fill-room (l .before .loop .inv) (l .loop-test .taken) (l .before .before .before .pre))
-
-add-i : tie.Need-add-i Inv-loop μ-loop
-add-i c = omega arith
-
-loop-less : tie.Need-loop-less Inv-loop μ-loop
-loop-less c = omega arith
 
 loop-again : tie.Need-loop-again Inv-loop μ-loop
 loop-again c =
@@ -58,25 +43,10 @@ loop-again c =
     let g = groups-are (p .before) in
     fill-turn (l .before .loop .inv) (l .loop-test .taken) (simp g at (p .put .ensures .1)) (simp g at (p .put .ensures .0))
 
-same-length : tie.Need-same-length Inv-loop μ-loop
-same-length c = c .before .loop .inv .whole
-
 returns : tie.Need-returns Inv-loop μ-loop
 returns c = fill-end (c .before .loop .inv) (c .loop-test .left)
 
 pub put-all-spec : {M : Type 1} → statement M
-put-all-spec =
-    tie.close
-    (tie.spec
-    Inv-loop
-    μ-loop
-    loop-holds
-    mul-unsigned
-    shared-slice-copy-out-unsigned
-    unsigned-requires
-    put-requires
-    add-i
-    loop-less
-    loop-again
-    same-length
-    returns)
+put-all-spec = tie.close (tie.spec
+    Inv-loop μ-loop loop-holds (λ c. search needs) (λ c. search needs) (λ c κs. search needs) put-requires
+    (λ c. omega arith) (λ c. omega arith) loop-again (λ c. c .before .loop .inv .whole) returns)

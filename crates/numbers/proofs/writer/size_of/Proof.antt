@@ -31,21 +31,6 @@ width-is c =
 loop-holds : tie.Need-loop-holds Inv-loop μ-loop
 loop-holds c = sizing _ _
 
-mul-unsigned : tie.Need-mul-unsigned Inv-loop μ-loop
-mul-unsigned c = search needs
-
-shared-slice-copy-out-unsigned : tie.Need-shared-slice-copy-out-unsigned Inv-loop μ-loop
-shared-slice-copy-out-unsigned c = search needs
-
-unsigned-requires : tie.Need-unsigned-requires Inv-loop μ-loop
-unsigned-requires c κs = search needs
-
-width-requires : tie.Need-width-requires Inv-loop μ-loop
-width-requires c κs = search needs
-
-sub-if1 : tie.Need-sub-if1 Inv-loop μ-loop
-sub-if1 c = c .before .before .before .before .loop .inv .held
-
 returns : tie.Need-returns Inv-loop μ-loop
 returns c =
     let w = c .before in
@@ -54,12 +39,6 @@ returns c =
 
 add-total : tie.Need-add-total Inv-loop μ-loop
 add-total c = omega (arith, c .if1 .left, c .before .before .before .before .before .loop .inv .held)
-
-add-i : tie.Need-add-i Inv-loop μ-loop
-add-i c = omega arith
-
-loop-less : tie.Need-loop-less Inv-loop μ-loop
-loop-less c = omega arith
 
 loop-again : tie.Need-loop-again Inv-loop μ-loop
 loop-again c =
@@ -71,20 +50,7 @@ returns-2 : tie.Need-returns-2 Inv-loop μ-loop
 returns-2 c = size-end (c .before .loop .inv) (c .loop-test .left)
 
 pub size-of-spec : {M : Type 1} → statement M
-size-of-spec =
-    tie.close
-    (tie.spec
-    Inv-loop
-    μ-loop
-    loop-holds
-    mul-unsigned
-    shared-slice-copy-out-unsigned
-    unsigned-requires
-    width-requires
-    sub-if1
-    returns
-    add-total
-    add-i
-    loop-less
-    loop-again
-    returns-2)
+size-of-spec = tie.close (tie.spec
+    Inv-loop μ-loop loop-holds (λ c. search needs) (λ c. search needs) (λ c κs. search needs) (λ c κs. search needs)
+    (λ c. c .before .before .before .before .loop .inv .held) returns add-total (λ c. omega arith) (λ c. omega arith)
+    loop-again returns-2)

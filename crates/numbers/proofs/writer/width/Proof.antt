@@ -16,11 +16,8 @@ returns c = sym (ap length (one-group 9 (c .before .args .m) (c .if1 .taken)))
 cast-above : tie.Need-cast-above
 cast-above c = record { fits = omega (arith, leading-le 64 (c .before .args .m)) }
 
-sub-result : tie.Need-sub-result
-sub-result c = omega (arith, leading-le 64 (c .before .args .m))
-
 returns-2 : tie.Need-returns-2
 returns-2 c = width-is (c .before .args .m) _ (c .if1 .left) (search needs) refl
 
 pub width-spec : {M : Type 1} → statement M
-width-spec = tie.close (tie.spec returns cast-above sub-result returns-2)
+width-spec = tie.close (tie.spec returns cast-above (λ c. omega (arith, leading-le 64 (c .before .args .m))) returns-2)

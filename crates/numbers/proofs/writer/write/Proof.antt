@@ -6,12 +6,6 @@ use Rattle.numbers.proofs.Listed.{fitting, too-long, told-fits, written
 use Rattle.numbers.proofs.writer.write.Statement.{statement}
 use Rattle.numbers.proofs.writer.write.Tie as tie
 
-size-of-requires : tie.Need-size-of-requires
-size-of-requires c κs = search needs
-
-enum-known-s : tie.Need-enum-known-s
-enum-known-s c = search needs
-
 put-all-requires : tie.Need-put-all-requires
 put-all-requires c κs =
     let s = c .before .before in
@@ -20,9 +14,6 @@ put-all-requires c κs =
 
 enum-told : tie.Need-enum-told
 enum-told c = search needs
-
-same-length : tie.Need-same-length
-same-length c = search needs
 
 returns : tie.Need-returns
 returns c =
@@ -43,13 +34,5 @@ returns-2 c =
     (told-over list bytes h, written-over list bytes h)
 
 pub write-spec : {M : Type 1} → statement M
-write-spec =
-    tie.close
-    (tie.spec
-    size-of-requires
-    enum-known-s
-    put-all-requires
-    enum-told
-    same-length
-    returns
-    returns-2)
+write-spec = tie.close (tie.spec
+    (λ c κs. search needs) (λ c. search needs) put-all-requires enum-told (λ c. search needs) returns returns-2)

@@ -9,9 +9,6 @@ use Rattle.numbers.specs.inside.SignedLocals.{kept}
 use Rattle.plan.proofs.accepted.arc.Statement.{statement}
 use Rattle.plan.proofs.accepted.arc.Tie as tie
 
-arc-at-requires : tie.Need-arc-at-requires
-arc-at-requires c κs = search needs
-
 count-requires : tie.Need-count-requires
 count-requires c κs = let r = c in omega (arith, r .arc-at .ensures, arc-there (r .before .pre .0) (r .before .args .e) (r .before .pre .1))
 
@@ -37,12 +34,5 @@ returns c =
     rw (k0, k1, k2, k3)
 
 pub arc-spec : {M : Type 1} → statement M
-arc-spec =
-    tie.close
-    (tie.spec
-    arc-at-requires
-    count-requires
-    count-requires-2
-    count-requires-3
-    number-requires
-    returns)
+arc-spec = tie.close (tie.spec
+    (λ c κs. search needs) count-requires count-requires-2 count-requires-3 number-requires returns)

@@ -13,12 +13,6 @@ nodes-are c = c .count .ensures
 first-is : (c : tie.After-node-at) → c .node-at .result ≡ nodeAt (now (c .before .before .args .case)) (nodesOf (now (c .before .before .args .case)))
 first-is c = c .node-at .ensures ∙ ap (nodeAt (now (c .before .before .args .case))) (nodes-are (c .before))
 
-count-requires : tie.Need-count-requires
-count-requires c κs = omega (arith, head-there (c .pre .0))
-
-node-at-requires : tie.Need-node-at-requires
-node-at-requires c κs = (c .before .pre .0, omega (arith, nodes-are c))
-
 mul-result : tie.Need-mul-result
 mul-result c = let s = c .before .before in omega (arith, s .pre .1, counted (s .pre .0) .arcs)
 
@@ -34,11 +28,6 @@ unfolding arcAt
 returns c = rw (first-is c)
 
 pub arc-at-spec : {M : Type 1} → statement M
-arc-at-spec =
-    tie.close
-    (tie.spec
-    count-requires
-    node-at-requires
-    mul-result
-    add-result
-    returns)
+arc-at-spec = tie.close (tie.spec
+    (λ c κs. omega (arith, head-there (c .pre .0))) (λ c κs. (c .before .pre .0, omega (arith, nodes-are c))) mul-result
+    add-result returns)

@@ -6,9 +6,6 @@ use Rattle.numbers.specs.inside.SignedLocals.{kept}
 use Rattle.plan.proofs.accepted.artificial.Statement.{statement}
 use Rattle.plan.proofs.accepted.artificial.Tie as tie
 
-arc-at-requires : tie.Need-arc-at-requires
-arc-at-requires c κs = search needs
-
 count-requires : tie.Need-count-requires
 count-requires c κs = let r = c in omega (arith, r .arc-at .ensures, arc-there (r .before .pre .0) (r .before .args .e) (r .before .pre .1))
 
@@ -43,15 +40,6 @@ returns c =
     rw (k0, k1, k2, k3, k4, k5, k6)
 
 pub artificial-spec : {M : Type 1} → statement M
-artificial-spec =
-    tie.close
-    (tie.spec
-    arc-at-requires
-    count-requires
-    count-requires-2
-    count-requires-3
-    count-requires-4
-    number-requires
-    count-requires-5
-    number-requires-2
-    returns)
+artificial-spec = tie.close (tie.spec
+    (λ c κs. search needs) count-requires count-requires-2 count-requires-3 count-requires-4 number-requires
+    count-requires-5 number-requires-2 returns)

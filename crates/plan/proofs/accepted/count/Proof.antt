@@ -5,14 +5,8 @@ use Rattle.numbers.specs.inside.SignedLocals.{kept}
 use Rattle.plan.proofs.accepted.count.Statement.{statement}
 use Rattle.plan.proofs.accepted.count.Tie as tie
 
-number-requires : tie.Need-number-requires
-number-requires c κs = search needs
-
-index-requires : tie.Need-index-requires
-index-requires c κs = search needs
-
 returns : tie.Need-returns
 returns c = c .index .ensures ∙ ap posPart (kept _ (c .before .number .ok) ∙ c .before .number .ensures)
 
 pub count-spec : {M : Type 1} → statement M
-count-spec = tie.close (tie.spec number-requires index-requires returns)
+count-spec = tie.close (tie.spec (λ c κs. search needs) (λ c κs. search needs) returns)

@@ -8,9 +8,6 @@ use Rattle.numbers.specs.inside.SignedLocals.{kept}
 use Rattle.plan.proofs.accepted.node.Statement.{statement}
 use Rattle.plan.proofs.accepted.node.Tie as tie
 
-node-at-requires : tie.Need-node-at-requires
-node-at-requires c κs = (c .pre .0, omega (arith, c .pre .1))
-
 count-requires : tie.Need-count-requires
 count-requires c κs = let r = c in let s = r .before in omega (arith, r .node-at .ensures, node-there (s .pre .0) (s .args .v) (s .pre .1) (s .args .i) (s .pre .2))
 
@@ -52,16 +49,6 @@ returns c =
     rw (k0, k1, k2, k3, k4, k5, k6)
 
 pub node-spec : {M : Type 1} → statement M
-node-spec =
-    tie.close
-    (tie.spec
-    node-at-requires
-    count-requires
-    number-requires
-    number-requires-2
-    number-requires-3
-    number-requires-4
-    number-requires-5
-    add-number
-    number-requires-6
-    returns)
+node-spec = tie.close (tie.spec
+    (λ c κs. (c .pre .0, omega (arith, c .pre .1))) count-requires number-requires number-requires-2 number-requires-3
+    number-requires-4 number-requires-5 add-number number-requires-6 returns)

@@ -16,17 +16,11 @@ offsets c =
     let k : c .count .result ≡ stepsOf (now (s .args .case)) = c .count .ensures in
     mul-le-mul {n₂ = 60} {m₂ = 54} (omega (arith, s .pre .1, n .nodes)) (omega (arith, k, n .steps))
 
-count-requires : tie.Need-count-requires
-count-requires c κs = omega (arith, head-there (c .pre .0))
-
 add-result : tie.Need-add-result
 add-result c = let k : c .count .result ≡ stepsOf (now (c .before .args .case)) = c .count .ensures in omega (arith, k, counted (c .before .pre .0) .steps)
 
 add-result-2 : tie.Need-add-result-2
 add-result-2 c = let k : c .count .result ≡ stepsOf (now (c .before .args .case)) = c .count .ensures in omega (arith, k, counted (c .before .pre .0) .steps)
-
-mul-result : tie.Need-mul-result
-mul-result c = omega (arith, offsets c)
 
 add-result-3 : tie.Need-add-result-3
 add-result-3 c = let k : c .count .result ≡ stepsOf (now (c .before .args .case)) = c .count .ensures in omega (arith, k, counted (c .before .pre .0) .steps, offsets c)
@@ -36,12 +30,6 @@ unfolding nodeAt
 returns c = rw (c .count .ensures)
 
 pub node-at-spec : {M : Type 1} → statement M
-node-at-spec =
-    tie.close
-    (tie.spec
-    count-requires
-    add-result
-    add-result-2
-    mul-result
-    add-result-3
+node-at-spec = tie.close (tie.spec
+    (λ c κs. omega (arith, head-there (c .pre .0))) add-result add-result-2 (λ c. omega (arith, offsets c)) add-result-3
     returns)

@@ -10,12 +10,6 @@ use Rattle.plan.specs.inside.StationPass.{ownStation}
 use Rattle.plan.proofs.accepted.own_station.Statement.{statement}
 use Rattle.plan.proofs.accepted.own_station.Tie as tie
 
-arc-requires : tie.Need-arc-requires
-arc-requires c κs = search needs
-
-artificial-requires : tie.Need-artificial-requires
-artificial-requires c κs = search needs
-
 returns : tie.Need-returns
 unfolding ownStation
 returns c =
@@ -32,4 +26,4 @@ returns-2 c =
     rw k refl
 
 pub own-station-spec : {M : Type 1} → statement M
-own-station-spec = tie.close (tie.spec arc-requires artificial-requires returns returns-2)
+own-station-spec = tie.close (tie.spec (λ c κs. search needs) (λ c κs. search needs) returns returns-2)

@@ -6,9 +6,6 @@ use Rattle.numbers.specs.inside.SignedLocals.{kept}
 use Rattle.plan.proofs.accepted.pipe.Statement.{statement}
 use Rattle.plan.proofs.accepted.pipe.Tie as tie
 
-arc-at-requires : tie.Need-arc-at-requires
-arc-at-requires c κs = search needs
-
 number-requires : tie.Need-number-requires
 number-requires c κs = let r = c in omega (arith, r .arc-at .ensures, arc-there (r .before .pre .0) (r .before .args .e) (r .before .pre .1))
 
@@ -31,12 +28,5 @@ returns c =
     rw (k0, k1, k2, k3)
 
 pub pipe-spec : {M : Type 1} → statement M
-pipe-spec =
-    tie.close
-    (tie.spec
-    arc-at-requires
-    number-requires
-    number-requires-2
-    number-requires-3
-    number-requires-4
-    returns)
+pipe-spec = tie.close (tie.spec
+    (λ c κs. search needs) number-requires number-requires-2 number-requires-3 number-requires-4 returns)

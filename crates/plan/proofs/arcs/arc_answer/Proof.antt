@@ -12,12 +12,6 @@ use Rattle.plan.proofs.arcs.arc_answer.Tie as tie
 flow-answer-requires : tie.Need-flow-answer-requires
 flow-answer-requires c κs = let a = c .before .pre .0 in (a .at .accepted, omega (arith, a .at .step, counted (a .at .accepted) .steps), a .arc)
 
-pressure-answer-requires : tie.Need-pressure-answer-requires
-pressure-answer-requires c κs = search needs
-
-or-else-requires : tie.Need-or-else-requires
-or-else-requires c κs = search needs
-
 enum-told : tie.Need-enum-told
 enum-told c = search needs
 
@@ -39,9 +33,6 @@ pipe-answer-requires c κs =
       pressures = a .pressures;
       flows = arc-sized case (numberAt (now (s .args .old))) rows i (a .at .accepted) e (a .arc) y;
     }
-
-enum-told-2 : tie.Need-enum-told-2
-enum-told-2 c = search needs
 
 returns : tie.Need-returns
 unfolding arcQuestions
@@ -66,14 +57,6 @@ returns-2 c =
     stopped (flowQuestions case rows i e) (pressureQuestions case rows i e) (pipeQuestions case (numberAt (now (s .args .old))) rows i e) (o .before .before .flow-answer .ensures) (o .before .pressure-answer .ensures) (o .or-else .ensures) (c .enum-told2 .given .1)
 
 pub arc-answer-spec : {M : Type 1} → statement M
-arc-answer-spec =
-    tie.close
-    (tie.spec
-    flow-answer-requires
-    pressure-answer-requires
-    or-else-requires
-    enum-told
-    pipe-answer-requires
-    enum-told-2
-    returns
-    returns-2)
+arc-answer-spec = tie.close (tie.spec
+    flow-answer-requires (λ c κs. search needs) (λ c κs. search needs) enum-told pipe-answer-requires
+    (λ c. search needs) returns returns-2)

@@ -23,9 +23,6 @@ loop-holds c =
     let e : c .before .args .layout .arcs - 0 ≡ arcsOf (now (c .before .args .case)) = omega (arith, c .before .pre .0 .laid .arcs) in
     (omega arith, rw e)
 
-slice-aggregate-arc-answer : tie.Need-slice-aggregate-arc-answer Inv-loop μ-loop
-slice-aggregate-arc-answer c = search needs
-
 arc-answer-requires : tie.Need-arc-answer-requires Inv-loop μ-loop
 arc-answer-requires c κs =
     let s = c .before .before .before .before in
@@ -35,9 +32,6 @@ arc-answer-requires c κs =
 enum-told : tie.Need-enum-told Inv-loop μ-loop
 enum-told c = search needs
 
-enum-told-2 : tie.Need-enum-told-2 Inv-loop μ-loop
-enum-told-2 c = search needs
-
 returns : tie.Need-returns Inv-loop μ-loop
 returns c =
     let h = c .before .before .before .before .before in
@@ -46,9 +40,6 @@ returns c =
 
 add-e : tie.Need-add-e Inv-loop μ-loop
 add-e c = let s = c .before .before .before .before .before .before .before in omega (arith, s .pre .0 .laid .arcs, counted (s .pre .0 .accepted) .arcs)
-
-loop-less : tie.Need-loop-less Inv-loop μ-loop
-loop-less c = omega arith
 
 loop-again : tie.Need-loop-again Inv-loop μ-loop
 loop-again c =
@@ -63,18 +54,6 @@ returns-2 c =
     sym (rest-end (arcQuestions (now (s .args .case)) (numberAt (now (s .args .old))) (now (s .args .rows)) (s .args .i)) (h .loop .e) (s .args .layout .arcs) (h .loop .inv .1) (c .loop-test .left))
 
 pub arc-answers-spec : {M : Type 1} → statement M
-arc-answers-spec =
-    tie.close
-    (tie.spec
-    Inv-loop
-    μ-loop
-    loop-holds
-    slice-aggregate-arc-answer
-    arc-answer-requires
-    enum-told
-    enum-told-2
-    returns
-    add-e
-    loop-less
-    loop-again
-    returns-2)
+arc-answers-spec = tie.close (tie.spec
+    Inv-loop μ-loop loop-holds (λ c. search needs) arc-answer-requires enum-told (λ c. search needs) returns add-e
+    (λ c. omega arith) loop-again returns-2)

@@ -55,9 +55,6 @@ at-node c =
       is = (read (n .net-flows .ensures .each (h .loop .v) p) (net-sized (s .pre .1) (s .pre .0 .accepted) (h .loop .v)) tt) .val;
     }
 
-at-requires : tie.Need-at-requires Inv-loop μ-loop
-at-requires c κs = search needs
-
 net-flows-requires : tie.Need-net-flows-requires Inv-loop μ-loop
 net-flows-requires c κs = let s = c .before in (s .pre .0 .accepted, s .pre .0 .laid .arcs, s .pre .1)
 
@@ -74,17 +71,11 @@ mul-node-residual c = omega (arith, node-in c, counted (c .before .before .befor
 array-copy-out-node-residual : tie.Need-array-copy-out-node-residual Inv-loop μ-loop
 array-copy-out-node-residual c = omega (arith, node-in c, counted (c .before .before .before .before .pre .0 .accepted) .nodes)
 
-node-residual-requires : tie.Need-node-residual-requires Inv-loop μ-loop
-node-residual-requires c κs = at-node (c .before)
-
 small : (c : tie.After-node-residual Inv-loop μ-loop) → c .node-residual .result ≤ 415584000000000
 small c = rw (c .node-residual .ensures) (residual-sized (at-node (c .before .before)))
 
 cast-at-most : tie.Need-cast-at-most Inv-loop μ-loop
 cast-at-most c = record { sfits = omega (arith, small c) }
-
-at-most-requires : tie.Need-at-most-requires Inv-loop μ-loop
-at-most-requires c κs = search needs
 
 -- the node's question by the test
 question : (c : tie.After-at-most Inv-loop μ-loop) {w : Bool} → c .at-most .result ≡ w →
@@ -121,12 +112,6 @@ add-sum c =
     let l = mul-le-mul-right {m = h .loop .v} {n = 60} 415584000000000 (omega (arith, h .loop .inv .0, h .loop .inv .1 .at)) in
     omega (arith, h .loop .inv .1 .small, small d, l)
 
-add-v : tie.Need-add-v Inv-loop μ-loop
-add-v c = omega arith
-
-loop-less : tie.Need-loop-less Inv-loop μ-loop
-loop-less c = omega arith
-
 loop-again : tie.Need-loop-again Inv-loop μ-loop
 loop-again c =
     let b = c .before in
@@ -150,23 +135,7 @@ returns-2 c =
     ∙ ap (λ (x : Answer). steppedBy x (sumN (nodesOf (now (s .args .case))) f)) (sym (rest-end (balanceQuestions (now (s .args .case)) (now (s .args .rows)) (s .args .i)) (h .loop .v) (s .args .layout .nodes) (h .loop .inv .2) (c .loop-test .left)))
 
 pub balance-spec : {M : Type 1} → statement M
-balance-spec =
-    tie.close
-    (tie.spec
-    Inv-loop
-    μ-loop
-    at-requires
-    net-flows-requires
-    loop-holds
-    mul-node-residual
-    array-copy-out-node-residual
-    node-residual-requires
-    cast-at-most
-    at-most-requires
-    add-t18
-    returns
-    add-sum
-    add-v
-    loop-less
-    loop-again
-    returns-2)
+balance-spec = tie.close (tie.spec
+    Inv-loop μ-loop (λ c κs. search needs) net-flows-requires loop-holds mul-node-residual array-copy-out-node-residual
+    (λ c κs. at-node (c .before)) cast-at-most (λ c κs. search needs) add-t18 returns add-sum (λ c. omega arith)
+    (λ c. omega arith) loop-again returns-2)

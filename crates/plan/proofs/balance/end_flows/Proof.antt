@@ -23,12 +23,6 @@ a-is c = let s = c .before in read (ap (λ (r : ArcRow). r .a) (c .arc-row .ensu
 b-is : (c : tie.After-arc-row) → Held (toZ w64 (ofZ w64 (c .arc-row .result .b))) (arcRow (now (c .before .args .case)) (now (c .before .args .rows)) (c .before .args .e) .b) 10000000
 b-is c = let s = c .before in read (ap (λ (r : ArcRow). r .b) (c .arc-row .ensures)) (s .pre .2 .each (s .args .e) (s .pre .1) .b) tt
 
-arc-row-requires : tie.Need-arc-row-requires
-arc-row-requires c κs = (counted (c .pre .0), c .pre .1)
-
-arc-requires : tie.Need-arc-requires
-arc-requires c κs = search needs
-
 sub-flow : tie.Need-sub-flow
 sub-flow c = let r = c .before .before .before .before in held-fits (a-is r -ʳ b-is r) tt
 
@@ -52,4 +46,5 @@ returns-2 c =
     rw y (d, d)
 
 pub end-flows-spec : {M : Type 1} → statement M
-end-flows-spec = tie.close (tie.spec arc-row-requires arc-requires sub-flow returns returns-2)
+end-flows-spec = tie.close (tie.spec
+    (λ c κs. (counted (c .pre .0), c .pre .1)) (λ c κs. search needs) sub-flow returns returns-2)

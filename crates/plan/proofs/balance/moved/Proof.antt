@@ -45,39 +45,6 @@ enters s =
     read (half-is s (s .args .to)) (room (now (s .args .net)) (s .args .from) (s .args .to) (s .args .out) (s .pre .5 .each (s .args .to) (s .pre .1)) (s .pre .3)) tt
     -ʳ param (s .pre .4) tt
 
-mul-leaving : tie.Need-mul-leaving
-mul-leaving c = search needs
-
-slice-copy-out-leaving : tie.Need-slice-copy-out-leaving
-slice-copy-out-leaving c = search needs
-
-add-leaving : tie.Need-add-leaving
-add-leaving c = held-fits (leaves (c .before)) tt
-
-mul-leaving-2 : tie.Need-mul-leaving-2
-mul-leaving-2 c = search needs
-
-slice-set-from-leaving : tie.Need-slice-set-from-leaving
-slice-set-from-leaving c = search needs
-
-mul-entering : tie.Need-mul-entering
-mul-entering c = search needs
-
-slice-copy-out-entering : tie.Need-slice-copy-out-entering
-slice-copy-out-entering c = search needs
-
-sub-entering : tie.Need-sub-entering
-sub-entering c = held-fits (enters (c .before .before)) tt
-
-mul-entering-2 : tie.Need-mul-entering-2
-mul-entering-2 c = search needs
-
-slice-set-from-entering : tie.Need-slice-set-from-entering
-slice-set-from-entering c = search needs
-
-same-length : tie.Need-same-length
-same-length c = search needs
-
 returns : tie.Need-returns
 unfolding movedAt
 returns c =
@@ -88,18 +55,7 @@ returns c =
     (simp length-set (long s), record { each = λ i p. put-sub (half s) (s .args .to) z (s .args .into) l e i ∙ ap (λ (n : ℤ). n -ℤ only (eqb (s .args .to) i) (s .args .into)) (half-is s i) })
 
 pub moved-spec : {M : Type 1} → statement M
-moved-spec =
-    tie.close
-    (tie.spec
-    mul-leaving
-    slice-copy-out-leaving
-    add-leaving
-    mul-leaving-2
-    slice-set-from-leaving
-    mul-entering
-    slice-copy-out-entering
-    sub-entering
-    mul-entering-2
-    slice-set-from-entering
-    same-length
-    returns)
+moved-spec = tie.close (tie.spec
+    (λ c. search needs) (λ c. search needs) (λ c. held-fits (leaves (c .before)) tt) (λ c. search needs)
+    (λ c. search needs) (λ c. search needs) (λ c. search needs) (λ c. held-fits (enters (c .before .before)) tt)
+    (λ c. search needs) (λ c. search needs) (λ c. search needs) returns)

@@ -36,9 +36,6 @@ to-is c = let t = c .before .before in read (c .end-flows .ensures .1) (to-sized
 loop-holds : tie.Need-loop-holds Inv-loop μ-loop
 loop-holds c = (omega arith, gathers-none (nodePart (now (c .args .case)) (now (c .args .rows))), refl)
 
-arc-requires : tie.Need-arc-requires Inv-loop μ-loop
-arc-requires c κs = (c .before .before .pre .0, arc-in c)
-
 end-flows-requires : tie.Need-end-flows-requires Inv-loop μ-loop
 end-flows-requires c κs = let s = c .before .before .before in (s .pre .0, arc-in (c .before), s .pre .2)
 
@@ -65,12 +62,6 @@ moved-requires c κs =
       rw (to-is f .val) (record { bound = to-is f .bound }),
       gathers-sized (h .loop .inv .1) (omega (arith, h .loop .inv .0, s .pre .1, n .arcs)) (λ i k q. part-sized (s .pre .2) i k (omega (arith, q, p))),
     )
-
-add-e : tie.Need-add-e Inv-loop μ-loop
-add-e c = omega arith
-
-loop-less : tie.Need-loop-less Inv-loop μ-loop
-loop-less c = omega arith
 
 loop-again : tie.Need-loop-again Inv-loop μ-loop
 loop-again c =
@@ -99,17 +90,6 @@ returns c =
     record { each = λ i p. h .loop .inv .1 .each i (omega (arith, p, counted (s .pre .0) .nodes)) ∙ ap (λ (n : ℕ). sum n (nodePart l r i)) e ∙ net-flow l r i }
 
 pub net-flows-spec : {M : Type 1} → statement M
-net-flows-spec =
-    tie.close
-    (tie.spec
-    Inv-loop
-    μ-loop
-    loop-holds
-    arc-requires
-    end-flows-requires
-    slice-aggregate-moved
-    moved-requires
-    add-e
-    loop-less
-    loop-again
-    returns)
+net-flows-spec = tie.close (tie.spec
+    Inv-loop μ-loop loop-holds (λ c κs. (c .before .before .pre .0, arc-in c)) end-flows-requires slice-aggregate-moved
+    moved-requires (λ c. omega arith) (λ c. omega arith) loop-again returns)

@@ -29,17 +29,11 @@ left-is c =
     read (s .pre .is) (net-sized (s .pre .flows) (s .pre .accepted) (s .args .v)) tt
     -ʳ read (ap (λ (r : NodeRow). r .d) (c .node-row .ensures)) (s .pre .node-rows .each (s .args .v) (s .pre .node) .d) tt
 
-duration-requires : tie.Need-duration-requires
-duration-requires c κs = search needs
-
 size-requires : tie.Need-size-requires
 size-requires c κs = rw (time-is c .val) (omega (arith, time-is c .bound))
 
 node-row-requires : tie.Need-node-row-requires
 node-row-requires c κs = let s = c .before .before in omega (arith, s .pre .node, counted (s .pre .accepted) .nodes)
-
-sub-size : tie.Need-sub-size
-sub-size c = held-fits (left-is (c .before .before)) tt
 
 size-requires-2 : tie.Need-size-requires-2
 size-requires-2 c κs = let h = held (left-is (c .before .before)) tt in rw (h .val) (omega (arith, h .bound))
@@ -63,13 +57,6 @@ unfolding nodeResidual
 returns c = ap₂ _*_ (first-is (c .before .before .before .before)) (second-is c)
 
 pub node-residual-spec : {M : Type 1} → statement M
-node-residual-spec =
-    tie.close
-    (tie.spec
-    duration-requires
-    size-requires
-    node-row-requires
-    sub-size
-    size-requires-2
-    mul-result
-    returns)
+node-residual-spec = tie.close (tie.spec
+    (λ c κs. search needs) size-requires node-row-requires (λ c. held-fits (left-is (c .before .before)) tt)
+    size-requires-2 mul-result returns)

@@ -8,24 +8,6 @@ use Rattle.plan.specs.law.Setting.{settingOf}
 use Rattle.plan.proofs.flows.arc_numbers_kept.Statement.{statement}
 use Rattle.plan.proofs.flows.arc_numbers_kept.Tie as tie
 
-flows-kept-requires : tie.Need-flows-kept-requires
-flows-kept-requires c κs = search needs
-
-setting-of-requires : tie.Need-setting-of-requires
-setting-of-requires c κs = search needs
-
-setting-allowed-requires : tie.Need-setting-allowed-requires
-setting-allowed-requires c κs = search needs
-
-machines-within-requires : tie.Need-machines-within-requires
-machines-within-requires c κs = search needs
-
-both-requires : tie.Need-both-requires
-both-requires c κs = search needs
-
-both-requires-2 : tie.Need-both-requires-2
-both-requires-2 c κs = search needs
-
 returns : tie.Need-returns
 unfolding arcNumbersKept
 returns c =
@@ -36,13 +18,6 @@ returns c =
     c .both2 .ensures ∙ ap₂ _&&_ (c .before .before .before .before .before .before .before .before .flows-kept .ensures) (c .before .both .ensures ∙ ap₂ _&&_ w2 w3)
 
 pub arc-numbers-kept-spec : {M : Type 1} → statement M
-arc-numbers-kept-spec =
-    tie.close
-    (tie.spec
-    flows-kept-requires
-    setting-of-requires
-    setting-allowed-requires
-    machines-within-requires
-    both-requires
-    both-requires-2
-    returns)
+arc-numbers-kept-spec = tie.close (tie.spec
+    (λ c κs. search needs) (λ c κs. search needs) (λ c κs. search needs) (λ c κs. search needs) (λ c κs. search needs)
+    (λ c κs. search needs) returns)

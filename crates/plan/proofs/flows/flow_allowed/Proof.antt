@@ -13,12 +13,6 @@ use Rattle.plan.specs.declared.setting.Setting.{Setting}
 use Rattle.plan.proofs.flows.flow_allowed.Statement.{statement}
 use Rattle.plan.proofs.flows.flow_allowed.Tie as tie
 
-setting-of-requires : tie.Need-setting-of-requires
-setting-of-requires c κs = search needs
-
-no-flow-against-requires : tie.Need-no-flow-against-requires
-no-flow-against-requires c κs = search needs
-
 returns : tie.Need-returns
 unfolding flowAllowed
 returns c =
@@ -38,5 +32,4 @@ returns-2 c =
     rw e (c .no-flow-against .ensures ∙ ap (λ (x : Setting). noFlowAgainst (leb 3 k) x (s .args .r)) t)
 
 pub flow-allowed-spec : {M : Type 1} → statement M
-flow-allowed-spec =
-    tie.close (tie.spec setting-of-requires no-flow-against-requires returns returns-2)
+flow-allowed-spec = tie.close (tie.spec (λ c κs. search needs) (λ c κs. search needs) returns returns-2)

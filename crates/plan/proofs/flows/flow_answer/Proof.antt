@@ -19,35 +19,11 @@ three p q e = rw (p, q, e)
 
 -- [/pre]
 
-arc-requires : tie.Need-arc-requires
-arc-requires c κs = search needs
-
-artificial-requires : tie.Need-artificial-requires
-artificial-requires c κs = search needs
-
 arc-row-requires : tie.Need-arc-row-requires
 arc-row-requires c κs = let p = c .before .before .pre in (counted (p .0), p .2)
 
 arc-numbers-kept-requires : tie.Need-arc-numbers-kept-requires
 arc-numbers-kept-requires c κs = let p = c .before .before .before .pre in rw (c .before .before .arc .ensures) (qmax-sized (p .0) _ (p .2))
-
-add-ask : tie.Need-add-ask
-add-ask c = search needs
-
-ask-requires : tie.Need-ask-requires
-ask-requires c κs = search needs
-
-flow-allowed-requires : tie.Need-flow-allowed-requires
-flow-allowed-requires c κs = search needs
-
-add-ask-2 : tie.Need-add-ask-2
-add-ask-2 c = search needs
-
-ask-requires-2 : tie.Need-ask-requires-2
-ask-requires-2 c κs = search needs
-
-or-else-requires : tie.Need-or-else-requires
-or-else-requires c κs = search needs
 
 returns : tie.Need-returns
 unfolding flowQuestions
@@ -60,17 +36,7 @@ returns c =
     ∙ ap₂ orElse (c .before .before .before .ask .ensures ∙ ap (λ (b : Bool). answer b 24 (a .i + 1) (a .e)) k1) (c .before .ask2 .ensures ∙ ap (λ (b : Bool). answer b 25 (a .i + 1) (a .e)) k2))
 
 pub flow-answer-spec : {M : Type 1} → statement M
-flow-answer-spec =
-    tie.close
-    (tie.spec
-    arc-requires
-    artificial-requires
-    arc-row-requires
-    arc-numbers-kept-requires
-    add-ask
-    ask-requires
-    flow-allowed-requires
-    add-ask-2
-    ask-requires-2
-    or-else-requires
+flow-answer-spec = tie.close (tie.spec
+    (λ c κs. search needs) (λ c κs. search needs) arc-row-requires arc-numbers-kept-requires (λ c. search needs)
+    (λ c κs. search needs) (λ c κs. search needs) (λ c. search needs) (λ c κs. search needs) (λ c κs. search needs)
     returns)

@@ -15,17 +15,8 @@ ranges p q r s = rw (p, q, r, s)
 
 -- [/pre]
 
-both-within-requires : tie.Need-both-within-requires
-both-within-requires c κs = search needs
-
 sub-both-within : tie.Need-sub-both-within
 sub-both-within c = held-fits (literal (pos 0) -ʳ param (c .before .before .before .pre) tt) tt
-
-both-within-requires-2 : tie.Need-both-within-requires-2
-both-within-requires-2 c κs = search needs
-
-both-within-requires-3 : tie.Need-both-within-requires-3
-both-within-requires-3 c κs = search needs
 
 returns : tie.Need-returns
 unfolding flowsKept
@@ -52,13 +43,5 @@ returns-3 c =
     rw (ne-eqb _ _ (c .before .before .before .before .before .match .rest .0 .1), ne-eqb _ _ (c .before .before .before .before .before .match .rest .1)) (simp (kept (a .r .a) (t .0 .1), kept (a .r .b) (t .1 .0 .1), kept (a .c .qmax) (u .1 .1 .1 .0 .1)) at (c .both-within3 .ensures))
 
 pub flows-kept-spec : {M : Type 1} → statement M
-flows-kept-spec =
-    tie.close
-    (tie.spec
-    both-within-requires
-    sub-both-within
-    both-within-requires-2
-    both-within-requires-3
-    returns
-    returns-2
-    returns-3)
+flows-kept-spec = tie.close (tie.spec
+    (λ c κs. search needs) sub-both-within (λ c κs. search needs) (λ c κs. search needs) returns returns-2 returns-3)

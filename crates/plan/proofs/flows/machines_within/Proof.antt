@@ -12,18 +12,6 @@ use Rattle.numbers.specs.law.Sets.{subsetOf}
 use Rattle.plan.proofs.flows.machines_within.Statement.{statement}
 use Rattle.plan.proofs.flows.machines_within.Tie as tie
 
-same-requires : tie.Need-same-requires
-same-requires c κs = search needs
-
-at-most-requires : tie.Need-at-most-requires
-at-most-requires c κs = search needs
-
-subset-requires : tie.Need-subset-requires
-subset-requires c κs = search needs
-
-both-requires : tie.Need-both-requires
-both-requires c κs = search needs
-
 returns : tie.Need-returns
 unfolding machinesWithin
 returns c =
@@ -43,6 +31,5 @@ returns-2 c =
     rw (lt-leb _ _ k) (c .both .ensures ∙ ap₂ _&&_ w1 w2)
 
 pub machines-within-spec : {M : Type 1} → statement M
-machines-within-spec =
-    tie.close
-    (tie.spec same-requires at-most-requires subset-requires both-requires returns returns-2)
+machines-within-spec = tie.close (tie.spec
+    (λ c κs. search needs) (λ c κs. search needs) (λ c κs. search needs) (λ c κs. search needs) returns returns-2)

@@ -20,36 +20,6 @@ open-valve Backward mode r = refl
 
 -- [/pre]
 
-enum-told : tie.Need-enum-told
-enum-told c = search needs
-
-enum-told-2 : tie.Need-enum-told-2
-enum-told-2 c = search needs
-
-same-requires : tie.Need-same-requires
-same-requires c κs = search needs
-
-same-requires-2 : tie.Need-same-requires-2
-same-requires-2 c κs = search needs
-
-both-requires : tie.Need-both-requires
-both-requires c κs = search needs
-
-enum-known-s : tie.Need-enum-known-s
-enum-known-s c = search needs
-
-enum-told-3 : tie.Need-enum-told-3
-enum-told-3 c = search needs
-
-same-requires-3 : tie.Need-same-requires-3
-same-requires-3 c κs = search needs
-
-enum-told-4 : tie.Need-enum-told-4
-enum-told-4 c = search needs
-
-same-requires-4 : tie.Need-same-requires-4
-same-requires-4 c κs = search needs
-
 returns : tie.Need-returns
 returns c = search needs
 
@@ -71,21 +41,7 @@ returns-5 : tie.Need-returns-5
 returns-5 c = rw (c .before .before .s .given .1, c .if1 .left) (open-valve (c .before .before .s .given .0 .0) (c .before .before .s .given .0 .1 .0) (c .before .before .before .before .args .r))
 
 pub no-flow-against-spec : {M : Type 1} → statement M
-no-flow-against-spec =
-    tie.close
-    (tie.spec
-    enum-told
-    enum-told-2
-    same-requires
-    same-requires-2
-    both-requires
-    enum-known-s
-    enum-told-3
-    same-requires-3
-    enum-told-4
-    same-requires-4
-    returns
-    returns-2
-    returns-3
-    returns-4
-    returns-5)
+no-flow-against-spec = tie.close (tie.spec
+    (λ c. search needs) (λ c. search needs) (λ c κs. search needs) (λ c κs. search needs) (λ c κs. search needs)
+    (λ c. search needs) (λ c. search needs) (λ c κs. search needs) (λ c. search needs) (λ c κs. search needs) returns
+    returns-2 returns-3 returns-4 returns-5)

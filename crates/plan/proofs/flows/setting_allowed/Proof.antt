@@ -2,21 +2,6 @@ use borrow.Author.Needs.{needs}
 use Rattle.plan.proofs.flows.setting_allowed.Statement.{statement}
 use Rattle.plan.proofs.flows.setting_allowed.Tie as tie
 
-enum-told : tie.Need-enum-told
-enum-told c = search needs
-
-enum-told-2 : tie.Need-enum-told-2
-enum-told-2 c = search needs
-
-enum-known-s : tie.Need-enum-known-s
-enum-known-s c = search needs
-
-enum-told-3 : tie.Need-enum-told-3
-enum-told-3 c = search needs
-
-enum-told-4 : tie.Need-enum-told-4
-enum-told-4 c = search needs
-
 returns : tie.Need-returns
 returns c = search needs
 
@@ -30,15 +15,6 @@ returns-4 : tie.Need-returns-4
 returns-4 c = rw (c .before .before .before .s .given .1, c .enum-told4 .given .1)
 
 pub setting-allowed-spec : {M : Type 1} → statement M
-setting-allowed-spec =
-    tie.close
-    (tie.spec
-    enum-told
-    enum-told-2
-    enum-known-s
-    enum-told-3
-    enum-told-4
-    returns
-    returns-2
-    returns-3
-    returns-4)
+setting-allowed-spec = tie.close (tie.spec
+    (λ c. search needs) (λ c. search needs) (λ c. search needs) (λ c. search needs) (λ c. search needs) returns
+    returns-2 returns-3 returns-4)

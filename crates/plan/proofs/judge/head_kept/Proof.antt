@@ -54,20 +54,8 @@ second-is c =
     let k : toZ w64 (ofZ w64 (a .at2 .result)) ≡ numberAt (now (s .args .plan)) 1 = kept {z = a .at2 .result} (a .at2 .ok) ∙ a .at2 .ensures in
     simp (k, t) at (c .same2 .ensures)
 
-at-requires : tie.Need-at-requires
-at-requires c κs = search needs
-
-same-requires : tie.Need-same-requires
-same-requires c κs = search needs
-
-at-requires-2 : tie.Need-at-requires-2
-at-requires-2 c κs = search needs
-
 cast-same : tie.Need-cast-same
 cast-same c = let s = c .before .before .before .before .before in record { sfits = omega (arith, small (s .args .layout) (s .pre .0) (s .pre .1) .steps) }
-
-same-requires-2 : tie.Need-same-requires-2
-same-requires-2 c κs = search needs
 
 step-width-requires : tie.Need-step-width-requires
 step-width-requires c κs =
@@ -102,17 +90,6 @@ returns-3 : tie.Need-returns-3
 returns-3 c = head-first _ _ (first-is (c .before)) (c .if1 .left)
 
 pub head-kept-spec : {M : Type 1} → statement M
-head-kept-spec =
-    tie.close
-    (tie.spec
-    at-requires
-    same-requires
-    at-requires-2
-    cast-same
-    same-requires-2
-    step-width-requires
-    mul-result
-    add-result
-    returns
-    returns-2
-    returns-3)
+head-kept-spec = tie.close (tie.spec
+    (λ c κs. search needs) (λ c κs. search needs) (λ c κs. search needs) cast-same (λ c κs. search needs)
+    step-width-requires mul-result add-result returns returns-2 returns-3)

@@ -7,9 +7,6 @@ use Rattle.plan.specs.inside.VerdictLaws.{case-answer, judge-yes, judge-
 use Rattle.plan.proofs.judge.judge.Statement.{statement}
 use Rattle.plan.proofs.judge.judge.Tie as tie
 
-judge-and-lay-requires : tie.Need-judge-and-lay-requires
-judge-and-lay-requires c κs = search needs
-
 enum-told : tie.Need-enum-told
 enum-told c = search needs
 
@@ -18,9 +15,6 @@ judge-plan-requires c κs =
     let j = c .before .before in
     let k : AcceptedCase (now (j .before .args .case)) = record { yes = case-answer (now (j .before .args .case)) (j .judge-and-lay .result .answer) (j .judge-and-lay .ensures .told-is) ∙ c .enum-told .given .1 } in
     (k, j .judge-and-lay .ensures .passed (list-yes k))
-
-enum-known-a : tie.Need-enum-known-a
-enum-known-a c = search needs
 
 returns : tie.Need-returns
 returns c =
@@ -37,6 +31,5 @@ returns-2 c =
     (case-answer (now (j .before .args .case)) (j .judge-and-lay .result .answer) (j .judge-and-lay .ensures .told-is) ∙ a .a .given .1)
 
 pub judge-spec : {M : Type 1} → statement M
-judge-spec =
-    tie.close
-    (tie.spec judge-and-lay-requires enum-told judge-plan-requires enum-known-a returns returns-2)
+judge-spec = tie.close (tie.spec
+    (λ c κs. search needs) enum-told judge-plan-requires (λ c. search needs) returns returns-2)

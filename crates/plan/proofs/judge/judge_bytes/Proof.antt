@@ -26,29 +26,8 @@ within g =
     let h = count-within (now (s .args .casebytes)) (length (now (s .args .caselist))) (g .got .given .0 .0) (ap readingTold (sym (g .got .given .1)) ∙ d .read .ensures .0) in
     omega (arith, h, d .read .kept .1 .0)
 
-read-requires : tie.Need-read-requires
-read-requires c κs = search needs
-
-enum-known-got : tie.Need-enum-known-got
-enum-known-got c = search needs
-
-slice-reshare-prefix-judge-case-list : tie.Need-slice-reshare-prefix-judge-case-list
-slice-reshare-prefix-judge-case-list c = within (c .before)
-
 slice-aggregate-judge-case-list : tie.Need-slice-aggregate-judge-case-list
 slice-aggregate-judge-case-list c = sym (length-take-le _ _ (within (c .before .before)))
-
-judge-case-list-requires : tie.Need-judge-case-list-requires
-judge-case-list-requires c κs = search needs
-
-enum-known-got-2 : tie.Need-enum-known-got-2
-enum-known-got-2 c = search needs
-
-same-length : tie.Need-same-length
-same-length c = search needs
-
-same-length-2 : tie.Need-same-length-2
-same-length-2 c = search needs
 
 returns : tie.Need-returns
 returns c =
@@ -66,9 +45,6 @@ returns c =
       ),
     )
 
-same-length-3 : tie.Need-same-length-3
-same-length-3 c = search needs
-
 returns-2 : tie.Need-returns-2
 returns-2 c =
     let g = c .before in
@@ -81,17 +57,7 @@ returns-2 c =
     (u .0, (case-list bytes (now (a .planbytes)) (now (a .caselist)) (now (a .planlist)) (d .read .ensures .1), u .1))
 
 pub judge-bytes-spec : {M : Type 1} → statement M
-judge-bytes-spec =
-    tie.close
-    (tie.spec
-    read-requires
-    enum-known-got
-    slice-reshare-prefix-judge-case-list
-    slice-aggregate-judge-case-list
-    judge-case-list-requires
-    enum-known-got-2
-    same-length
-    same-length-2
-    returns
-    same-length-3
+judge-bytes-spec = tie.close (tie.spec
+    (λ c κs. search needs) (λ c. search needs) (λ c. within (c .before)) slice-aggregate-judge-case-list
+    (λ c κs. search needs) (λ c. search needs) (λ c. search needs) (λ c. search needs) returns (λ c. search needs)
     returns-2)

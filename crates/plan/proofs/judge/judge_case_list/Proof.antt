@@ -7,9 +7,6 @@ use Rattle.plan.specs.inside.VerdictLaws.{case-answer, case-passed, list
 use Rattle.plan.proofs.judge.judge_case_list.Statement.{statement}
 use Rattle.plan.proofs.judge.judge_case_list.Tie as tie
 
-judge-and-lay-requires : tie.Need-judge-and-lay-requires
-judge-and-lay-requires c κs = search needs
-
 enum-told : tie.Need-enum-told
 enum-told c = search needs
 
@@ -19,12 +16,6 @@ judge-plan-bytes-requires c κs =
     let j = e .before .before in
     let k : AcceptedCase (now (j .before .before .args .case)) = record { yes = case-answer (now (j .before .before .args .case)) (j .judge-and-lay .result .answer) (j .judge-and-lay .ensures .told-is) ∙ e .enum-told .given .1 } in
     (k, j .judge-and-lay .ensures .passed (list-yes k))
-
-enum-known-a : tie.Need-enum-known-a
-enum-known-a c = search needs
-
-same-length : tie.Need-same-length
-same-length c = search needs
 
 returns : tie.Need-returns
 returns c =
@@ -45,13 +36,5 @@ returns-2 c =
     case-stopped (now (a .case)) (now (a .planbytes)) (now (a .planlist)) (case-answer (now (a .case)) (j .judge-and-lay .result .answer) (j .judge-and-lay .ensures .told-is) ∙ k .a .given .1)
 
 pub judge-case-list-spec : {M : Type 1} → statement M
-judge-case-list-spec =
-    tie.close
-    (tie.spec
-    judge-and-lay-requires
-    enum-told
-    judge-plan-bytes-requires
-    enum-known-a
-    same-length
-    returns
-    returns-2)
+judge-case-list-spec = tie.close (tie.spec
+    (λ c κs. search needs) enum-told judge-plan-bytes-requires (λ c. search needs) (λ c. search needs) returns returns-2)

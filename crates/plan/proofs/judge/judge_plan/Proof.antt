@@ -4,9 +4,6 @@ use Rattle.plan.specs.inside.VerdictLaws.{plan-laid, head-refused, head-
 use Rattle.plan.proofs.judge.judge_plan.Statement.{statement}
 use Rattle.plan.proofs.judge.judge_plan.Tie as tie
 
-head-kept-requires : tie.Need-head-kept-requires
-head-kept-requires c κs = search needs
-
 steps-requires : tie.Need-steps-requires
 steps-requires c κs =
     let p = c .before .before .pre in
@@ -19,4 +16,4 @@ returns-2 : tie.Need-returns-2
 returns-2 c = head-refused _ _ (sym (c .before .head-kept .ensures) ∙ c .if1 .left)
 
 pub judge-plan-spec : {M : Type 1} → statement M
-judge-plan-spec = tie.close (tie.spec head-kept-requires steps-requires returns returns-2)
+judge-plan-spec = tie.close (tie.spec (λ c κs. search needs) steps-requires returns returns-2)

@@ -26,29 +26,8 @@ within g =
     let h = count-within (now (s .args .planbytes)) (length (now (s .args .planlist))) (g .got .given .0 .0) (ap readingTold (sym (g .got .given .1)) ∙ d .read .ensures .0) in
     omega (arith, h, d .read .kept .1 .0)
 
-read-requires : tie.Need-read-requires
-read-requires c κs = search needs
-
-enum-known-got : tie.Need-enum-known-got
-enum-known-got c = search needs
-
-slice-reshare-prefix-judge-plan : tie.Need-slice-reshare-prefix-judge-plan
-slice-reshare-prefix-judge-plan c = within (c .before)
-
 slice-aggregate-judge-plan : tie.Need-slice-aggregate-judge-plan
 slice-aggregate-judge-plan c = sym (length-take-le _ _ (within (c .before .before)))
-
-judge-plan-requires : tie.Need-judge-plan-requires
-judge-plan-requires c κs = search needs
-
-enum-known-got-2 : tie.Need-enum-known-got-2
-enum-known-got-2 c = search needs
-
-plan-number-requires : tie.Need-plan-number-requires
-plan-number-requires c κs = search needs
-
-same-length : tie.Need-same-length
-same-length c = search needs
 
 returns : tie.Need-returns
 returns c =
@@ -58,9 +37,6 @@ returns c =
     let bytes = now (s .args .planbytes) in
     let old = now (s .args .planlist) in
     (plan-read (now (s .args .case)) bytes (length old) (d .read .last .1 .0) (s .pre .0 .yes) (front g) (read-front bytes (length old) old (d .read .last .1 .0) (front g) (d .read .ensures .1)) (c .judge-plan .ensures), d .read .ensures .1)
-
-same-length-2 : tie.Need-same-length-2
-same-length-2 c = search needs
 
 returns-2 : tie.Need-returns-2
 returns-2 c =
@@ -72,17 +48,7 @@ returns-2 c =
     (plan-unread (now (s .args .case)) bytes room (read-no bytes room (ap readingTold (sym (g .got2 .given .1)) ∙ d .read .ensures .0)) (c .plan-number .ensures), d .read .ensures .1)
 
 pub judge-plan-bytes-spec : {M : Type 1} → statement M
-judge-plan-bytes-spec =
-    tie.close
-    (tie.spec
-    read-requires
-    enum-known-got
-    slice-reshare-prefix-judge-plan
-    slice-aggregate-judge-plan
-    judge-plan-requires
-    enum-known-got-2
-    plan-number-requires
-    same-length
-    returns
-    same-length-2
+judge-plan-bytes-spec = tie.close (tie.spec
+    (λ c κs. search needs) (λ c. search needs) (λ c. within (c .before)) slice-aggregate-judge-plan
+    (λ c κs. search needs) (λ c. search needs) (λ c κs. search needs) (λ c. search needs) returns (λ c. search needs)
     returns-2)

@@ -21,26 +21,11 @@ gathered c =
     let s = c .before .before .before .before in
     subst (λ (z : ℤ). Gathering (now (s .args .case)) (now (s .args .plan)) z (s .args .s) (s .args .t) (c .gather .result)) (toZ-ofZ (s .fits .set)) (c .gather .ensures)
 
-pressures-at-requires : tie.Need-pressures-at-requires
-pressures-at-requires c κs = search needs
-
-slice-aggregate-region-gas : tie.Need-slice-aggregate-region-gas
-slice-aggregate-region-gas c = search needs
-
 region-gas-requires : tie.Need-region-gas-requires
 region-gas-requires c κs = let s = c .before .before in (pressures-held (s .pre .laid .rules) (s .args .s) (omega (arith, s .pre .order, s .pre .last)) (c .before .pressures-at .ensures), s .pre .counted)
 
-gather-requires : tie.Need-gather-requires
-gather-requires c κs = search needs
-
-slice-aggregate-region-gas-2 : tie.Need-slice-aggregate-region-gas-2
-slice-aggregate-region-gas-2 c = search needs
-
 region-gas-requires-2 : tie.Need-region-gas-requires-2
 region-gas-requires-2 c κs = let s = c .before .before .before .before .before .before in (pressures-held (s .pre .laid .rules) (s .args .t) (s .pre .last) (gathered (c .before .before) .held), s .pre .counted)
-
-count-requires : tie.Need-count-requires
-count-requires c κs = search needs
 
 inner-pipes-requires : tie.Need-inner-pipes-requires
 inner-pipes-requires c κs = let s = c .before .before .before .before .before .before .before .before in (record { yes = s .pre .laid .rules .case-yes }, s .pre .counted)
@@ -65,15 +50,6 @@ returns c =
     (read-back _ 100000000000000000 (omega (arith, g .brought-few, s .pre .last, k .steps)) (omega arith))
 
 pub figures-spec : {M : Type 1} → statement M
-figures-spec =
-    tie.close
-    (tie.spec
-    pressures-at-requires
-    slice-aggregate-region-gas
-    region-gas-requires
-    gather-requires
-    slice-aggregate-region-gas-2
-    region-gas-requires-2
-    count-requires
-    inner-pipes-requires
-    returns)
+figures-spec = tie.close (tie.spec
+    (λ c κs. search needs) (λ c. search needs) region-gas-requires (λ c κs. search needs) (λ c. search needs)
+    region-gas-requires-2 (λ c κs. search needs) inner-pipes-requires returns)

@@ -7,9 +7,6 @@ use Rattle.numbers.specs.inside.ItemBits.{shifted, items-fit}
 use Rattle.plan.proofs.ledger.first_nodes.Statement.{statement}
 use Rattle.plan.proofs.ledger.first_nodes.Tie as tie
 
-shl-result : tie.Need-shl-result
-shl-result c = search needs
-
 sub-result : tie.Need-sub-result
 sub-result c = rw (shifted (c .args .n) (omega (arith, c .pre))) (pow-pos (c .args .n))
 
@@ -20,4 +17,4 @@ returns : tie.Need-returns
 returns c = rw (shifted (c .args .n) (omega (arith, c .pre))) (toZ-pos w64 (items-fit (c .args .n) (omega (arith, c .pre))))
 
 pub first-nodes-spec : {M : Type 1} → statement M
-first-nodes-spec = tie.close (tie.spec shl-result sub-result cast-result returns)
+first-nodes-spec = tie.close (tie.spec (λ c. search needs) sub-result cast-result returns)

@@ -18,18 +18,6 @@ use Rattle.plan.proofs.ledger.foreign_node.Tie as tie
 nodes-is : (c : tie.After-index) → c .index .result ≡ nodesOf (now (c .before .before .before .before .before .args .case))
 nodes-is c = c .index .ensures ∙ ap posPart (kept _ (c .before .at .ok) ∙ c .before .at .ensures)
 
-first-nodes-requires : tie.Need-first-nodes-requires
-first-nodes-requires c κs = search needs
-
-within-requires : tie.Need-within-requires
-within-requires c κs = search needs
-
-at-requires : tie.Need-at-requires
-at-requires c κs = search needs
-
-index-requires : tie.Need-index-requires
-index-requires c κs = search needs
-
 lowest-requires : tie.Need-lowest-requires
 lowest-requires c κs = omega (arith, nodes-is c, c .before .before .before .before .before .pre)
 
@@ -50,13 +38,6 @@ returns-2 c =
     cond-no _ 0 (sym a ∙ c .if1 .left)
 
 pub foreign-node-spec : {M : Type 1} → statement M
-foreign-node-spec =
-    tie.close
-    (tie.spec
-    first-nodes-requires
-    within-requires
-    at-requires
-    index-requires
-    lowest-requires
-    returns
+foreign-node-spec = tie.close (tie.spec
+    (λ c κs. search needs) (λ c κs. search needs) (λ c κs. search needs) (λ c κs. search needs) lowest-requires returns
     returns-2)

@@ -53,12 +53,6 @@ mul-rows c =
     let w = step-within (s .pre .laid .rules) (s .pre .laid .wide) (l .loop .i) (omega (arith, s .pre .last, c .loop-test .taken)) in
     omega arith
 
-sub-rows : tie.Need-sub-rows Inv-loop μ-loop
-sub-rows c = omega arith
-
-part-rows-start : tie.Need-part-rows-start Inv-loop μ-loop
-part-rows-start c = omega arith
-
 part-rows-end : tie.Need-part-rows-end Inv-loop μ-loop
 part-rows-end c =
     let l = c .before in
@@ -78,12 +72,6 @@ with-step-requires c κs =
       room r (l .loop .inv .1) b,
     )
 
-add-i : tie.Need-add-i Inv-loop μ-loop
-add-i c = omega arith
-
-loop-less : tie.Need-loop-less Inv-loop μ-loop
-loop-less c = omega arith
-
 loop-again : tie.Need-loop-again Inv-loop μ-loop
 loop-again c =
     let l = c .before .before .before in
@@ -100,22 +88,6 @@ returns c =
     (subst (λ (z : ℤ). Gathering (now (s .args .case)) (now (s .args .plan)) z (s .args .s) (l .loop .i) (l .loop .g)) (toZ-ofZ (s .fits .set)) (l .loop .inv .1))
 
 pub gather-spec : {M : Type 1} → statement M
-gather-spec =
-    tie.close
-    (tie.spec
-    Inv-loop
-    μ-loop
-    pressures-at-requires
-    loop-holds
-    mul-offset
-    add-offset
-    add-rows
-    mul-rows
-    sub-rows
-    part-rows-start
-    part-rows-end
-    with-step-requires
-    add-i
-    loop-less
-    loop-again
-    returns)
+gather-spec = tie.close (tie.spec
+    Inv-loop μ-loop pressures-at-requires loop-holds mul-offset add-offset add-rows mul-rows (λ c. omega arith)
+    (λ c. omega arith) part-rows-end with-step-requires (λ c. omega arith) (λ c. omega arith) loop-again returns)

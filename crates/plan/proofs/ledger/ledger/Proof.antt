@@ -10,9 +10,6 @@ use Rattle.plan.proofs.RegionTests.{same-answer}
 use Rattle.plan.proofs.ledger.ledger.Statement.{statement}
 use Rattle.plan.proofs.ledger.ledger.Tie as tie
 
-judge-requires : tie.Need-judge-requires
-judge-requires c κs = search needs
-
 enum-told : tie.Need-enum-told
 enum-told c = search needs
 
@@ -21,9 +18,6 @@ region-ledger-requires c κs =
     let j = c .before .before in
     let s = j .before in
     sound (now (s .args .case)) (now (s .args .plan)) _ (sym (j .judge .ensures) ∙ ap verdictTold (c .enum-told .given .1))
-
-enum-known-v : tie.Need-enum-known-v
-enum-known-v c = search needs
 
 returns : tie.Need-returns
 returns c =
@@ -41,6 +35,5 @@ returns-2 c =
     (ledger-refused (now (s .args .case)) (now (s .args .plan)) (s .args .set) (s .args .s) (s .args .t) _ _ _ (sym (j .judge .ensures) ∙ ap verdictTold (c .before .v .given .1)))
 
 pub ledger-spec : {M : Type 1} → statement M
-ledger-spec =
-    tie.close
-    (tie.spec judge-requires enum-told region-ledger-requires enum-known-v returns returns-2)
+ledger-spec = tie.close (tie.spec
+    (λ c κs. search needs) enum-told region-ledger-requires (λ c. search needs) returns returns-2)

@@ -20,21 +20,12 @@ abbrev μ-loop : tie.MeasureT-loop
 loop-holds : tie.Need-loop-holds Inv-loop μ-loop
 loop-holds c = (omega arith, refl)
 
-member-requires : tie.Need-member-requires Inv-loop μ-loop
-member-requires c κs = search needs
-
 returns : tie.Need-returns Inv-loop μ-loop
 returns c =
     let l = c .before .before .before in
     let s = l .before in
     lowest-here (toZ w64 (ofZ w64 (s .args .set))) (l .loop .v) (c .before .before .loop-test .taken) (sym (c .before .member .ensures) ∙ c .if1 .taken)
     ∙ sym (l .loop .inv .1) ∙ ap (λ (x : ℤ). lowestOf x (s .args .n) (60 - s .args .n)) (toZ-ofZ (s .fits .set))
-
-add-v : tie.Need-add-v Inv-loop μ-loop
-add-v c = omega arith
-
-loop-less : tie.Need-loop-less Inv-loop μ-loop
-loop-less c = omega arith
 
 loop-again : tie.Need-loop-again Inv-loop μ-loop
 loop-again c =
@@ -50,15 +41,5 @@ returns-2 c =
     ∙ sym (l .loop .inv .1) ∙ ap (λ (x : ℤ). lowestOf x (s .args .n) (60 - s .args .n)) (toZ-ofZ (s .fits .set))
 
 pub lowest-spec : {M : Type 1} → statement M
-lowest-spec =
-    tie.close
-    (tie.spec
-    Inv-loop
-    μ-loop
-    loop-holds
-    member-requires
-    returns
-    add-v
-    loop-less
-    loop-again
-    returns-2)
+lowest-spec = tie.close (tie.spec
+    Inv-loop μ-loop loop-holds (λ c κs. search needs) returns (λ c. omega arith) (λ c. omega arith) loop-again returns-2)

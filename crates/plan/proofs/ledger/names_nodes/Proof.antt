@@ -19,23 +19,8 @@ use Rattle.plan.proofs.ledger.names_nodes.Tie as tie
 nodes-is : (c : tie.After-index) → c .index .result ≡ nodesOf (now (c .before .before .args .case))
 nodes-is c = c .index .ensures ∙ ap posPart (kept _ (c .before .at .ok) ∙ c .before .at .ensures)
 
-at-requires : tie.Need-at-requires
-at-requires c κs = search needs
-
-index-requires : tie.Need-index-requires
-index-requires c κs = search needs
-
-first-nodes-requires : tie.Need-first-nodes-requires
-first-nodes-requires c κs = search needs
-
-within-requires : tie.Need-within-requires
-within-requires c κs = search needs
-
 first-nodes-requires-2 : tie.Need-first-nodes-requires-2
 first-nodes-requires-2 c κs = omega (arith, nodes-is (c .before .before .before), c .before .before .before .before .before .pre)
-
-subset-requires : tie.Need-subset-requires
-subset-requires c κs = search needs
 
 returns : tie.Need-returns
 unfolding namesNodes
@@ -55,14 +40,6 @@ returns-2 c =
     not-first _ (sym a ∙ c .if1 .left)
 
 pub names-nodes-spec : {M : Type 1} → statement M
-names-nodes-spec =
-    tie.close
-    (tie.spec
-    at-requires
-    index-requires
-    first-nodes-requires
-    within-requires
-    first-nodes-requires-2
-    subset-requires
-    returns
-    returns-2)
+names-nodes-spec = tie.close (tie.spec
+    (λ c κs. search needs) (λ c κs. search needs) (λ c κs. search needs) (λ c κs. search needs) first-nodes-requires-2
+    (λ c κs. search needs) returns returns-2)

@@ -13,9 +13,6 @@ start-pressures-requires c κs = let s = c .before in let k = counted (record { 
 returns : tie.Need-returns
 returns c = let s = c .before .before in pressures-first (now (s .args .case)) (now (s .args .plan)) (s .pre .0 .counted) (c .before .if1 .taken) (c .start-pressures .ensures)
 
-sub-offset : tie.Need-sub-offset
-sub-offset c = omega arith
-
 mul-offset : tie.Need-mul-offset
 mul-offset c = let s = c .before in let w = step-within (s .pre .0 .rules) (s .pre .0 .wide) (s .args .time - 1) (omega arith) in omega arith
 
@@ -27,12 +24,6 @@ add-rows c = let s = c .before in let w = step-within (s .pre .0 .rules) (s .pre
 
 mul-rows : tie.Need-mul-rows
 mul-rows c = let s = c .before in let w = step-within (s .pre .0 .rules) (s .pre .0 .wide) (s .args .time - 1) (omega arith) in omega arith
-
-sub-rows : tie.Need-sub-rows
-sub-rows c = search needs
-
-part-rows-start : tie.Need-part-rows-start
-part-rows-start c = search needs
 
 part-rows-end : tie.Need-part-rows-end
 part-rows-end c = let s = c .before in let w = step-within (s .pre .0 .rules) (s .pre .0 .wide) (s .args .time - 1) (omega arith) in omega arith
@@ -46,18 +37,6 @@ returns-2 c =
     pressures-after (now (s .args .case)) (now (s .args .plan)) (s .pre .0 .counted) (omega arith) (row-is (s .pre .0 .rules) (s .pre .0 .wide) (s .args .time - 1)) (c .row-pressures .ensures)
 
 pub pressures-at-spec : {M : Type 1} → statement M
-pressures-at-spec =
-    tie.close
-    (tie.spec
-    start-pressures-requires
-    returns
-    sub-offset
-    mul-offset
-    add-offset
-    add-rows
-    mul-rows
-    sub-rows
-    part-rows-start
-    part-rows-end
-    row-pressures-requires
-    returns-2)
+pressures-at-spec = tie.close (tie.spec
+    start-pressures-requires returns (λ c. omega arith) mul-offset add-offset add-rows mul-rows (λ c. search needs)
+    (λ c. search needs) part-rows-end row-pressures-requires returns-2)

@@ -11,18 +11,6 @@ use Rattle.plan.specs.law.Ledger.{namesNodes, foreignNode, timesOrdered,
 use Rattle.plan.proofs.ledger.region_answer.Statement.{statement}
 use Rattle.plan.proofs.ledger.region_answer.Tie as tie
 
-names-nodes-requires : tie.Need-names-nodes-requires
-names-nodes-requires c κs = counted (c .pre) .nodes
-
-times-ordered-requires : tie.Need-times-ordered-requires
-times-ordered-requires c κs = counted (c .before .before .pre) .steps
-
-ask-requires : tie.Need-ask-requires
-ask-requires c κs = search needs
-
-foreign-node-requires : tie.Need-foreign-node-requires
-foreign-node-requires c κs = counted (c .before .before .pre) .nodes
-
 returns : tie.Need-returns
 unfolding regionQuestions
 returns c =
@@ -41,12 +29,6 @@ returns-2 c =
     rw (sym a ∙ c .before .if1 .left) (ap (No 40 0) (c .foreign-node .ensures ∙ ap (foreignNode (now (s .args .case))) (toZ-ofZ (s .fits .set))))
 
 pub region-answer-spec : {M : Type 1} → statement M
-region-answer-spec =
-    tie.close
-    (tie.spec
-    names-nodes-requires
-    times-ordered-requires
-    ask-requires
-    foreign-node-requires
-    returns
-    returns-2)
+region-answer-spec = tie.close (tie.spec
+    (λ c κs. counted (c .pre) .nodes) (λ c κs. counted (c .before .before .pre) .steps) (λ c κs. search needs)
+    (λ c κs. counted (c .before .before .pre) .nodes) returns returns-2)

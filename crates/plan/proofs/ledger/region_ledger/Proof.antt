@@ -42,18 +42,6 @@ region-answer-requires c κs = record { yes = c .pre .case-yes }
 enum-told : tie.Need-enum-told
 enum-told c = search needs
 
-at-requires : tie.Need-at-requires
-at-requires c κs = search needs
-
-index-requires : tie.Need-index-requires
-index-requires c κs = search needs
-
-at-requires-2 : tie.Need-at-requires-2
-at-requires-2 c κs = search needs
-
-index-requires-2 : tie.Need-index-requires-2
-index-requires-2 c κs = search needs
-
 mul-width : tie.Need-mul-width
 mul-width c = let s = c .before .before .before .before .before .before .before in let k = counted (record { yes = s .pre .case-yes }) in omega (arith, nodes-is (c .before .before), k .nodes)
 
@@ -63,23 +51,11 @@ mul-width-2 c = let s = c .before .before .before .before .before .before .befor
 add-width : tie.Need-add-width
 add-width c = let s = c .before .before .before .before .before .before .before in let k = counted (record { yes = s .pre .case-yes }) in omega (arith, nodes-is (c .before .before), arcs-is c, k .nodes, k .arcs)
 
-at-requires-3 : tie.Need-at-requires-3
-at-requires-3 c κs = search needs
-
-index-requires-3 : tie.Need-index-requires-3
-index-requires-3 c κs = search needs
-
 mul-width-3 : tie.Need-mul-width-3
 mul-width-3 c = let s = c .before .before .before .before .before .before .before .before .before in let k = counted (record { yes = s .pre .case-yes }) in omega (arith, stations-is c, k .stations)
 
 add-width-2 : tie.Need-add-width-2
 add-width-2 c = let s = c .before .before .before .before .before .before .before .before .before in let k = counted (record { yes = s .pre .case-yes }) in omega (arith, nodes-is (c .before .before .before .before), arcs-is (c .before .before), stations-is c, k .nodes, k .arcs, k .stations)
-
-index-requires-4 : tie.Need-index-requires-4
-index-requires-4 c κs = search needs
-
-index-requires-5 : tie.Need-index-requires-5
-index-requires-5 c κs = search needs
 
 figures-requires : tie.Need-figures-requires
 unfolding stepWidth
@@ -98,9 +74,6 @@ figures-requires c κs =
       last = omega (arith, z, o .last);
     }
 
-enum-known-a : tie.Need-enum-known-a
-enum-known-a c = search needs
-
 returns : tie.Need-returns
 returns c =
     let s = c .before .before .before .before .before .before .before .before .before .before .before .before in
@@ -116,25 +89,7 @@ returns-2 c =
     (sym (c .before .a .given .1) ∙ c .before .before .before .region-answer .ensures ∙ same-questions (now (s .args .case)) (toZ-ofZ (s .fits .set)) (toZ-ofZ (s .fits .s)) (toZ-ofZ (s .fits .t)))
 
 pub region-ledger-spec : {M : Type 1} → statement M
-region-ledger-spec =
-    tie.close
-    (tie.spec
-    region-answer-requires
-    enum-told
-    at-requires
-    index-requires
-    at-requires-2
-    index-requires-2
-    mul-width
-    mul-width-2
-    add-width
-    at-requires-3
-    index-requires-3
-    mul-width-3
-    add-width-2
-    index-requires-4
-    index-requires-5
-    figures-requires
-    enum-known-a
-    returns
-    returns-2)
+region-ledger-spec = tie.close (tie.spec
+    region-answer-requires enum-told (λ c κs. search needs) (λ c κs. search needs) (λ c κs. search needs)
+    (λ c κs. search needs) mul-width mul-width-2 add-width (λ c κs. search needs) (λ c κs. search needs) mul-width-3
+    add-width-2 (λ c κs. search needs) (λ c κs. search needs) figures-requires (λ c. search needs) returns returns-2)

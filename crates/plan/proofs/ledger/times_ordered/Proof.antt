@@ -19,23 +19,8 @@ use Rattle.plan.proofs.ledger.times_ordered.Tie as tie
 steps-is : (c : tie.After-index) → c .index .result ≡ stepsOf (now (c .before .before .args .case))
 steps-is c = c .index .ensures ∙ ap posPart (kept _ (c .before .at .ok) ∙ c .before .at .ensures)
 
-at-requires : tie.Need-at-requires
-at-requires c κs = search needs
-
-index-requires : tie.Need-index-requires
-index-requires c κs = search needs
-
 cast-steps : tie.Need-cast-steps
 cast-steps c = record { sfits = omega (arith, steps-is c, c .before .before .pre) }
-
-at-most-requires : tie.Need-at-most-requires
-at-most-requires c κs = search needs
-
-at-most-requires-2 : tie.Need-at-most-requires-2
-at-most-requires-2 c κs = search needs
-
-at-most-requires-3 : tie.Need-at-most-requires-3
-at-most-requires-3 c κs = search needs
 
 returns : tie.Need-returns
 unfolding timesOrdered
@@ -63,15 +48,6 @@ returns-3 c =
     not-first _ (sym a ∙ c .if1 .left)
 
 pub times-ordered-spec : {M : Type 1} → statement M
-times-ordered-spec =
-    tie.close
-    (tie.spec
-    at-requires
-    index-requires
-    cast-steps
-    at-most-requires
-    at-most-requires-2
-    at-most-requires-3
-    returns
-    returns-2
-    returns-3)
+times-ordered-spec = tie.close (tie.spec
+    (λ c κs. search needs) (λ c κs. search needs) cast-steps (λ c κs. search needs) (λ c κs. search needs)
+    (λ c κs. search needs) returns returns-2 returns-3)

@@ -14,12 +14,6 @@ use Rattle.plan.specs.law.Machines.{flowPart}
 use Rattle.plan.proofs.machines.flow_part.Statement.{statement}
 use Rattle.plan.proofs.machines.flow_part.Tie as tie
 
-member-requires : tie.Need-member-requires
-member-requires c κs = search needs
-
-machine-requires : tie.Need-machine-requires
-machine-requires c κs = search needs
-
 returns : tie.Need-returns
 unfolding flowPart
 returns c =
@@ -37,4 +31,4 @@ returns-2 c =
     sym (left-part (machineRow l (s .args .offset) (s .args .m) .flow) (d .member .ensures ∙ ap (λ (z : ℤ). memberOf z (s .args .m)) (toZ-ofZ (s .fits .set))) (c .if1 .left))
 
 pub flow-part-spec : {M : Type 1} → statement M
-flow-part-spec = tie.close (tie.spec member-requires machine-requires returns returns-2)
+flow-part-spec = tie.close (tie.spec (λ c κs. search needs) (λ c κs. search needs) returns returns-2)

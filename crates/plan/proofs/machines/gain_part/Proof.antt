@@ -14,12 +14,6 @@ use Rattle.plan.specs.law.Machines.{gainPart}
 use Rattle.plan.proofs.machines.gain_part.Statement.{statement}
 use Rattle.plan.proofs.machines.gain_part.Tie as tie
 
-member-requires : tie.Need-member-requires
-member-requires c κs = search needs
-
-machine-requires : tie.Need-machine-requires
-machine-requires c κs = search needs
-
 sub-result : tie.Need-sub-result
 sub-result c =
     let m = c .before .before in
@@ -44,4 +38,4 @@ returns-2 c =
     sym (left-part (machineRow l (s .args .offset) (s .args .m) .ratio -ℤ pos 1000) (d .member .ensures ∙ ap (λ (z : ℤ). memberOf z (s .args .m)) (toZ-ofZ (s .fits .set))) (c .if1 .left))
 
 pub gain-part-spec : {M : Type 1} → statement M
-gain-part-spec = tie.close (tie.spec member-requires machine-requires sub-result returns returns-2)
+gain-part-spec = tie.close (tie.spec (λ c κs. search needs) (λ c κs. search needs) sub-result returns returns-2)

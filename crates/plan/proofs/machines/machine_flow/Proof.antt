@@ -25,14 +25,8 @@ Inv-loop case offset set machines sum₀ m₀ sum m = (machines ≤ 12) × Addin
 abbrev μ-loop : tie.MeasureT-loop
 μ-loop case offset set machines sum₀ m₀ sum m = machines - m
 
-station-requires : tie.Need-station-requires Inv-loop μ-loop
-station-requires c κs = search needs
-
 loop-holds : tie.Need-loop-holds Inv-loop μ-loop
 loop-holds c = (omega (arith, c .before .pre .count, ap (λ (y : Station). y .machines) (c .station .ensures)), start)
-
-flow-part-requires : tie.Need-flow-part-requires Inv-loop μ-loop
-flow-part-requires c κs = search needs
 
 add-sum : tie.Need-add-sum Inv-loop μ-loop
 unfolding flowPart
@@ -45,12 +39,6 @@ add-sum c =
     let q : i < machineCount (now (s .args .case)) (s .args .offset) = omega (arith, p, ap (λ (y : Station). y .machines) (h .before .station .ensures)) in
     let k = got (g .flow-part .ensures) (record { bound = abs-only-le (memberOf (toZ w64 (ofZ w64 (s .args .set))) i) _ (s .pre .flow i q .bound) }) tt in
     fits (h .loop .inv .1) k p (omega (arith, h .loop .inv .0))
-
-add-m : tie.Need-add-m Inv-loop μ-loop
-add-m c = omega arith
-
-loop-less : tie.Need-loop-less Inv-loop μ-loop
-loop-less c = omega arith
 
 loop-again : tie.Need-loop-again Inv-loop μ-loop
 unfolding flowPart
@@ -76,16 +64,6 @@ returns c =
     ∙ ap (λ (y : ℤ). sum (machineCount l (s .args .offset)) (flowPart l (s .args .offset) y)) (toZ-ofZ (s .fits .set))
 
 pub machine-flow-spec : {M : Type 1} → statement M
-machine-flow-spec =
-    tie.close
-    (tie.spec
-    Inv-loop
-    μ-loop
-    station-requires
-    loop-holds
-    flow-part-requires
-    add-sum
-    add-m
-    loop-less
-    loop-again
-    returns)
+machine-flow-spec = tie.close (tie.spec
+    Inv-loop μ-loop (λ c κs. search needs) loop-holds (λ c κs. search needs) add-sum (λ c. omega arith)
+    (λ c. omega arith) loop-again returns)

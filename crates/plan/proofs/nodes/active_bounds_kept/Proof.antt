@@ -9,23 +9,11 @@ use Rattle.plan.specs.law.Compared.{isZero}
 use Rattle.plan.proofs.nodes.active_bounds_kept.Statement.{statement}
 use Rattle.plan.proofs.nodes.active_bounds_kept.Tie as tie
 
-same-requires : tie.Need-same-requires
-same-requires c κs = search needs
-
 add-at-most : tie.Need-add-at-most
 add-at-most c = held-fits (param (c .before .before .before .before .before .pre .p) tt +ʳ param (c .before .before .before .before .before .pre .uplus) tt) tt
 
-at-most-requires : tie.Need-at-most-requires
-at-most-requires c κs = search needs
-
 sub-at-most : tie.Need-sub-at-most
 sub-at-most c = held-fits (param (c .before .before .before .before .before .before .before .before .before .pre .p) tt -ʳ param (c .before .before .before .before .before .before .before .before .before .pre .uminus) tt) tt
-
-at-most-requires-2 : tie.Need-at-most-requires-2
-at-most-requires-2 c κs = search needs
-
-both-requires : tie.Need-both-requires
-both-requires c κs = search needs
 
 returns : tie.Need-returns
 unfolding activeBoundsKept
@@ -49,14 +37,6 @@ returns-2 c =
     rw e (c .both .ensures ∙ ap₂ _&&_ w1 w2)
 
 pub active-bounds-kept-spec : {M : Type 1} → statement M
-active-bounds-kept-spec =
-    tie.close
-    (tie.spec
-    same-requires
-    add-at-most
-    at-most-requires
-    sub-at-most
-    at-most-requires-2
-    both-requires
-    returns
-    returns-2)
+active-bounds-kept-spec = tie.close (tie.spec
+    (λ c κs. search needs) add-at-most (λ c κs. search needs) sub-at-most (λ c κs. search needs) (λ c κs. search needs)
+    returns returns-2)

@@ -21,9 +21,6 @@ sub-same c =
     let minus = held-fits (held (param (p .d) tt +ʳ param (p .sminus) tt) tt -ʳ param (p .splus) tt) tt in
     search needs
 
-same-requires : tie.Need-same-requires
-same-requires c κs = search needs
-
 returns : tie.Need-returns
 unfolding demandMet
 returns c = rw (eq-eqb _ _ (c .if1 .taken))
@@ -36,4 +33,4 @@ returns-2 c =
     rw (ne-eqb _ _ (c .before .before .before .before .before .before .if1 .left)) (simp (v, kept (s .args .n .demand) (c .before .struct-told3 .given .1 .1 .1 .1 .1 .1 .0 .1)) at (c .same .ensures))
 
 pub demand-met-spec : {M : Type 1} → statement M
-demand-met-spec = tie.close (tie.spec add-same sub-same same-requires returns returns-2)
+demand-met-spec = tie.close (tie.spec add-same sub-same (λ c κs. search needs) returns returns-2)

@@ -5,15 +5,6 @@ use Rattle.plan.specs.law.NodeRules.{boundaryFlowKept}
 use Rattle.plan.proofs.nodes.flow_kept.Statement.{statement}
 use Rattle.plan.proofs.nodes.flow_kept.Tie as tie
 
-within-requires : tie.Need-within-requires
-within-requires c κs = search needs
-
-within-requires-2 : tie.Need-within-requires-2
-within-requires-2 c κs = search needs
-
-same-requires : tie.Need-same-requires
-same-requires c κs = search needs
-
 returns : tie.Need-returns
 unfolding boundaryFlowKept
 returns c = rw (c .before .match .keys1) (simp (toZ-ofZ (c .before .before .fits .d)) at (c .within .ensures))
@@ -29,6 +20,5 @@ returns-3 c =
     (simp (toZ-ofZ (c .before .before .fits .d)) at (c .same .ensures))
 
 pub flow-kept-spec : {M : Type 1} → statement M
-flow-kept-spec =
-    tie.close
-    (tie.spec within-requires within-requires-2 same-requires returns returns-2 returns-3)
+flow-kept-spec = tie.close (tie.spec
+    (λ c κs. search needs) (λ c κs. search needs) (λ c κs. search needs) returns returns-2 returns-3)

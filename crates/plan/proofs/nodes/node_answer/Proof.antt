@@ -25,35 +25,17 @@ row-sized c =
 
 -- [/pre]
 
-node-requires : tie.Need-node-requires
-node-requires c κs = search needs
-
 node-row-requires : tie.Need-node-row-requires
 node-row-requires c κs = let p = c .before .pre in omega (arith, counted (p .0) .nodes, p .2)
 
 numbers-kept-requires : tie.Need-numbers-kept-requires
 numbers-kept-requires c κs = let p = c .before .before .pre in rw (c .before .node .ensures) (node-sized (p .0) _ (p .2) _ (p .1))
 
-demand-met-requires : tie.Need-demand-met-requires
-demand-met-requires c κs = row-sized c
-
 add-ask : tie.Need-add-ask
 add-ask c = let p = c .before .before .before .before .before .pre in omega (arith, counted (p .0) .steps, p .1)
 
-ask-requires : tie.Need-ask-requires
-ask-requires c κs = search needs
-
-active-bounds-kept-requires : tie.Need-active-bounds-kept-requires
-active-bounds-kept-requires c κs = row-sized (c .before .before)
-
 add-ask-2 : tie.Need-add-ask-2
 add-ask-2 c = let p = c .before .before .before .before .before .before .before .pre in omega (arith, counted (p .0) .steps, p .1)
-
-ask-requires-2 : tie.Need-ask-requires-2
-ask-requires-2 c κs = search needs
-
-or-else-requires : tie.Need-or-else-requires
-or-else-requires c κs = search needs
 
 add-t15 : tie.Need-add-t15
 add-t15 c = let p = c .before .before .before .before .pre in omega (arith, counted (p .0) .steps, p .1)
@@ -79,19 +61,7 @@ returns-2 c =
     rw k1
 
 pub node-answer-spec : {M : Type 1} → statement M
-node-answer-spec =
-    tie.close
-    (tie.spec
-    node-requires
-    node-row-requires
-    numbers-kept-requires
-    demand-met-requires
-    add-ask
-    ask-requires
-    active-bounds-kept-requires
-    add-ask-2
-    ask-requires-2
-    or-else-requires
-    add-t15
-    returns
+node-answer-spec = tie.close (tie.spec
+    (λ c κs. search needs) node-row-requires numbers-kept-requires (λ c κs. row-sized c) add-ask (λ c κs. search needs)
+    (λ c κs. row-sized (c .before .before)) add-ask-2 (λ c κs. search needs) (λ c κs. search needs) add-t15 returns
     returns-2)

@@ -26,9 +26,6 @@ node-answer-requires c κs = let p = c .before .before .pre in (p .0, p .1, rw (
 enum-told : tie.Need-enum-told Inv-loop μ-loop
 enum-told c = search needs
 
-enum-told-2 : tie.Need-enum-told-2 Inv-loop μ-loop
-enum-told-2 c = search needs
-
 returns : tie.Need-returns Inv-loop μ-loop
 unfolding allNodeQuestions
 returns c =
@@ -39,9 +36,6 @@ returns c =
 
 add-v : tie.Need-add-v Inv-loop μ-loop
 add-v c = let p = c .before .before .before .before .before .pre in omega (arith, counted (p .0) .nodes, p .2, c .before .before .before .loop-test .taken)
-
-loop-less : tie.Need-loop-less Inv-loop μ-loop
-loop-less c = omega arith
 
 loop-again : tie.Need-loop-again Inv-loop μ-loop
 loop-again c =
@@ -59,17 +53,6 @@ returns-2 c =
     rw (← h .before .pre .2) (sym (rest-end f (h .loop .v) (a .nodes) (h .loop .inv .1) (c .loop-test .left)))
 
 pub node-answers-spec : {M : Type 1} → statement M
-node-answers-spec =
-    tie.close
-    (tie.spec
-    Inv-loop
-    μ-loop
-    loop-holds
-    node-answer-requires
-    enum-told
-    enum-told-2
-    returns
-    add-v
-    loop-less
-    loop-again
-    returns-2)
+node-answers-spec = tie.close (tie.spec
+    Inv-loop μ-loop loop-holds node-answer-requires enum-told (λ c. search needs) returns add-v (λ c. omega arith)
+    loop-again returns-2)

@@ -7,21 +7,6 @@ use Rattle.plan.specs.law.Compared.{within}
 use Rattle.plan.proofs.nodes.numbers_kept.Statement.{statement}
 use Rattle.plan.proofs.nodes.numbers_kept.Tie as tie
 
-within-requires : tie.Need-within-requires
-within-requires c κs = search needs
-
-flow-kept-requires : tie.Need-flow-kept-requires
-flow-kept-requires c κs = search needs
-
-slacks-kept-requires : tie.Need-slacks-kept-requires
-slacks-kept-requires c κs = search needs
-
-both-requires : tie.Need-both-requires
-both-requires c κs = search needs
-
-both-requires-2 : tie.Need-both-requires-2
-both-requires-2 c κs = search needs
-
 returns : tie.Need-returns
 unfolding nodeNumbersKept
 returns c =
@@ -35,12 +20,6 @@ returns c =
     c .both2 .ensures ∙ ap₂ _&&_ w1 (c .before .both .ensures ∙ ap₂ _&&_ w2 (c .before .before .slacks-kept .ensures))
 
 pub numbers-kept-spec : {M : Type 1} → statement M
-numbers-kept-spec =
-    tie.close
-    (tie.spec
-    within-requires
-    flow-kept-requires
-    slacks-kept-requires
-    both-requires
-    both-requires-2
+numbers-kept-spec = tie.close (tie.spec
+    (λ c κs. search needs) (λ c κs. search needs) (λ c κs. search needs) (λ c κs. search needs) (λ c κs. search needs)
     returns)

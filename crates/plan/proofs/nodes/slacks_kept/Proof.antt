@@ -9,41 +9,11 @@ use Rattle.case.specs.law.Field.{mostFlow}
 use Rattle.plan.proofs.nodes.slacks_kept.Statement.{statement}
 use Rattle.plan.proofs.nodes.slacks_kept.Tie as tie
 
-slack-limit-requires : tie.Need-slack-limit-requires
-slack-limit-requires c κs = search needs
-
 sub-slack-limit : tie.Need-sub-slack-limit
 sub-slack-limit c = held-fits (param (c .before .before .before .pre .actlow) tt -ʳ param (c .before .before .before .pre .low) tt) tt
 
-slack-limit-requires-2 : tie.Need-slack-limit-requires-2
-slack-limit-requires-2 c κs = search needs
-
 sub-slack-limit-2 : tie.Need-sub-slack-limit-2
 sub-slack-limit-2 c = held-fits (param (c .before .before .before .before .before .before .pre .high) tt -ʳ param (c .before .before .before .before .before .before .pre .acthigh) tt) tt
-
-slack-limit-requires-3 : tie.Need-slack-limit-requires-3
-slack-limit-requires-3 c κs = search needs
-
-within-requires : tie.Need-within-requires
-within-requires c κs = search needs
-
-within-requires-2 : tie.Need-within-requires-2
-within-requires-2 c κs = search needs
-
-within-requires-3 : tie.Need-within-requires-3
-within-requires-3 c κs = search needs
-
-within-requires-4 : tie.Need-within-requires-4
-within-requires-4 c κs = search needs
-
-both-requires : tie.Need-both-requires
-both-requires c κs = search needs
-
-both-requires-2 : tie.Need-both-requires-2
-both-requires-2 c κs = search needs
-
-both-requires-3 : tie.Need-both-requires-3
-both-requires-3 c κs = search needs
 
 returns : tie.Need-returns
 unfolding slacksKept
@@ -64,19 +34,7 @@ returns c =
     c .both3 .ensures ∙ ap₂ _&&_ w1 (c .before .both2 .ensures ∙ ap₂ _&&_ w2 (c .before .before .both .ensures ∙ ap₂ _&&_ w3 w4))
 
 pub slacks-kept-spec : {M : Type 1} → statement M
-slacks-kept-spec =
-    tie.close
-    (tie.spec
-    slack-limit-requires
-    sub-slack-limit
-    slack-limit-requires-2
-    sub-slack-limit-2
-    slack-limit-requires-3
-    within-requires
-    within-requires-2
-    within-requires-3
-    within-requires-4
-    both-requires
-    both-requires-2
-    both-requires-3
-    returns)
+slacks-kept-spec = tie.close (tie.spec
+    (λ c κs. search needs) sub-slack-limit (λ c κs. search needs) sub-slack-limit-2 (λ c κs. search needs)
+    (λ c κs. search needs) (λ c κs. search needs) (λ c κs. search needs) (λ c κs. search needs) (λ c κs. search needs)
+    (λ c κs. search needs) (λ c κs. search needs) returns)

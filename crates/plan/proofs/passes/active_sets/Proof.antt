@@ -25,21 +25,6 @@ arc-in c = rw (← (c .before .before .pre .1)) (c .loop-test .taken)
 loop-holds : tie.Need-loop-holds Inv-loop μ-loop
 loop-holds c = (omega arith, active-none (now (c .args .case)) (now (c .args .rows)))
 
-own-station-requires : tie.Need-own-station-requires Inv-loop μ-loop
-own-station-requires c κs = (c .before .before .pre .0, arc-in c)
-
-mul-n : tie.Need-mul-n Inv-loop μ-loop
-mul-n c = omega arith
-
-array-read-n : tie.Need-array-read-n Inv-loop μ-loop
-array-read-n c = omega arith
-
-mul-with-active : tie.Need-mul-with-active Inv-loop μ-loop
-mul-with-active c = omega arith
-
-array-read-with-active : tie.Need-array-read-with-active Inv-loop μ-loop
-array-read-with-active c = omega arith
-
 with-active-requires : tie.Need-with-active-requires Inv-loop μ-loop
 with-active-requires c κs =
     let o = c .before in
@@ -50,30 +35,12 @@ with-active-requires c κs =
     let l = c .if1 .taken in
     (counted (s .pre .0), p, omega (arith, active-few g (o .own-station .ensures) (s .pre .0) p l), active-small g (o .own-station .ensures) l)
 
-mul-sets : tie.Need-mul-sets Inv-loop μ-loop
-mul-sets c = omega arith
-
-array-write-sets : tie.Need-array-write-sets Inv-loop μ-loop
-array-write-sets c = omega arith
-
 add-counts : tie.Need-add-counts Inv-loop μ-loop
 add-counts c =
     let b = c .before in
     let o = b .before in
     let t = o .before in
     omega (arith, active-few (t .before .loop .inv .1) (o .own-station .ensures) (t .before .before .pre .0) (arc-in t) (b .if1 .taken))
-
-mul-counts : tie.Need-mul-counts Inv-loop μ-loop
-mul-counts c = omega arith
-
-array-write-counts : tie.Need-array-write-counts Inv-loop μ-loop
-array-write-counts c = omega arith
-
-add-e : tie.Need-add-e Inv-loop μ-loop
-add-e c = omega arith
-
-loop-less : tie.Need-loop-less Inv-loop μ-loop
-loop-less c = omega arith
 
 loop-again : tie.Need-loop-again Inv-loop μ-loop
 loop-again c =
@@ -99,24 +66,7 @@ returns c =
     record { each = λ i p. h .loop .inv .1 .sets-hold .each i (omega (arith, p, counted (s .pre .0) .stations)) ∙ ap (λ (n : ℕ). arcSet l i (activeIn l r) n) e }
 
 pub active-sets-spec : {M : Type 1} → statement M
-active-sets-spec =
-    tie.close
-    (tie.spec
-    Inv-loop
-    μ-loop
-    loop-holds
-    own-station-requires
-    mul-n
-    array-read-n
-    mul-with-active
-    array-read-with-active
-    with-active-requires
-    mul-sets
-    array-write-sets
-    add-counts
-    mul-counts
-    array-write-counts
-    add-e
-    loop-less
-    loop-again
-    returns)
+active-sets-spec = tie.close (tie.spec
+    Inv-loop μ-loop loop-holds (λ c κs. (c .before .before .pre .0, arc-in c)) (λ c. omega arith) (λ c. omega arith)
+    (λ c. omega arith) (λ c. omega arith) with-active-requires (λ c. omega arith) (λ c. omega arith) add-counts
+    (λ c. omega arith) (λ c. omega arith) (λ c. omega arith) (λ c. omega arith) loop-again returns)

@@ -40,9 +40,6 @@ flow-is t r e =
 loop-holds : tie.Need-loop-holds Inv-loop μ-loop
 loop-holds c = (omega arith, gathers-none (artificialPart (now (c .args .case)) (now (c .args .rows))), refl)
 
-arc-requires : tie.Need-arc-requires Inv-loop μ-loop
-arc-requires c κs = (c .before .before .pre .0, arc-in c)
-
 arc-row-requires : tie.Need-arc-row-requires Inv-loop μ-loop
 arc-row-requires c κs = let t = c .before .before .before in (counted (t .before .before .pre .0), arc-in t)
 
@@ -70,12 +67,6 @@ moved-requires c κs =
       rw (f .val) (record { bound = f .bound }),
       gathers-sized (h .loop .inv .1) (omega (arith, h .loop .inv .0, s .pre .1, n .arcs)) (λ i k q. artificial-sized (now (s .args .case)) (now (s .args .rows)) k i (s .pre .2) (omega (arith, q, p))),
     )
-
-add-e : tie.Need-add-e Inv-loop μ-loop
-add-e c = omega arith
-
-loop-less : tie.Need-loop-less Inv-loop μ-loop
-loop-less c = omega arith
 
 loop-again : tie.Need-loop-again Inv-loop μ-loop
 loop-again c =
@@ -110,18 +101,6 @@ returns c =
     record { each = λ i p. h .loop .inv .1 .each i (omega (arith, p, counted (s .pre .0) .nodes)) ∙ ap (λ (n : ℕ). sum n (artificialPart l r i)) e }
 
 pub artificial-flows-spec : {M : Type 1} → statement M
-artificial-flows-spec =
-    tie.close
-    (tie.spec
-    Inv-loop
-    μ-loop
-    loop-holds
-    arc-requires
-    arc-row-requires
-    sub-flow
-    slice-aggregate-moved
-    moved-requires
-    add-e
-    loop-less
-    loop-again
-    returns)
+artificial-flows-spec = tie.close (tie.spec
+    Inv-loop μ-loop loop-holds (λ c κs. (c .before .before .pre .0, arc-in c)) arc-row-requires sub-flow
+    slice-aggregate-moved moved-requires (λ c. omega arith) (λ c. omega arith) loop-again returns)

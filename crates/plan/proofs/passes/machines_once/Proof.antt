@@ -31,35 +31,8 @@ machines-are c = c .index .ensures ∙ ap posPart (kept _ (c .before .struct-tol
 loop-holds : tie.Need-loop-holds Inv-loop μ-loop
 loop-holds c = (omega arith, once-none (now (c .args .case)) (now (c .args .rows)))
 
-own-station-requires : tie.Need-own-station-requires Inv-loop μ-loop
-own-station-requires c κs = (c .before .before .pre .0, arc-in c)
-
 arc-row-requires : tie.Need-arc-row-requires Inv-loop μ-loop
 arc-row-requires c κs = let t = c .before .before in (counted (t .before .before .pre .0), arc-in t)
-
-index-requires : tie.Need-index-requires Inv-loop μ-loop
-index-requires c κs = search needs
-
-mul-had : tie.Need-mul-had Inv-loop μ-loop
-mul-had c = omega arith
-
-array-read-had : tie.Need-array-read-had Inv-loop μ-loop
-array-read-had c = omega arith
-
-array-write-once : tie.Need-array-write-once Inv-loop μ-loop
-array-write-once c = omega arith
-
-mul-taken : tie.Need-mul-taken Inv-loop μ-loop
-mul-taken c = omega arith
-
-array-write-taken : tie.Need-array-write-taken Inv-loop μ-loop
-array-write-taken c = omega arith
-
-add-e : tie.Need-add-e Inv-loop μ-loop
-add-e c = omega arith
-
-loop-less : tie.Need-loop-less Inv-loop μ-loop
-loop-less c = omega arith
 
 loop-again : tie.Need-loop-again Inv-loop μ-loop
 loop-again c =
@@ -90,21 +63,7 @@ returns c =
     once-last (rw e at (h .loop .inv .1)) (counted (s .pre .0) .stations)
 
 pub machines-once-spec : {M : Type 1} → statement M
-machines-once-spec =
-    tie.close
-    (tie.spec
-    Inv-loop
-    μ-loop
-    loop-holds
-    own-station-requires
-    arc-row-requires
-    index-requires
-    mul-had
-    array-read-had
-    array-write-once
-    mul-taken
-    array-write-taken
-    add-e
-    loop-less
-    loop-again
-    returns)
+machines-once-spec = tie.close (tie.spec
+    Inv-loop μ-loop loop-holds (λ c κs. (c .before .before .pre .0, arc-in c)) arc-row-requires (λ c κs. search needs)
+    (λ c. omega arith) (λ c. omega arith) (λ c. omega arith) (λ c. omega arith) (λ c. omega arith) (λ c. omega arith)
+    (λ c. omega arith) loop-again returns)

@@ -18,15 +18,6 @@ active c =
     c .at-most .ensures
     ∙ ap (leZ (pos 1)) (kept _ (c .before .struct-told .given .1 .1 .0 .1) ∙ ap (λ (r : ArcRow). r .setting) (c .before .before .arc-row .ensures))
 
-arc-row-requires : tie.Need-arc-row-requires
-arc-row-requires c κs = (c .pre .0, c .pre .1)
-
-at-most-requires : tie.Need-at-most-requires
-at-most-requires c κs = search needs
-
-shl-result : tie.Need-shl-result
-shl-result c = omega arith
-
 add-result : tie.Need-add-result
 add-result c =
     let s = c .before .before .before .before in
@@ -42,4 +33,5 @@ returns-2 : tie.Need-returns-2
 returns-2 c = rw (sym (active (c .before)) ∙ c .if1 .left) (omega arith)
 
 pub with-active-spec : {M : Type 1} → statement M
-with-active-spec = tie.close (tie.spec arc-row-requires at-most-requires shl-result add-result returns returns-2)
+with-active-spec = tie.close (tie.spec
+    (λ c κs. (c .pre .0, c .pre .1)) (λ c κs. search needs) (λ c. omega arith) add-result returns returns-2)

@@ -13,17 +13,8 @@ use Rattle.plan.proofs.pipes.change.Tie as tie
 moved : (c : tie.After-at) → Held (toZ w64 (ofZ w64 (c .before .pressure .result)) -ℤ toZ w64 (ofZ w64 (c .at .result))) (change (numberAt (now (c .before .before .args .old))) (now (c .before .before .args .rows)) (c .before .before .args .v)) 400000
 moved c = let s = c .before .before in read (c .before .pressure .ensures) (s .pre .2) tt -ʳ read (c .at .ensures) (s .pre .1) tt
 
-pressure-requires : tie.Need-pressure-requires
-pressure-requires c κs = search needs
-
-at-requires : tie.Need-at-requires
-at-requires c κs = search needs
-
-sub-result : tie.Need-sub-result
-sub-result c = held-fits (moved c) tt
-
 returns : tie.Need-returns
 returns c = held (moved c) tt .val
 
 pub change-spec : {M : Type 1} → statement M
-change-spec = tie.close (tie.spec pressure-requires at-requires sub-result returns)
+change-spec = tie.close (tie.spec (λ c κs. search needs) (λ c κs. search needs) (λ c. held-fits (moved c) tt) returns)

@@ -19,17 +19,9 @@ passed c =
       bound = duration-sized (s .pre .0) (s .args .i) (s .pre .1) .bound;
     }
 
-time-requires : tie.Need-time-requires
-time-requires c κs = search needs
-
-time-before-requires : tie.Need-time-before-requires
-time-before-requires c κs = search needs
-
-sub-result : tie.Need-sub-result
-sub-result c = held-fits (passed c) tt
-
 returns : tie.Need-returns
 returns c = held (passed c) tt .val
 
 pub duration-spec : {M : Type 1} → statement M
-duration-spec = tie.close (tie.spec time-requires time-before-requires sub-result returns)
+duration-spec = tie.close (tie.spec
+    (λ c κs. search needs) (λ c κs. search needs) (λ c. held-fits (passed c) tt) returns)

@@ -29,5 +29,4 @@ returns c =
     held (taken -ʳ told) tt .val
 
 pub imbalance-spec : {M : Type 1} → statement M
-imbalance-spec =
-    tie.close (tie.spec sub-result mul-result add-result mul-result-2 sub-result-2 returns)
+imbalance-spec = tie.close (tie.spec sub-result mul-result add-result mul-result-2 sub-result-2 returns)

@@ -9,9 +9,6 @@ use borrow.Author.Needs.{needs}
 use Rattle.plan.proofs.pipes.pipe_answer.Statement.{statement}
 use Rattle.plan.proofs.pipes.pipe_answer.Tie as tie
 
-arc-requires : tie.Need-arc-requires
-arc-requires c κs = search needs
-
 pipe-kept-requires : tie.Need-pipe-kept-requires
 pipe-kept-requires c κs = record { at = c .before .before .pre; pipe = sym (ap (λ (x : Arc). x .kind) (c .before .arc .ensures)) ∙ c .match .keys1 }
 
@@ -27,4 +24,4 @@ returns-2 c =
     rw k
 
 pub pipe-answer-spec : {M : Type 1} → statement M
-pipe-answer-spec = tie.close (tie.spec arc-requires pipe-kept-requires returns returns-2)
+pipe-answer-spec = tie.close (tie.spec (λ c κs. search needs) pipe-kept-requires returns returns-2)

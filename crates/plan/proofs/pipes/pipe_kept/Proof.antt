@@ -32,50 +32,20 @@ ends-is c = c .size .ensures ∙ ap natAbs (ends (c .before) .val)
 ends-small : (c : tie.After-size) → c .size .result ≤ 300000000000000
 ends-small c = omega (arith, ends-is c, ends (c .before) .bound)
 
-pipe-residual-requires : tie.Need-pipe-residual-requires
-pipe-residual-requires c κs = search needs
-
 cast-mass : tie.Need-cast-mass
 cast-mass c = fit (record { bound = mass-small c }) tt
-
-pressure-balance-requires : tie.Need-pressure-balance-requires
-pressure-balance-requires c κs = search needs
-
-size-requires : tie.Need-size-requires
-size-requires c κs = omega (arith, read-bounded (ends c) .bound)
 
 cast-ends : tie.Need-cast-ends
 cast-ends c = fit (record { bound = ends-small c }) tt
 
-at-requires : tie.Need-at-requires
-at-requires c κs = search needs
-
 mul-most : tie.Need-mul-most
 mul-most c = held-fits (literal (pos 1000000) *ʳ read (c .at .ensures) (tolerance-sized (c .before .before .before .before .pre .at .accepted)) tt) tt
-
-at-requires-2 : tie.Need-at-requires-2
-at-requires-2 c κs = search needs
-
-at-most-requires : tie.Need-at-most-requires
-at-most-requires c κs = search needs
 
 add-ask : tie.Need-add-ask
 add-ask c = let a = c .before .before .before .before .before .before .pre .at in omega (arith, a .step, counted (a .accepted) .steps)
 
-ask-requires : tie.Need-ask-requires
-ask-requires c κs = search needs
-
-at-most-requires-2 : tie.Need-at-most-requires-2
-at-most-requires-2 c κs = search needs
-
 add-ask-2 : tie.Need-add-ask-2
 add-ask-2 c = let a = c .before .before .before .before .before .before .before .before .pre .at in omega (arith, a .step, counted (a .accepted) .steps)
-
-ask-requires-2 : tie.Need-ask-requires-2
-ask-requires-2 c κs = search needs
-
-or-else-requires : tie.Need-or-else-requires
-or-else-requires c κs = search needs
 
 returns : tie.Need-returns
 unfolding pipeQuestions pipeMassKept pipePressuresKept
@@ -98,22 +68,7 @@ returns c =
     rw k (c .or-else .ensures ∙ ap₂ orElse x (y ∙ sym (orElse-yes _)))
 
 pub pipe-kept-spec : {M : Type 1} → statement M
-pipe-kept-spec =
-    tie.close
-    (tie.spec
-    pipe-residual-requires
-    cast-mass
-    pressure-balance-requires
-    size-requires
-    cast-ends
-    at-requires
-    mul-most
-    at-requires-2
-    at-most-requires
-    add-ask
-    ask-requires
-    at-most-requires-2
-    add-ask-2
-    ask-requires-2
-    or-else-requires
-    returns)
+pipe-kept-spec = tie.close (tie.spec
+    (λ c κs. search needs) cast-mass (λ c κs. search needs) (λ c κs. omega (arith, read-bounded (ends c) .bound))
+    cast-ends (λ c κs. search needs) mul-most (λ c κs. search needs) (λ c κs. search needs) add-ask
+    (λ c κs. search needs) (λ c κs. search needs) add-ask-2 (λ c κs. search needs) (λ c κs. search needs) returns)

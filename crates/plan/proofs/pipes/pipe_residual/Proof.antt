@@ -27,9 +27,6 @@ parts c =
 whole : (c : tie.After-imbalance) → Held (toZ w64 (ofZ w64 (c .imbalance .result))) (pipeImbalance (now (start (c .before) .args .case)) (numberAt (now (start (c .before) .args .old))) (now (start (c .before) .args .rows)) (start (c .before) .args .i) (start (c .before) .args .e)) 100000000000000
 whole c = let t = parts (c .before) .total in held (record { val = c .imbalance .ensures ∙ t .val; bound = t .bound }) tt
 
-arc-requires : tie.Need-arc-requires
-arc-requires c κs = search needs
-
 arc-row-requires : tie.Need-arc-row-requires
 arc-row-requires c κs = let a = c .before .pre .at in (counted (a .accepted), a .arc)
 
@@ -47,32 +44,11 @@ change-requires-2 c κs =
     let n : c .before .before .arc .result .to < nodesOf (now (s .args .case)) = rw (c .before .before .arc .ensures) (to-node (a .accepted) (s .args .e) (a .arc)) in
     (omega (arith, n, counted (a .accepted) .nodes), a .before .each _ n, a .pressures .each _ n)
 
-duration-requires : tie.Need-duration-requires
-duration-requires c κs = search needs
-
-pipe-requires : tie.Need-pipe-requires
-pipe-requires c κs = search needs
-
-imbalance-requires : tie.Need-imbalance-requires
-imbalance-requires c κs = parts c .sizes
-
-size-requires : tie.Need-size-requires
-size-requires c κs = omega (arith, read-bounded (whole c) .bound)
-
 returns : tie.Need-returns
 unfolding pipeResidual
 returns c = c .size .ensures ∙ ap natAbs (whole (c .before) .val)
 
 pub pipe-residual-spec : {M : Type 1} → statement M
-pipe-residual-spec =
-    tie.close
-    (tie.spec
-    arc-requires
-    arc-row-requires
-    change-requires
-    change-requires-2
-    duration-requires
-    pipe-requires
-    imbalance-requires
-    size-requires
-    returns)
+pipe-residual-spec = tie.close (tie.spec
+    (λ c κs. search needs) arc-row-requires change-requires change-requires-2 (λ c κs. search needs)
+    (λ c κs. search needs) (λ c κs. parts c .sizes) (λ c κs. omega (arith, read-bounded (whole c) .bound)) returns)

@@ -49,12 +49,6 @@ g c = let p = start c .pre in read (ap (λ (x : Pipe). x .g) (c .before .before 
 h : (c : tie.After-pressure2) → Held (toZ w64 (ofZ w64 (c .before .before .before .pipe .result .h))) (pipeOf (now (start c .args .case)) (start c .args .e) .h) 200000
 h c = let p = start c .pre in read (ap (λ (x : Pipe). x .h) (c .before .before .before .pipe .ensures)) (pipe-sized (p .at .accepted) (start c .args .e) (p .at .arc) (p .pipe) .h) tt
 
-arc-requires : tie.Need-arc-requires
-arc-requires c κs = search needs
-
-pipe-requires : tie.Need-pipe-requires
-pipe-requires c κs = search needs
-
 arc-row-requires : tie.Need-arc-row-requires
 arc-row-requires c κs = let a = c .before .before .pre .at in (counted (a .accepted), a .arc)
 
@@ -71,9 +65,6 @@ pressure-requires-2 c κs =
     let n = to-node (a .accepted) (c .before .before .before .before .args .e) (a .arc) in
     let h : c .before .before .before .arc .result .to < 1000000 = rw (c .before .before .before .arc .ensures) (omega (arith, n, counted (a .accepted) .nodes)) in
     h
-
-sub-result : tie.Need-sub-result
-sub-result c = held-fits (to c -ʳ from c) tt
 
 mul-result : tie.Need-mul-result
 mul-result c = held-fits (literal (pos 1000000) *ʳ held (to c -ʳ from c) tt) tt
@@ -117,21 +108,7 @@ returns c =
     held (two +ʳ held (h d *ʳ held (from d +ʳ to d) tt) tt) tt .val
 
 pub pressure-balance-spec : {M : Type 1} → statement M
-pressure-balance-spec =
-    tie.close
-    (tie.spec
-    arc-requires
-    pipe-requires
-    arc-row-requires
-    pressure-requires
-    pressure-requires-2
-    sub-result
-    mul-result
-    mul-result-2
-    add-result
-    mul-result-3
-    add-result-2
-    add-result-3
-    mul-result-4
-    add-result-4
-    returns)
+pressure-balance-spec = tie.close (tie.spec
+    (λ c κs. search needs) (λ c κs. search needs) arc-row-requires pressure-requires pressure-requires-2
+    (λ c. held-fits (to c -ʳ from c) tt) mul-result mul-result-2 add-result mul-result-3 add-result-2 add-result-3
+    mul-result-4 add-result-4 returns)

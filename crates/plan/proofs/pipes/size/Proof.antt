@@ -21,9 +21,6 @@ cast-result c =
     let e = absʳ-neg (own s) (lt→ltb (natAbs (s .args .x)) (2 ^ 63) (s .pre)) (c .if1 .taken) in
     rw e (tt, record { fits = omega (arith, s .pre) })
 
-cast-result-2 : tie.Need-cast-result-2
-cast-result-2 c = castu (c .before .fits .x) (c .if1 .left)
-
 returns : tie.Need-returns
 returns c = let s = c .before in ap natAbs (absʳ-neg (own s) (lt→ltb (natAbs (s .args .x)) (2 ^ 63) (s .pre)) (c .if1 .taken))
 
@@ -31,4 +28,5 @@ returns-2 : tie.Need-returns-2
 returns-2 c = castu-is (c .before .fits .x)
 
 pub size-spec : {M : Type 1} → statement M
-size-spec = tie.close (tie.spec sub-result cast-result cast-result-2 returns returns-2)
+size-spec = tie.close (tie.spec
+    sub-result cast-result (λ c. castu (c .before .fits .x) (c .if1 .left)) returns returns-2)

@@ -65,38 +65,14 @@ pressure-requires c κs = omega (arith, c .pre .in-node, counted (c .pre .accept
 pressure-requires-2 : tie.Need-pressure-requires-2
 pressure-requires-2 c κs = let s = c .before in omega (arith, s .pre .out-node, counted (s .pre .accepted) .nodes)
 
-at-most-requires : tie.Need-at-most-requires
-at-most-requires c κs = search needs
-
-artificial-requires : tie.Need-artificial-requires
-artificial-requires c κs = search needs
-
-out-bound-requires : tie.Need-out-bound-requires
-out-bound-requires c κs = search needs
-
-at-most-requires-2 : tie.Need-at-most-requires-2
-at-most-requires-2 c κs = search needs
-
 arc-row-requires : tie.Need-arc-row-requires
 arc-row-requires c κs = let s = c .before .before .before .before .before .before .before .before in (counted (s .pre .accepted), s .pre .arc)
-
-machine-gain-requires : tie.Need-machine-gain-requires
-machine-gain-requires c κs = search needs
-
-add-ratio : tie.Need-add-ratio
-add-ratio c = held-fits (literal (pos 1000) +ʳ gain c) tt
 
 mul-at-most : tie.Need-mul-at-most
 mul-at-most c = held-fits (literal (pos 1000) *ʳ out (c .before .before .before .before .before .before .before .before .before)) tt
 
-node-requires : tie.Need-node-requires
-node-requires c κs = search needs
-
 mul-at-most-2 : tie.Need-mul-at-most-2
 mul-at-most-2 c = held-fits (base (c .before .before) *ʳ ratio (c .before .before .before)) tt
-
-at-most-requires-3 : tie.Need-at-most-requires-3
-at-most-requires-3 c κs = search needs
 
 returns : tie.Need-returns
 unfolding compressionKept
@@ -125,22 +101,7 @@ returns-3 c =
     rw e
 
 pub compression-kept-spec : {M : Type 1} → statement M
-compression-kept-spec =
-    tie.close
-    (tie.spec
-    pressure-requires
-    pressure-requires-2
-    at-most-requires
-    artificial-requires
-    out-bound-requires
-    at-most-requires-2
-    arc-row-requires
-    machine-gain-requires
-    add-ratio
-    mul-at-most
-    node-requires
-    mul-at-most-2
-    at-most-requires-3
-    returns
-    returns-2
-    returns-3)
+compression-kept-spec = tie.close (tie.spec
+    pressure-requires pressure-requires-2 (λ c κs. search needs) (λ c κs. search needs) (λ c κs. search needs)
+    (λ c κs. search needs) arc-row-requires (λ c κs. search needs) (λ c. held-fits (literal (pos 1000) +ʳ gain c) tt)
+    mul-at-most (λ c κs. search needs) mul-at-most-2 (λ c κs. search needs) returns returns-2 returns-3)

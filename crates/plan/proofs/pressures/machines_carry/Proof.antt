@@ -29,21 +29,6 @@ count-is c = c .before .before .count .ensures ∙ ap countOf (machines-read (c 
 most-is : (c : tie.After-struct-known) → c .before .artificial .result .most ≡ artificialOf (now (c .before .before .before .before .before .args .case)) (c .before .before .before .before .before .args .e) .most
 most-is c = ap (λ (x : Artificial). x .most) (c .before .artificial .ensures)
 
-arc-row-requires : tie.Need-arc-row-requires
-arc-row-requires c κs = (counted (c .pre .0), c .pre .1)
-
-count-requires : tie.Need-count-requires
-count-requires c κs = search needs
-
-artificial-requires : tie.Need-artificial-requires
-artificial-requires c κs = search needs
-
-machine-flow-requires : tie.Need-machine-flow-requires
-machine-flow-requires c κs = search needs
-
-at-most-requires : tie.Need-at-most-requires
-at-most-requires c κs = search needs
-
 returns : tie.Need-returns
 unfolding machinesCarry
 returns c =
@@ -63,13 +48,6 @@ returns-2 c =
     rw e
 
 pub machines-carry-spec : {M : Type 1} → statement M
-machines-carry-spec =
-    tie.close
-    (tie.spec
-    arc-row-requires
-    count-requires
-    artificial-requires
-    machine-flow-requires
-    at-most-requires
-    returns
-    returns-2)
+machines-carry-spec = tie.close (tie.spec
+    (λ c κs. (counted (c .pre .0), c .pre .1)) (λ c κs. search needs) (λ c κs. search needs) (λ c κs. search needs)
+    (λ c κs. search needs) returns returns-2)

@@ -27,15 +27,6 @@ setting-is c =
 arc-row-requires : tie.Need-arc-row-requires
 arc-row-requires c κs = let a = c .before .pre in (counted (a .at .accepted), a .arc)
 
-arc-requires : tie.Need-arc-requires
-arc-requires c κs = search needs
-
-same-requires : tie.Need-same-requires
-same-requires c κs = search needs
-
-setting-of-requires : tie.Need-setting-of-requires
-setting-of-requires c κs = search needs
-
 setting-machines-requires : tie.Need-setting-machines-requires
 setting-machines-requires c κs = (c .before .before .before .before .before .before .pre, setting-is c)
 
@@ -58,13 +49,6 @@ returns-2 c =
     c .setting-machines .ensures ∙ ap (settingMachines (now (s .args .case)) (now (s .args .rows)) (s .args .e)) (setting-is d)
 
 pub machines-used-spec : {M : Type 1} → statement M
-machines-used-spec =
-    tie.close
-    (tie.spec
-    arc-row-requires
-    arc-requires
-    same-requires
-    setting-of-requires
-    setting-machines-requires
-    returns
-    returns-2)
+machines-used-spec = tie.close (tie.spec
+    arc-row-requires (λ c κs. search needs) (λ c κs. search needs) (λ c κs. search needs) setting-machines-requires
+    returns returns-2)

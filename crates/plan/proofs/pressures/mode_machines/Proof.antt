@@ -16,12 +16,6 @@ use Rattle.plan.proofs.pressures.mode_machines.Tie as tie
 enum-told : tie.Need-enum-told
 enum-told c = search needs
 
-artificial-requires : tie.Need-artificial-requires
-artificial-requires c κs = search needs
-
-offset-of-requires : tie.Need-offset-of-requires
-offset-of-requires c κs = search needs
-
 machines-carry-requires : tie.Need-machines-carry-requires
 machines-carry-requires c κs =
     let s = c .before .before .before .before .before in
@@ -30,23 +24,11 @@ machines-carry-requires c κs =
     let h = offset-is a k (c .before .artificial .ensures) (c .offset-of .ensures) in
     (a .at .accepted, a .arc, h, offset-machines a k h)
 
-enum-told-2 : tie.Need-enum-told-2
-enum-told-2 c = search needs
-
 arc-row-requires : tie.Need-arc-row-requires
 arc-row-requires c κs = let a = c .before .before .before .pre .0 in (counted (a .at .accepted), a .arc)
 
-same-requires : tie.Need-same-requires
-same-requires c κs = search needs
-
-enum-told-3 : tie.Need-enum-told-3
-enum-told-3 c = search needs
-
 arc-row-requires-2 : tie.Need-arc-row-requires-2
 arc-row-requires-2 c κs = let a = c .before .before .before .pre .0 in (counted (a .at .accepted), a .arc)
-
-same-requires-2 : tie.Need-same-requires-2
-same-requires-2 c κs = search needs
 
 returns : tie.Need-returns
 returns c =
@@ -67,19 +49,6 @@ returns-3 c =
     rw (c .before .before .before .enum-told3 .given .1) (simp m at (c .same2 .ensures))
 
 pub mode-machines-spec : {M : Type 1} → statement M
-mode-machines-spec =
-    tie.close
-    (tie.spec
-    enum-told
-    artificial-requires
-    offset-of-requires
-    machines-carry-requires
-    enum-told-2
-    arc-row-requires
-    same-requires
-    enum-told-3
-    arc-row-requires-2
-    same-requires-2
-    returns
-    returns-2
-    returns-3)
+mode-machines-spec = tie.close (tie.spec
+    enum-told (λ c κs. search needs) (λ c κs. search needs) machines-carry-requires (λ c. search needs) arc-row-requires
+    (λ c κs. search needs) (λ c. search needs) arc-row-requires-2 (λ c κs. search needs) returns returns-2 returns-3)

@@ -21,36 +21,6 @@ out-small c = omega (arith, c .pre .2, counted (c .pre .0 .at .accepted) .nodes)
 enum-told : tie.Need-enum-told
 enum-told c = search needs
 
-pressure-requires : tie.Need-pressure-requires
-pressure-requires c κs = in-small (c .before .before .before)
-
-pressure-requires-2 : tie.Need-pressure-requires-2
-pressure-requires-2 c κs = out-small (c .before .before .before .before)
-
-same-requires : tie.Need-same-requires
-same-requires c κs = search needs
-
-enum-told-2 : tie.Need-enum-told-2
-enum-told-2 c = search needs
-
-pressure-requires-3 : tie.Need-pressure-requires-3
-pressure-requires-3 c κs = out-small (c .before .before .before)
-
-pressure-requires-4 : tie.Need-pressure-requires-4
-pressure-requires-4 c κs = in-small (c .before .before .before .before)
-
-at-most-requires : tie.Need-at-most-requires
-at-most-requires c κs = search needs
-
-enum-told-3 : tie.Need-enum-told-3
-enum-told-3 c = search needs
-
-artificial-requires : tie.Need-artificial-requires
-artificial-requires c κs = search needs
-
-offset-of-requires : tie.Need-offset-of-requires
-offset-of-requires c κs = search needs
-
 compression-kept-requires : tie.Need-compression-kept-requires
 compression-kept-requires c κs =
     let s = c .before .before .before .before .before in
@@ -75,21 +45,8 @@ returns-3 : tie.Need-returns-3
 returns-3 c = rw (c .before .before .before .enum-told3 .given .1) (c .compression-kept .ensures)
 
 pub mode-pressures-spec : {M : Type 1} → statement M
-mode-pressures-spec =
-    tie.close
-    (tie.spec
-    enum-told
-    pressure-requires
-    pressure-requires-2
-    same-requires
-    enum-told-2
-    pressure-requires-3
-    pressure-requires-4
-    at-most-requires
-    enum-told-3
-    artificial-requires
-    offset-of-requires
-    compression-kept-requires
-    returns
-    returns-2
-    returns-3)
+mode-pressures-spec = tie.close (tie.spec
+    enum-told (λ c κs. in-small (c .before .before .before)) (λ c κs. out-small (c .before .before .before .before))
+    (λ c κs. search needs) (λ c. search needs) (λ c κs. out-small (c .before .before .before))
+    (λ c κs. in-small (c .before .before .before .before)) (λ c κs. search needs) (λ c. search needs)
+    (λ c κs. search needs) (λ c κs. search needs) compression-kept-requires returns returns-2 returns-3)

@@ -8,9 +8,6 @@ use borrow.Author.Needs.{needs}
 use Rattle.plan.proofs.pressures.out_bound.Statement.{statement}
 use Rattle.plan.proofs.pressures.out_bound.Tie as tie
 
-same-requires : tie.Need-same-requires
-same-requires c κs = search needs
-
 returns : tie.Need-returns
 returns c =
     let x = c .before .before .before .args .x in
@@ -27,4 +24,4 @@ returns-2 c =
     rw e k
 
 pub out-bound-spec : {M : Type 1} → statement M
-out-bound-spec = tie.close (tie.spec same-requires returns returns-2)
+out-bound-spec = tie.close (tie.spec (λ c κs. search needs) returns returns-2)

@@ -9,26 +9,11 @@ use borrow.Author.Needs.{needs}
 use Rattle.plan.proofs.pressures.pressure_answer.Statement.{statement}
 use Rattle.plan.proofs.pressures.pressure_answer.Tie as tie
 
-pressures-kept-requires : tie.Need-pressures-kept-requires
-pressures-kept-requires c κs = search needs
-
 add-ask : tie.Need-add-ask
 add-ask c = let s = c .before .before in omega (arith, s .pre .at .step, counted (s .pre .at .accepted) .steps)
 
-ask-requires : tie.Need-ask-requires
-ask-requires c κs = search needs
-
-machines-used-requires : tie.Need-machines-used-requires
-machines-used-requires c κs = search needs
-
 add-ask-2 : tie.Need-add-ask-2
 add-ask-2 c = let s = c .before .before .before .before in omega (arith, s .pre .at .step, counted (s .pre .at .accepted) .steps)
-
-ask-requires-2 : tie.Need-ask-requires-2
-ask-requires-2 c κs = search needs
-
-or-else-requires : tie.Need-or-else-requires
-or-else-requires c κs = search needs
 
 returns : tie.Need-returns
 unfolding pressureQuestions
@@ -41,14 +26,6 @@ returns c =
     c .or-else .ensures ∙ ap₂ orElse a (b ∙ sym (orElse-yes _))
 
 pub pressure-answer-spec : {M : Type 1} → statement M
-pressure-answer-spec =
-    tie.close
-    (tie.spec
-    pressures-kept-requires
-    add-ask
-    ask-requires
-    machines-used-requires
-    add-ask-2
-    ask-requires-2
-    or-else-requires
-    returns)
+pressure-answer-spec = tie.close (tie.spec
+    (λ c κs. search needs) add-ask (λ c κs. search needs) (λ c κs. search needs) add-ask-2 (λ c κs. search needs)
+    (λ c κs. search needs) returns)

@@ -24,9 +24,6 @@ setting-is c =
     let n = kept _ (c .before .struct-told .given .1 .1 .0 .1) ∙ ap (λ (x : ArcRow). x .setting) (c .before .before .arc-row .ensures) in
     c .setting-of .ensures ∙ ap₂ settingOf (ap (λ (x : Arc). x .kind) (c .before .before .before .before .arc .ensures)) n
 
-arc-requires : tie.Need-arc-requires
-arc-requires c κs = search needs
-
 pressure-requires : tie.Need-pressure-requires
 pressure-requires c κs =
     let s = c .before .before .before in
@@ -43,14 +40,8 @@ pressure-requires-2 c κs =
     let h : c .before .before .arc .result .from < 1000000 = rw (c .before .before .arc .ensures) (omega (arith, n, counted (a .at .accepted) .nodes)) in
     h
 
-at-most-requires : tie.Need-at-most-requires
-at-most-requires c κs = search needs
-
 arc-row-requires : tie.Need-arc-row-requires
 arc-row-requires c κs = let a = c .before .before .before .pre in (counted (a .at .accepted), a .arc)
-
-setting-of-requires : tie.Need-setting-of-requires
-setting-of-requires c κs = search needs
 
 setting-pressures-requires : tie.Need-setting-pressures-requires
 setting-pressures-requires c κs = (c .before .before .before .before .before .before .pre, setting-is c)
@@ -76,15 +67,6 @@ returns-2 c =
     rw k (c .setting-pressures .ensures ∙ ap (settingPressures (now (s .args .case)) (now (s .args .rows)) (s .args .i) (s .args .e)) (setting-is d))
 
 pub pressures-kept-spec : {M : Type 1} → statement M
-pressures-kept-spec =
-    tie.close
-    (tie.spec
-    arc-requires
-    pressure-requires
-    pressure-requires-2
-    at-most-requires
-    arc-row-requires
-    setting-of-requires
-    setting-pressures-requires
-    returns
-    returns-2)
+pressures-kept-spec = tie.close (tie.spec
+    (λ c κs. search needs) pressure-requires pressure-requires-2 (λ c κs. search needs) arc-row-requires
+    (λ c κs. search needs) setting-pressures-requires returns returns-2)

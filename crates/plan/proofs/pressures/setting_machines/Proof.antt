@@ -23,30 +23,12 @@ arc-row-requires c κs = let a = c .before .pre .0 in (counted (a .at .accepted)
 enum-told : tie.Need-enum-told
 enum-told c = search needs
 
-same-requires : tie.Need-same-requires
-same-requires c κs = search needs
-
-enum-told-2 : tie.Need-enum-told-2
-enum-told-2 c = search needs
-
-same-requires-2 : tie.Need-same-requires-2
-same-requires-2 c κs = search needs
-
-enum-known-setting : tie.Need-enum-known-setting
-enum-known-setting c = search needs
-
-enum-told-3 : tie.Need-enum-told-3
-enum-told-3 c = search needs
-
 mode-machines-requires : tie.Need-mode-machines-requires
 mode-machines-requires c κs =
     let t = c .before .before .before .before in
     let s = t .before .before .before .before in
     let w = t .setting .given .0 .0 in
     (s .pre .0, λ m. compressing-kind _ _ w (sym (s .pre .1) ∙ t .setting .given .1 ∙ ap (Active w) m))
-
-enum-told-4 : tie.Need-enum-told-4
-enum-told-4 c = search needs
 
 mode-machines-requires-2 : tie.Need-mode-machines-requires-2
 mode-machines-requires-2 c κs =
@@ -88,20 +70,7 @@ returns-4 c =
     (c .mode-machines2 .ensures ∙ ap (modeMachines (now (s .args .case)) (now (s .args .rows)) (s .args .e) (t .setting .given .0 .1 .0)) f)
 
 pub setting-machines-spec : {M : Type 1} → statement M
-setting-machines-spec =
-    tie.close
-    (tie.spec
-    arc-row-requires
-    enum-told
-    same-requires
-    enum-told-2
-    same-requires-2
-    enum-known-setting
-    enum-told-3
-    mode-machines-requires
-    enum-told-4
-    mode-machines-requires-2
-    returns
-    returns-2
-    returns-3
+setting-machines-spec = tie.close (tie.spec
+    arc-row-requires enum-told (λ c κs. search needs) (λ c. search needs) (λ c κs. search needs) (λ c. search needs)
+    (λ c. search needs) mode-machines-requires (λ c. search needs) mode-machines-requires-2 returns returns-2 returns-3
     returns-4)

@@ -14,18 +14,6 @@ use Rattle.plan.proofs.pressures.setting_pressures.Tie as tie
 enum-told : tie.Need-enum-told
 enum-told c = search needs
 
-enum-told-2 : tie.Need-enum-told-2
-enum-told-2 c = search needs
-
-enum-known-setting : tie.Need-enum-known-setting
-enum-known-setting c = search needs
-
-arc-requires : tie.Need-arc-requires
-arc-requires c κs = search needs
-
-enum-told-3 : tie.Need-enum-told-3
-enum-told-3 c = search needs
-
 mode-pressures-requires : tie.Need-mode-pressures-requires
 mode-pressures-requires c κs =
     let t = c .before .before .before .before in
@@ -34,9 +22,6 @@ mode-pressures-requires c κs =
     let ac = a .at .accepted in
     let q = c .before .before .arc .ensures in
     (a, rw q (from-node ac (s .args .e) (a .arc)), rw q (to-node ac (s .args .e) (a .arc)), λ m. compressing-kind _ _ (t .setting .given .0 .0) (sym (s .pre .1) ∙ t .setting .given .1 ∙ ap (Active (t .setting .given .0 .0)) m))
-
-enum-told-4 : tie.Need-enum-told-4
-enum-told-4 c = search needs
 
 mode-pressures-requires-2 : tie.Need-mode-pressures-requires-2
 mode-pressures-requires-2 c κs =
@@ -71,18 +56,6 @@ returns-4 c =
     (c .mode-pressures2 .ensures ∙ ap (λ (x : Arc). modePressures (now (s .args .case)) (now (s .args .rows)) (s .args .i) (s .args .e) (t .setting .given .0 .1 .0) (x .to) (x .from)) (c .before .before .before .arc .ensures))
 
 pub setting-pressures-spec : {M : Type 1} → statement M
-setting-pressures-spec =
-    tie.close
-    (tie.spec
-    enum-told
-    enum-told-2
-    enum-known-setting
-    arc-requires
-    enum-told-3
-    mode-pressures-requires
-    enum-told-4
-    mode-pressures-requires-2
-    returns
-    returns-2
-    returns-3
-    returns-4)
+setting-pressures-spec = tie.close (tie.spec
+    enum-told (λ c. search needs) (λ c. search needs) (λ c κs. search needs) (λ c. search needs) mode-pressures-requires
+    (λ c. search needs) mode-pressures-requires-2 returns returns-2 returns-3 returns-4)

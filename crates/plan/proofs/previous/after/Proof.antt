@@ -10,18 +10,6 @@ use Rattle.plan.specs.law.PlanRecords.{pressureIn, activeIn, directionIn
 use Rattle.plan.proofs.previous.after.Statement.{statement}
 use Rattle.plan.proofs.previous.after.Tie as tie
 
-row-pressures-requires : tie.Need-row-pressures-requires
-row-pressures-requires c κs = search needs
-
-row-active-requires : tie.Need-row-active-requires
-row-active-requires c κs = search needs
-
-row-directions-requires : tie.Need-row-directions-requires
-row-directions-requires c κs = search needs
-
-row-states-requires : tie.Need-row-states-requires
-row-states-requires c κs = search needs
-
 returns : tie.Need-returns
 returns c =
     let b = c .before .before .before in
@@ -36,11 +24,5 @@ returns c =
     }
 
 pub after-spec : {M : Type 1} → statement M
-after-spec =
-    tie.close
-    (tie.spec
-    row-pressures-requires
-    row-active-requires
-    row-directions-requires
-    row-states-requires
-    returns)
+after-spec = tie.close (tie.spec
+    (λ c κs. search needs) (λ c κs. search needs) (λ c κs. search needs) (λ c κs. search needs) returns)

@@ -18,21 +18,6 @@ abbrev μ-loop : tie.MeasureT-loop
 loop-holds : tie.Need-loop-holds Inv-loop μ-loop
 loop-holds c = start (c .good .0 .1 .0 .1)
 
-pressure-requires : tie.Need-pressure-requires Inv-loop μ-loop
-pressure-requires c κs = omega arith
-
-mul-pressures : tie.Need-mul-pressures Inv-loop μ-loop
-mul-pressures c = omega arith
-
-array-set-from-pressures : tie.Need-array-set-from-pressures Inv-loop μ-loop
-array-set-from-pressures c = omega arith
-
-add-v : tie.Need-add-v Inv-loop μ-loop
-add-v c = omega arith
-
-loop-less : tie.Need-loop-less Inv-loop μ-loop
-loop-less c = omega arith
-
 loop-again : tie.Need-loop-again Inv-loop μ-loop
 loop-again c =
     let h = c .before .before in
@@ -42,16 +27,6 @@ returns : tie.Need-returns Inv-loop μ-loop
 returns c = end (c .before .loop .inv) (c .loop-test .left)
 
 pub row-pressures-spec : {M : Type 1} → statement M
-row-pressures-spec =
-    tie.close
-    (tie.spec
-    Inv-loop
-    μ-loop
-    loop-holds
-    pressure-requires
-    mul-pressures
-    array-set-from-pressures
-    add-v
-    loop-less
-    loop-again
-    returns)
+row-pressures-spec = tie.close (tie.spec
+    Inv-loop μ-loop loop-holds (λ c κs. omega arith) (λ c. omega arith) (λ c. omega arith) (λ c. omega arith)
+    (λ c. omega arith) loop-again returns)

@@ -11,18 +11,6 @@ use Rattle.plan.specs.law.BeforeStep.{startPressure}
 use Rattle.plan.proofs.previous.start.Statement.{statement}
 use Rattle.plan.proofs.previous.start.Tie as tie
 
-start-pressures-requires : tie.Need-start-pressures-requires
-start-pressures-requires c κs = search needs
-
-start-active-requires : tie.Need-start-active-requires
-start-active-requires c κs = search needs
-
-start-directions-requires : tie.Need-start-directions-requires
-start-directions-requires c κs = search needs
-
-start-states-requires : tie.Need-start-states-requires
-start-states-requires c κs = search needs
-
 returns : tie.Need-returns
 returns c =
     let b = c .before .before .before in
@@ -36,11 +24,5 @@ returns c =
     }
 
 pub start-spec : {M : Type 1} → statement M
-start-spec =
-    tie.close
-    (tie.spec
-    start-pressures-requires
-    start-active-requires
-    start-directions-requires
-    start-states-requires
-    returns)
+start-spec = tie.close (tie.spec
+    (λ c κs. search needs) (λ c κs. search needs) (λ c κs. search needs) (λ c κs. search needs) returns)

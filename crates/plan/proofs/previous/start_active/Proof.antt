@@ -18,18 +18,6 @@ abbrev μ-loop : tie.MeasureT-loop
 loop-holds : tie.Need-loop-holds Inv-loop μ-loop
 loop-holds c = start refl
 
-active-requires : tie.Need-active-requires Inv-loop μ-loop
-active-requires c κs = search needs
-
-array-write-on : tie.Need-array-write-on Inv-loop μ-loop
-array-write-on c = omega arith
-
-add-e : tie.Need-add-e Inv-loop μ-loop
-add-e c = omega arith
-
-loop-less : tie.Need-loop-less Inv-loop μ-loop
-loop-less c = omega arith
-
 loop-again : tie.Need-loop-again Inv-loop μ-loop
 loop-again c = let h = c .before .before in turn (h .loop .inv) (c .before .loop-test .taken) (h .before .pre) (c .active .ensures)
 
@@ -37,15 +25,6 @@ returns : tie.Need-returns Inv-loop μ-loop
 returns c = end (c .before .loop .inv) (c .loop-test .left)
 
 pub start-active-spec : {M : Type 1} → statement M
-start-active-spec =
-    tie.close
-    (tie.spec
-    Inv-loop
-    μ-loop
-    loop-holds
-    active-requires
-    array-write-on
-    add-e
-    loop-less
-    loop-again
-    returns)
+start-active-spec = tie.close (tie.spec
+    Inv-loop μ-loop loop-holds (λ c κs. search needs) (λ c. omega arith) (λ c. omega arith) (λ c. omega arith)
+    loop-again returns)

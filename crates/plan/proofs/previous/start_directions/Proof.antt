@@ -22,27 +22,6 @@ abbrev μ-loop : tie.MeasureT-loop
 loop-holds : tie.Need-loop-holds Inv-loop μ-loop
 loop-holds c = start refl
 
-mul-station : tie.Need-mul-station Inv-loop μ-loop
-mul-station c = omega arith
-
-element-copy-out-station : tie.Need-element-copy-out-station Inv-loop μ-loop
-element-copy-out-station c = omega arith
-
-station-requires : tie.Need-station-requires Inv-loop μ-loop
-station-requires c κs = search needs
-
-mul-directions : tie.Need-mul-directions Inv-loop μ-loop
-mul-directions c = omega arith
-
-array-write-directions : tie.Need-array-write-directions Inv-loop μ-loop
-array-write-directions c = omega arith
-
-add-s : tie.Need-add-s Inv-loop μ-loop
-add-s c = omega arith
-
-loop-less : tie.Need-loop-less Inv-loop μ-loop
-loop-less c = omega arith
-
 loop-again : tie.Need-loop-again Inv-loop μ-loop
 loop-again c =
     let h = c .before .before .before in
@@ -56,18 +35,6 @@ returns : tie.Need-returns Inv-loop μ-loop
 returns c = end (c .before .loop .inv) (omega (arith, c .loop-test .left, c .before .before .pre .1 .stations))
 
 pub start-directions-spec : {M : Type 1} → statement M
-start-directions-spec =
-    tie.close
-    (tie.spec
-    Inv-loop
-    μ-loop
-    loop-holds
-    mul-station
-    element-copy-out-station
-    station-requires
-    mul-directions
-    array-write-directions
-    add-s
-    loop-less
-    loop-again
-    returns)
+start-directions-spec = tie.close (tie.spec
+    Inv-loop μ-loop loop-holds (λ c. omega arith) (λ c. omega arith) (λ c κs. search needs) (λ c. omega arith)
+    (λ c. omega arith) (λ c. omega arith) (λ c. omega arith) loop-again returns)

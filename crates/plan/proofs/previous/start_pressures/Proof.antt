@@ -20,21 +20,6 @@ abbrev μ-loop : tie.MeasureT-loop
 loop-holds : tie.Need-loop-holds Inv-loop μ-loop
 loop-holds c = start refl
 
-node-requires : tie.Need-node-requires Inv-loop μ-loop
-node-requires c κs = search needs
-
-mul-pressures : tie.Need-mul-pressures Inv-loop μ-loop
-mul-pressures c = omega arith
-
-array-set-from-pressures : tie.Need-array-set-from-pressures Inv-loop μ-loop
-array-set-from-pressures c = omega arith
-
-add-v : tie.Need-add-v Inv-loop μ-loop
-add-v c = omega arith
-
-loop-less : tie.Need-loop-less Inv-loop μ-loop
-loop-less c = omega arith
-
 loop-again : tie.Need-loop-again Inv-loop μ-loop
 loop-again c =
     let h = c .before .before .before in
@@ -45,16 +30,6 @@ returns : tie.Need-returns Inv-loop μ-loop
 returns c = end (c .before .loop .inv) (c .loop-test .left)
 
 pub start-pressures-spec : {M : Type 1} → statement M
-start-pressures-spec =
-    tie.close
-    (tie.spec
-    Inv-loop
-    μ-loop
-    loop-holds
-    node-requires
-    mul-pressures
-    array-set-from-pressures
-    add-v
-    loop-less
-    loop-again
-    returns)
+start-pressures-spec = tie.close (tie.spec
+    Inv-loop μ-loop loop-holds (λ c κs. search needs) (λ c. omega arith) (λ c. omega arith) (λ c. omega arith)
+    (λ c. omega arith) loop-again returns)

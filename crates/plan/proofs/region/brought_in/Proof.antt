@@ -17,9 +17,6 @@ supplies-requires c κs = let r = counted (c .pre .2 .accepted) in (c .pre .0, o
 edge-flows-requires : tie.Need-edge-flows-requires
 edge-flows-requires c κs = let s = c .before in (step-flows (s .pre .2), s .pre .1)
 
-duration-requires : tie.Need-duration-requires
-duration-requires c κs = search needs
-
 add-result : tie.Need-add-result
 add-result c =
     let s = c .before .before .before in
@@ -60,12 +57,5 @@ returns c =
     held (d *ʳ held (x +ʳ y) tt) tt .val
 
 pub brought-in-spec : {M : Type 1} → statement M
-brought-in-spec =
-    tie.close
-    (tie.spec
-    supplies-requires
-    edge-flows-requires
-    duration-requires
-    add-result
-    mul-result
-    returns)
+brought-in-spec = tie.close (tie.spec
+    supplies-requires edge-flows-requires (λ c κs. search needs) add-result mul-result returns)

@@ -12,18 +12,6 @@ use Rattle.plan.proofs.RegionSums.{read-sized}
 use Rattle.plan.proofs.region.edge_flow.Statement.{statement}
 use Rattle.plan.proofs.region.edge_flow.Tie as tie
 
-arc-requires : tie.Need-arc-requires
-arc-requires c κs = search needs
-
-end-flows-requires : tie.Need-end-flows-requires
-end-flows-requires c κs = search needs
-
-member-requires : tie.Need-member-requires
-member-requires c κs = search needs
-
-member-requires-2 : tie.Need-member-requires-2
-member-requires-2 c κs = search needs
-
 inward-requires : tie.Need-inward-requires
 inward-requires c κs =
     let f = c .before .before .before .before in
@@ -42,12 +30,5 @@ returns c =
     read-sized {x = 20000000} (record { bound = edge-small (s .pre .0) (s .args .set) (s .args .e) (s .pre .1) }) (c .inward .ensures ∙ inward-same b d x y) tt
 
 pub edge-flow-spec : {M : Type 1} → statement M
-edge-flow-spec =
-    tie.close
-    (tie.spec
-    arc-requires
-    end-flows-requires
-    member-requires
-    member-requires-2
-    inward-requires
-    returns)
+edge-flow-spec = tie.close (tie.spec
+    (λ c κs. search needs) (λ c κs. search needs) (λ c κs. search needs) (λ c κs. search needs) inward-requires returns)

@@ -37,12 +37,6 @@ add-sum c =
     add-fits (edgeFlow (now (s .args .case)) z (now (s .args .rows))) (arcsOf (now (s .args .case))) 20000000 (edge-small (s .pre .0) z)
     (omega (arith, mul-le-mul-right 20000000 (counted (s .pre .0 .accepted) .arcs))) (l .loop .e) (omega arith) (l .loop .inv .1) (c .before .before .edge-flow .ensures)
 
-add-e : tie.Need-add-e Inv-loop μ-loop
-add-e c = omega arith
-
-loop-less : tie.Need-loop-less Inv-loop μ-loop
-loop-less c = omega arith
-
 loop-again : tie.Need-loop-again Inv-loop μ-loop
 loop-again c =
     let l = c .before .before .before .before in
@@ -64,15 +58,5 @@ returns c =
     ∙ ap (λ (y : ℤ). edgeFlows (now (s .args .case)) y (now (s .args .rows))) (toZ-ofZ (s .fits .set))
 
 pub edge-flows-spec : {M : Type 1} → statement M
-edge-flows-spec =
-    tie.close
-    (tie.spec
-    Inv-loop
-    μ-loop
-    loop-holds
-    edge-flow-requires
-    add-sum
-    add-e
-    loop-less
-    loop-again
-    returns)
+edge-flows-spec = tie.close (tie.spec
+    Inv-loop μ-loop loop-holds edge-flow-requires add-sum (λ c. omega arith) (λ c. omega arith) loop-again returns)

@@ -13,12 +13,6 @@ use Rattle.plan.proofs.RegionSums.{read-sized}
 use Rattle.plan.proofs.region.inner_gas.Statement.{statement}
 use Rattle.plan.proofs.region.inner_gas.Tie as tie
 
-inner-pipe-requires : tie.Need-inner-pipe-requires
-inner-pipe-requires c κs = search needs
-
-pipe-gas-requires : tie.Need-pipe-gas-requires
-pipe-gas-requires c κs = search needs
-
 returns : tie.Need-returns
 unfolding innerGas gasPart
 returns c =
@@ -36,4 +30,4 @@ returns-2 c =
     only-no _ (ap (λ (z : ℤ). innerPipe (now (s .args .case)) z (s .args .e)) (sym (toZ-ofZ (s .fits .set))) ∙ sym (a .inner-pipe .ensures) ∙ c .if1 .left)
 
 pub inner-gas-spec : {M : Type 1} → statement M
-inner-gas-spec = tie.close (tie.spec inner-pipe-requires pipe-gas-requires returns returns-2)
+inner-gas-spec = tie.close (tie.spec (λ c κs. search needs) (λ c κs. search needs) returns returns-2)

@@ -13,15 +13,6 @@ use Rattle.plan.proofs.RegionTests.{all-three, not-first, not-second}
 use Rattle.plan.proofs.region.inner_pipe.Statement.{statement}
 use Rattle.plan.proofs.region.inner_pipe.Tie as tie
 
-arc-requires : tie.Need-arc-requires
-arc-requires c κs = search needs
-
-member-requires : tie.Need-member-requires
-member-requires c κs = search needs
-
-member-requires-2 : tie.Need-member-requires-2
-member-requires-2 c κs = search needs
-
 returns : tie.Need-returns
 returns c =
     let a = c .before .before .before .before .before in
@@ -44,5 +35,5 @@ returns-3 c =
     not-first _ (ap (λ (x : Arc). eqb (x .kind) 2) (sym (a .arc .ensures)) ∙ ne-eqb _ _ (c .if1 .left))
 
 pub inner-pipe-spec : {M : Type 1} → statement M
-inner-pipe-spec =
-    tie.close (tie.spec arc-requires member-requires member-requires-2 returns returns-2 returns-3)
+inner-pipe-spec = tie.close (tie.spec
+    (λ c κs. search needs) (λ c κs. search needs) (λ c κs. search needs) returns returns-2 returns-3)

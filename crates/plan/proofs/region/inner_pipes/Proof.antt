@@ -27,12 +27,6 @@ abbrev μ-loop : tie.MeasureT-loop
 loop-holds : tie.Need-loop-holds Inv-loop μ-loop
 loop-holds c = (omega arith, sym (sumN-none _))
 
-inner-pipe-requires : tie.Need-inner-pipe-requires Inv-loop μ-loop
-inner-pipe-requires c κs = search needs
-
-one-if-requires : tie.Need-one-if-requires Inv-loop μ-loop
-one-if-requires c κs = search needs
-
 add-n : tie.Need-add-n Inv-loop μ-loop
 add-n c =
     let l = c .before .before .before in
@@ -40,12 +34,6 @@ add-n c =
     let z = toZ w64 (ofZ w64 (s .args .set)) in
     addN-fits (λ j. onlyN (innerPipe (now (s .args .case)) z j) 1) (s .args .arcs) 1 (λ j b. onlyN-most (innerPipe (now (s .args .case)) z j)) (omega (arith, s .pre .1, counted (s .pre .0) .arcs)) (l .loop .e) (omega arith) (l .loop .inv .1)
     (c .one-if .ensures ∙ ap (λ (b : Bool). onlyN b 1) (c .before .inner-pipe .ensures))
-
-add-e : tie.Need-add-e Inv-loop μ-loop
-add-e c = omega arith
-
-loop-less : tie.Need-loop-less Inv-loop μ-loop
-loop-less c = omega arith
 
 loop-again : tie.Need-loop-again Inv-loop μ-loop
 loop-again c =
@@ -68,16 +56,6 @@ returns c =
     ∙ ap (λ (y : ℤ). innerPipes (now (s .args .case)) y) (toZ-ofZ (s .fits .set))
 
 pub inner-pipes-spec : {M : Type 1} → statement M
-inner-pipes-spec =
-    tie.close
-    (tie.spec
-    Inv-loop
-    μ-loop
-    loop-holds
-    inner-pipe-requires
-    one-if-requires
-    add-n
-    add-e
-    loop-less
-    loop-again
-    returns)
+inner-pipes-spec = tie.close (tie.spec
+    Inv-loop μ-loop loop-holds (λ c κs. search needs) (λ c κs. search needs) add-n (λ c. omega arith) (λ c. omega arith)
+    loop-again returns)

@@ -8,12 +8,6 @@ use Rattle.plan.proofs.RegionTests.{onlyN-yes, onlyN-no}
 use Rattle.plan.proofs.region.own_node.Statement.{statement}
 use Rattle.plan.proofs.region.own_node.Tie as tie
 
-member-requires : tie.Need-member-requires
-member-requires c κs = search needs
-
-node-residual-requires : tie.Need-node-residual-requires
-node-residual-requires c κs = search needs
-
 returns : tie.Need-returns
 unfolding ownNode
 returns c =
@@ -29,4 +23,4 @@ returns-2 c =
     onlyN-no _ (ap (λ (z : ℤ). memberOf z (s .args .v)) (sym (toZ-ofZ (s .fits .set))) ∙ sym (a .member .ensures) ∙ c .if1 .left)
 
 pub own-node-spec : {M : Type 1} → statement M
-own-node-spec = tie.close (tie.spec member-requires node-residual-requires returns returns-2)
+own-node-spec = tie.close (tie.spec (λ c κs. search needs) (λ c κs. search needs) returns returns-2)

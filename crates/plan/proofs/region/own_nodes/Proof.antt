@@ -60,12 +60,6 @@ add-sum c =
     addN-fits (ownNode (now (s .args .case)) z (now (s .args .rows)) (s .args .i)) (nodesOf (now (s .args .case))) 1000000 (own-node-small (s .pre .2) z)
     (omega (arith, mul-le-mul-right 1000000 (counted (s .pre .2 .accepted) .nodes))) (l .loop .v) (omega arith) (l .loop .inv .1) (c .own-node .ensures)
 
-add-v : tie.Need-add-v Inv-loop μ-loop
-add-v c = omega arith
-
-loop-less : tie.Need-loop-less Inv-loop μ-loop
-loop-less c = omega arith
-
 loop-again : tie.Need-loop-again Inv-loop μ-loop
 loop-again c =
     let l = c .before .before .before in
@@ -84,18 +78,6 @@ returns c =
     ∙ ap (λ (y : ℤ). ownNodes (now (s .args .case)) y (now (s .args .rows)) (s .args .i)) (toZ-ofZ (s .fits .set))
 
 pub own-nodes-spec : {M : Type 1} → statement M
-own-nodes-spec =
-    tie.close
-    (tie.spec
-    Inv-loop
-    μ-loop
-    net-flows-requires
-    loop-holds
-    mul-own-node
-    array-copy-out-own-node
-    own-node-requires
-    add-sum
-    add-v
-    loop-less
-    loop-again
-    returns)
+own-nodes-spec = tie.close (tie.spec
+    Inv-loop μ-loop net-flows-requires loop-holds mul-own-node array-copy-out-own-node own-node-requires add-sum
+    (λ c. omega arith) (λ c. omega arith) loop-again returns)

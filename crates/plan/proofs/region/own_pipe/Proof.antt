@@ -13,9 +13,6 @@ use Rattle.plan.proofs.RegionTests.{onlyN-yes, onlyN-no}
 use Rattle.plan.proofs.region.own_pipe.Statement.{statement}
 use Rattle.plan.proofs.region.own_pipe.Tie as tie
 
-inner-pipe-requires : tie.Need-inner-pipe-requires
-inner-pipe-requires c κs = search needs
-
 pipe-residual-requires : tie.Need-pipe-residual-requires
 pipe-residual-requires c κs =
     let a = c .before in
@@ -50,4 +47,4 @@ returns-2 c =
     onlyN-no _ (ap (λ (z : ℤ). innerPipe (now (s .args .case)) z (s .args .e)) (sym (toZ-ofZ (s .fits .set))) ∙ sym (a .inner-pipe .ensures) ∙ c .if1 .left)
 
 pub own-pipe-spec : {M : Type 1} → statement M
-own-pipe-spec = tie.close (tie.spec inner-pipe-requires pipe-residual-requires returns returns-2)
+own-pipe-spec = tie.close (tie.spec (λ c κs. search needs) pipe-residual-requires returns returns-2)

@@ -37,12 +37,6 @@ add-sum c =
     addN-fits (ownPipe (now (s .args .case)) z (numberAt (now (s .args .old))) (now (s .args .rows)) (s .args .i)) (arcsOf (now (s .args .case))) 1000000 (own-pipe-small (s .pre .1) z)
     (omega (arith, mul-le-mul-right 1000000 (counted (s .pre .1 .accepted) .arcs))) (l .loop .e) (omega arith) (l .loop .inv .1) (c .own-pipe .ensures)
 
-add-e : tie.Need-add-e Inv-loop μ-loop
-add-e c = omega arith
-
-loop-less : tie.Need-loop-less Inv-loop μ-loop
-loop-less c = omega arith
-
 loop-again : tie.Need-loop-again Inv-loop μ-loop
 loop-again c =
     let l = c .before .before in
@@ -61,15 +55,5 @@ returns c =
     ∙ ap (λ (y : ℤ). ownPipes (now (s .args .case)) y (numberAt (now (s .args .old))) (now (s .args .rows)) (s .args .i)) (toZ-ofZ (s .fits .set))
 
 pub own-pipes-spec : {M : Type 1} → statement M
-own-pipes-spec =
-    tie.close
-    (tie.spec
-    Inv-loop
-    μ-loop
-    loop-holds
-    own-pipe-requires
-    add-sum
-    add-e
-    loop-less
-    loop-again
-    returns)
+own-pipes-spec = tie.close (tie.spec
+    Inv-loop μ-loop loop-holds own-pipe-requires add-sum (λ c. omega arith) (λ c. omega arith) loop-again returns)

@@ -37,12 +37,6 @@ add-sum c =
     add-fits (innerGas (now (s .args .case)) z (numberAt (now (s .args .pressures)))) (arcsOf (now (s .args .case))) 40000000000000 (inner-gas-small (s .pre .0) z)
     (omega (arith, mul-le-mul-right 40000000000000 (counted (s .pre .0 .accepted) .arcs))) (l .loop .e) (omega arith) (l .loop .inv .1) (c .before .before .inner-gas .ensures)
 
-add-e : tie.Need-add-e Inv-loop μ-loop
-add-e c = omega arith
-
-loop-less : tie.Need-loop-less Inv-loop μ-loop
-loop-less c = omega arith
-
 loop-again : tie.Need-loop-again Inv-loop μ-loop
 loop-again c =
     let l = c .before .before .before .before in
@@ -64,15 +58,5 @@ returns c =
     ∙ ap (λ (y : ℤ). regionGas (now (s .args .case)) y (numberAt (now (s .args .pressures)))) (toZ-ofZ (s .fits .set))
 
 pub region-gas-spec : {M : Type 1} → statement M
-region-gas-spec =
-    tie.close
-    (tie.spec
-    Inv-loop
-    μ-loop
-    loop-holds
-    inner-gas-requires
-    add-sum
-    add-e
-    loop-less
-    loop-again
-    returns)
+region-gas-spec = tie.close (tie.spec
+    Inv-loop μ-loop loop-holds inner-gas-requires add-sum (λ c. omega arith) (λ c. omega arith) loop-again returns)

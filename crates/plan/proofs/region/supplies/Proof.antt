@@ -25,9 +25,6 @@ abbrev μ-loop : tie.MeasureT-loop
 loop-holds : tie.Need-loop-holds Inv-loop μ-loop
 loop-holds c = (omega arith, sym (sum-none _))
 
-supply-requires : tie.Need-supply-requires Inv-loop μ-loop
-supply-requires c κs = omega arith
-
 add-sum : tie.Need-add-sum Inv-loop μ-loop
 add-sum c =
     let l = c .before .before .before .before in
@@ -35,12 +32,6 @@ add-sum c =
     let z = toZ w64 (ofZ w64 (s .args .set)) in
     add-fits (regionSupply z (now (s .args .rows))) (nodesOf (now (s .args .case))) 10000000 (supply-small (s .pre .2) z)
     (omega (arith, mul-le-mul-right {m = nodesOf (now (s .args .case))} {n = 60} 10000000 (omega arith))) (l .loop .v) (omega arith) (l .loop .inv .1) (c .before .before .supply .ensures)
-
-add-v : tie.Need-add-v Inv-loop μ-loop
-add-v c = omega arith
-
-loop-less : tie.Need-loop-less Inv-loop μ-loop
-loop-less c = omega arith
 
 loop-again : tie.Need-loop-again Inv-loop μ-loop
 loop-again c =
@@ -63,15 +54,5 @@ returns c =
     ∙ ap (λ (y : ℤ). suppliesIn (now (s .args .case)) y (now (s .args .rows))) (toZ-ofZ (s .fits .set))
 
 pub supplies-spec : {M : Type 1} → statement M
-supplies-spec =
-    tie.close
-    (tie.spec
-    Inv-loop
-    μ-loop
-    loop-holds
-    supply-requires
-    add-sum
-    add-v
-    loop-less
-    loop-again
-    returns)
+supplies-spec = tie.close (tie.spec
+    Inv-loop μ-loop loop-holds (λ c κs. omega arith) add-sum (λ c. omega arith) (λ c. omega arith) loop-again returns)

@@ -10,12 +10,6 @@ use Rattle.plan.proofs.RegionTests.{only-yes, only-no}
 use Rattle.plan.proofs.region.supply.Statement.{statement}
 use Rattle.plan.proofs.region.supply.Tie as tie
 
-member-requires : tie.Need-member-requires
-member-requires c κs = search needs
-
-node-row-requires : tie.Need-node-row-requires
-node-row-requires c κs = search needs
-
 returns : tie.Need-returns
 unfolding regionSupply
 returns c =
@@ -34,4 +28,4 @@ returns-2 c =
     only-no _ (ap (λ (z : ℤ). memberOf z (s .args .v)) (sym (toZ-ofZ (s .fits .set))) ∙ sym (a .member .ensures) ∙ c .if1 .left)
 
 pub supply-spec : {M : Type 1} → statement M
-supply-spec = tie.close (tie.spec member-requires node-row-requires returns returns-2)
+supply-spec = tie.close (tie.spec (λ c κs. search needs) (λ c κs. search needs) returns returns-2)

@@ -16,24 +16,6 @@ use Rattle.plan.specs.inside.RegionSizes.{brought-small, residual-small}
 use Rattle.plan.proofs.region.with_step.Statement.{statement}
 use Rattle.plan.proofs.region.with_step.Tie as tie
 
-slice-aggregate-brought-in : tie.Need-slice-aggregate-brought-in
-slice-aggregate-brought-in c = search needs
-
-brought-in-requires : tie.Need-brought-in-requires
-brought-in-requires c κs = search needs
-
-slice-aggregate-own-nodes : tie.Need-slice-aggregate-own-nodes
-slice-aggregate-own-nodes c = search needs
-
-own-nodes-requires : tie.Need-own-nodes-requires
-own-nodes-requires c κs = search needs
-
-slice-aggregate-own-pipes : tie.Need-slice-aggregate-own-pipes
-slice-aggregate-own-pipes c = search needs
-
-own-pipes-requires : tie.Need-own-pipes-requires
-own-pipes-requires c κs = search needs
-
 together-requires : tie.Need-together-requires
 unfolding regionResidual
 together-requires c κs =
@@ -91,17 +73,6 @@ returns c =
     }
 
 pub with-step-spec : {M : Type 1} → statement M
-with-step-spec =
-    tie.close
-    (tie.spec
-    slice-aggregate-brought-in
-    brought-in-requires
-    slice-aggregate-own-nodes
-    own-nodes-requires
-    slice-aggregate-own-pipes
-    own-pipes-requires
-    together-requires
-    row-pressures-requires
-    add-t21
-    add-t22
-    returns)
+with-step-spec = tie.close (tie.spec
+    (λ c. search needs) (λ c κs. search needs) (λ c. search needs) (λ c κs. search needs) (λ c. search needs)
+    (λ c κs. search needs) together-requires row-pressures-requires add-t21 add-t22 returns)

@@ -16,41 +16,20 @@ nodes-is c = c .index .ensures ∙ ap posPart (kept _ (c .before .at .ok) ∙ c 
 
 -- [/pre]
 
-at-requires : tie.Need-at-requires
-at-requires c κs = search needs
-
-index-requires : tie.Need-index-requires
-index-requires c κs = search needs
-
 mul-offset : tie.Need-mul-offset
 mul-offset c = let n = nodes-is c in omega (arith, n, c .before .before .pre .0 .nodes)
-
-mul-offset-2 : tie.Need-mul-offset-2
-mul-offset-2 c = search needs
 
 add-offset : tie.Need-add-offset
 add-offset c = let n = nodes-is c in omega (arith, n, c .before .before .pre .0 .nodes, c .before .before .pre .0 .arcs, c .before .before .pre .1)
 
-at-requires-2 : tie.Need-at-requires-2
-at-requires-2 c κs = search needs
-
 add-at : tie.Need-add-at
 add-at c = let n = nodes-is (c .before) in omega (arith, n, c .before .before .before .pre .0 .nodes, c .before .before .before .pre .0 .arcs, c .before .before .before .pre .1)
-
-at-requires-3 : tie.Need-at-requires-3
-at-requires-3 c κs = search needs
 
 add-at-2 : tie.Need-add-at-2
 add-at-2 c = let n = nodes-is (c .before .before) in omega (arith, n, c .before .before .before .before .pre .0 .nodes, c .before .before .before .before .pre .0 .arcs, c .before .before .before .before .pre .1)
 
-at-requires-4 : tie.Need-at-requires-4
-at-requires-4 c κs = search needs
-
 add-at-3 : tie.Need-add-at-3
 add-at-3 c = let n = nodes-is (c .before .before .before) in omega (arith, n, c .before .before .before .before .before .pre .0 .nodes, c .before .before .before .before .before .pre .0 .arcs, c .before .before .before .before .before .pre .1)
-
-at-requires-5 : tie.Need-at-requires-5
-at-requires-5 c κs = search needs
 
 returns : tie.Need-returns
 returns c =
@@ -62,19 +41,6 @@ returns c =
     rw (k0, k1, k2, k3)
 
 pub arc-row-spec : {M : Type 1} → statement M
-arc-row-spec =
-    tie.close
-    (tie.spec
-    at-requires
-    index-requires
-    mul-offset
-    mul-offset-2
-    add-offset
-    at-requires-2
-    add-at
-    at-requires-3
-    add-at-2
-    at-requires-4
-    add-at-3
-    at-requires-5
-    returns)
+arc-row-spec = tie.close (tie.spec
+    (λ c κs. search needs) (λ c κs. search needs) mul-offset (λ c. search needs) add-offset (λ c κs. search needs)
+    add-at (λ c κs. search needs) add-at-2 (λ c κs. search needs) add-at-3 (λ c κs. search needs) returns)

@@ -19,18 +19,6 @@ arcs-is c = c .index2 .ensures ∙ ap posPart (kept _ (c .before .at2 .ok) ∙ c
 
 -- [/pre]
 
-at-requires : tie.Need-at-requires
-at-requires c κs = search needs
-
-index-requires : tie.Need-index-requires
-index-requires c κs = search needs
-
-at-requires-2 : tie.Need-at-requires-2
-at-requires-2 c κs = search needs
-
-index-requires-2 : tie.Need-index-requires-2
-index-requires-2 c κs = search needs
-
 mul-offset : tie.Need-mul-offset
 mul-offset c = let n = nodes-is (c .before .before) in omega (arith, n, c .before .before .before .before .pre .0 .nodes)
 
@@ -40,20 +28,11 @@ mul-offset-2 c = let m = arcs-is c in omega (arith, m, c .before .before .before
 add-offset : tie.Need-add-offset
 add-offset c = let n = nodes-is (c .before .before) in let m = arcs-is c in omega (arith, n, m, c .before .before .before .before .pre .0 .nodes, c .before .before .before .before .pre .0 .arcs)
 
-mul-offset-3 : tie.Need-mul-offset-3
-mul-offset-3 c = search needs
-
 add-offset-2 : tie.Need-add-offset-2
 add-offset-2 c = let n = nodes-is (c .before .before) in let m = arcs-is c in omega (arith, n, m, c .before .before .before .before .pre .0 .nodes, c .before .before .before .before .pre .0 .arcs, c .before .before .before .before .pre .0 .stations, c .before .before .before .before .pre .1)
 
-at-requires-3 : tie.Need-at-requires-3
-at-requires-3 c κs = search needs
-
 add-at : tie.Need-add-at
 add-at c = let n = nodes-is (c .before .before .before) in let m = arcs-is (c .before) in omega (arith, n, m, c .before .before .before .before .before .pre .0 .nodes, c .before .before .before .before .before .pre .0 .arcs, c .before .before .before .before .before .pre .0 .stations, c .before .before .before .before .before .pre .1)
-
-at-requires-4 : tie.Need-at-requires-4
-at-requires-4 c κs = search needs
 
 returns : tie.Need-returns
 returns c =
@@ -64,19 +43,6 @@ returns c =
     rw (k0, k1)
 
 pub choice-of-spec : {M : Type 1} → statement M
-choice-of-spec =
-    tie.close
-    (tie.spec
-    at-requires
-    index-requires
-    at-requires-2
-    index-requires-2
-    mul-offset
-    mul-offset-2
-    add-offset
-    mul-offset-3
-    add-offset-2
-    at-requires-3
-    add-at
-    at-requires-4
-    returns)
+choice-of-spec = tie.close (tie.spec
+    (λ c κs. search needs) (λ c κs. search needs) (λ c κs. search needs) (λ c κs. search needs) mul-offset mul-offset-2
+    add-offset (λ c. search needs) add-offset-2 (λ c κs. search needs) add-at (λ c κs. search needs) returns)

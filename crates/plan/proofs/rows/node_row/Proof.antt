@@ -4,42 +4,6 @@ use borrow.Author.Needs.{needs}
 use Rattle.plan.proofs.rows.node_row.Statement.{statement}
 use Rattle.plan.proofs.rows.node_row.Tie as tie
 
-mul-offset : tie.Need-mul-offset
-mul-offset c = search needs
-
-at-requires : tie.Need-at-requires
-at-requires c κs = search needs
-
-add-at : tie.Need-add-at
-add-at c = search needs
-
-at-requires-2 : tie.Need-at-requires-2
-at-requires-2 c κs = search needs
-
-add-at-2 : tie.Need-add-at-2
-add-at-2 c = search needs
-
-at-requires-3 : tie.Need-at-requires-3
-at-requires-3 c κs = search needs
-
-add-at-3 : tie.Need-add-at-3
-add-at-3 c = search needs
-
-at-requires-4 : tie.Need-at-requires-4
-at-requires-4 c κs = search needs
-
-add-at-4 : tie.Need-add-at-4
-add-at-4 c = search needs
-
-at-requires-5 : tie.Need-at-requires-5
-at-requires-5 c κs = search needs
-
-add-at-5 : tie.Need-add-at-5
-add-at-5 c = search needs
-
-at-requires-6 : tie.Need-at-requires-6
-at-requires-6 c κs = search needs
-
 returns : tie.Need-returns
 returns c =
     let a = c .before .before .before .before .before .before .args in
@@ -52,19 +16,7 @@ returns c =
     rw (k0, k1, k2, k3, k4, k5)
 
 pub node-row-spec : {M : Type 1} → statement M
-node-row-spec =
-    tie.close
-    (tie.spec
-    mul-offset
-    at-requires
-    add-at
-    at-requires-2
-    add-at-2
-    at-requires-3
-    add-at-3
-    at-requires-4
-    add-at-4
-    at-requires-5
-    add-at-5
-    at-requires-6
-    returns)
+node-row-spec = tie.close (tie.spec
+    (λ c. search needs) (λ c κs. search needs) (λ c. search needs) (λ c κs. search needs) (λ c. search needs)
+    (λ c κs. search needs) (λ c. search needs) (λ c κs. search needs) (λ c. search needs) (λ c κs. search needs)
+    (λ c. search needs) (λ c κs. search needs) returns)

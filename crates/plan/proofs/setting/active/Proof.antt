@@ -6,21 +6,6 @@ use Rattle.plan.specs.law.Setting.{activeOf}
 use Rattle.plan.proofs.setting.active.Statement.{statement}
 use Rattle.plan.proofs.setting.active.Tie as tie
 
-valve-requires : tie.Need-valve-requires
-valve-requires c κs = search needs
-
-directed-requires : tie.Need-directed-requires
-directed-requires c κs = search needs
-
-directed-requires-2 : tie.Need-directed-requires-2
-directed-requires-2 c κs = search needs
-
-directed-requires-3 : tie.Need-directed-requires-3
-directed-requires-3 c κs = search needs
-
-combined-requires : tie.Need-combined-requires
-combined-requires c κs = search needs
-
 returns : tie.Need-returns
 unfolding activeOf
 returns c = rw (c .before .match .keys1) (c .valve .ensures)
@@ -53,17 +38,6 @@ returns-6 c =
     rw (ne-eqb _ _ (r .0 .0 .0 .1), lt-leb _ _ n, ne-eqb _ _ (r .0 .0 .1), ne-eqb _ _ (r .0 .1), ne-eqb _ _ (r .1)) (c .combined .ensures)
 
 pub active-spec : {M : Type 1} → statement M
-active-spec =
-    tie.close
-    (tie.spec
-    valve-requires
-    directed-requires
-    directed-requires-2
-    directed-requires-3
-    combined-requires
-    returns
-    returns-2
-    returns-3
-    returns-4
-    returns-5
-    returns-6)
+active-spec = tie.close (tie.spec
+    (λ c κs. search needs) (λ c κs. search needs) (λ c κs. search needs) (λ c κs. search needs) (λ c κs. search needs)
+    returns returns-2 returns-3 returns-4 returns-5 returns-6)

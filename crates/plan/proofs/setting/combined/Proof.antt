@@ -4,15 +4,6 @@ use Rattle.plan.specs.law.Setting.{combinedOf}
 use Rattle.plan.proofs.setting.combined.Statement.{statement}
 use Rattle.plan.proofs.setting.combined.Tie as tie
 
-directed-requires : tie.Need-directed-requires
-directed-requires c κs = search needs
-
-sub-directed : tie.Need-sub-directed
-sub-directed c = search needs
-
-directed-requires-2 : tie.Need-directed-requires-2
-directed-requires-2 c κs = search needs
-
 returns : tie.Need-returns
 unfolding combinedOf
 returns c = rw (le-leb _ _ (c .before .if1 .taken)) (c .directed .ensures)
@@ -22,5 +13,4 @@ unfolding combinedOf
 returns-2 c = rw (lt-leb _ _ (c .before .if1 .left)) (c .directed2 .ensures)
 
 pub combined-spec : {M : Type 1} → statement M
-combined-spec =
-    tie.close (tie.spec directed-requires sub-directed directed-requires-2 returns returns-2)
+combined-spec = tie.close (tie.spec (λ c κs. search needs) (λ c. search needs) (λ c κs. search needs) returns returns-2)

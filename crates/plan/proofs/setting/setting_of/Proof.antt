@@ -12,15 +12,6 @@ use Prim.Native.Nat.{_-_}
 use Rattle.plan.proofs.setting.setting_of.Statement.{statement}
 use Rattle.plan.proofs.setting.setting_of.Tie as tie
 
-at-most-requires : tie.Need-at-most-requires
-at-most-requires c κs = search needs
-
-index-requires : tie.Need-index-requires
-index-requires c κs = search needs
-
-active-requires : tie.Need-active-requires
-active-requires c κs = search needs
-
 returns : tie.Need-returns
 unfolding settingOf
 returns c =
@@ -50,6 +41,5 @@ returns-3 c =
     rw e
 
 pub setting-of-spec : {M : Type 1} → statement M
-setting-of-spec =
-    tie.close
-    (tie.spec at-most-requires index-requires active-requires returns returns-2 returns-3)
+setting-of-spec = tie.close (tie.spec
+    (λ c κs. search needs) (λ c κs. search needs) (λ c κs. search needs) returns returns-2 returns-3)

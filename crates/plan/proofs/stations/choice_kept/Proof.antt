@@ -27,9 +27,6 @@ mul-offset c = omega (arith, c .pre .0 .station, counted (c .pre .0 .at .accepte
 element-copy-out-offset : tie.Need-element-copy-out-offset
 element-copy-out-offset c = omega (arith, c .pre .0 .station, counted (c .pre .0 .at .accepted) .stations)
 
-station-requires : tie.Need-station-requires
-station-requires c κs = search needs
-
 -- the station and the choice that were read
 station-is : (c : tie.After-station) → c .station .result ≡ stationOf (now (c .before .before .args .case)) (c .before .before .args .s)
 station-is c = let s = c .before .before in c .station .ensures ∙ ap (stationRow (now (s .args .case))) (s .pre .0 .at .laid .offsets .each (s .args .s) (s .pre .0 .station))
@@ -49,18 +46,6 @@ state-in c = let t = c .before .before .before .before in c .one-of2 .ensures �
 choice-of-requires : tie.Need-choice-of-requires
 choice-of-requires c κs = let s = c .before .before in (counted (s .pre .0 .at .accepted), s .pre .0 .station)
 
-one-of-requires : tie.Need-one-of-requires
-one-of-requires c κs = search needs
-
-one-of-requires-2 : tie.Need-one-of-requires-2
-one-of-requires-2 c κs = search needs
-
-index-requires : tie.Need-index-requires
-index-requires c κs = search needs
-
-index-requires-2 : tie.Need-index-requires-2
-index-requires-2 c κs = search needs
-
 -- the active arcs, as a signed number
 small : (c : tie.After-one-of2) → c .before .before .before .before .before .before .before .before .args .active < 2 ^ 63
 small c =
@@ -69,9 +54,6 @@ small c =
 
 cast-state-obeyed : tie.Need-cast-state-obeyed
 cast-state-obeyed c = record { sfits = small (c .before) }
-
-state-obeyed-requires : tie.Need-state-obeyed-requires
-state-obeyed-requires c κs = search needs
 
 returns : tie.Need-returns
 unfolding choiceKept activeSet
@@ -104,19 +86,7 @@ unfolding choiceKept
 returns-3 c = rw (sym (direction-in (c .before)) ∙ c .if1 .left)
 
 pub choice-kept-spec : {M : Type 1} → statement M
-choice-kept-spec =
-    tie.close
-    (tie.spec
-    mul-offset
-    element-copy-out-offset
-    station-requires
-    choice-of-requires
-    one-of-requires
-    one-of-requires-2
-    cast-state-obeyed
-    index-requires
-    index-requires-2
-    state-obeyed-requires
-    returns
-    returns-2
-    returns-3)
+choice-kept-spec = tie.close (tie.spec
+    mul-offset element-copy-out-offset (λ c κs. search needs) choice-of-requires (λ c κs. search needs)
+    (λ c κs. search needs) cast-state-obeyed (λ c κs. search needs) (λ c κs. search needs) (λ c κs. search needs)
+    returns returns-2 returns-3)

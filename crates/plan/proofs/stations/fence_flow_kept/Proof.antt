@@ -7,17 +7,8 @@ use Rattle.plan.specs.law.Compared.{isZero}
 use Rattle.plan.proofs.stations.fence_flow_kept.Statement.{statement}
 use Rattle.plan.proofs.stations.fence_flow_kept.Tie as tie
 
-at-most-requires : tie.Need-at-most-requires
-at-most-requires c κs = search needs
-
 returns : tie.Need-returns
 returns c = rw (c .before .if1 .taken) (c .at-most .ensures ∙ ap (leZ (pos 0)) (toZ-ofZ (c .before .before .fits .flow)))
-
-at-most-requires-2 : tie.Need-at-most-requires-2
-at-most-requires-2 c κs = search needs
-
-same-requires : tie.Need-same-requires
-same-requires c κs = search needs
 
 returns-2 : tie.Need-returns-2
 returns-2 c = rw (c .before .before .if1 .left, c .before .if2 .taken) (c .at-most2 .ensures ∙ ap (λ (z : ℤ). leZ z (pos 0)) (toZ-ofZ (c .before .before .before .fits .flow)))
@@ -26,6 +17,5 @@ returns-3 : tie.Need-returns-3
 returns-3 c = rw (c .before .before .if1 .left, c .before .if2 .left) (c .same .ensures ∙ ap isZero (toZ-ofZ (c .before .before .before .fits .flow)))
 
 pub fence-flow-kept-spec : {M : Type 1} → statement M
-fence-flow-kept-spec =
-    tie.close
-    (tie.spec at-most-requires returns at-most-requires-2 same-requires returns-2 returns-3)
+fence-flow-kept-spec = tie.close (tie.spec
+    (λ c κs. search needs) returns (λ c κs. search needs) (λ c κs. search needs) returns-2 returns-3)

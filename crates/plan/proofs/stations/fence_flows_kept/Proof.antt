@@ -34,12 +34,6 @@ element-copy-out-direction c = let s = c in omega (arith, s .pre .0 .station, co
 choice-of-requires : tie.Need-choice-of-requires Inv-loop μ-loop
 choice-of-requires c κs = let s = c .before in (counted (s .pre .0 .at .accepted), s .pre .0 .station)
 
-index-requires : tie.Need-index-requires Inv-loop μ-loop
-index-requires c κs = search needs
-
-direction-requires : tie.Need-direction-requires Inv-loop μ-loop
-direction-requires c κs = search needs
-
 mul-inside : tie.Need-mul-inside Inv-loop μ-loop
 mul-inside c = let s = c .before .before .before .before .before in omega (arith, s .pre .0 .station, counted (s .pre .0 .at .accepted) .stations)
 
@@ -91,9 +85,6 @@ mul-fence-kept c = omega (arith, node-in c, counted (c .before .before .before .
 shared-slice-copy-out-fence-kept : tie.Need-shared-slice-copy-out-fence-kept Inv-loop μ-loop
 shared-slice-copy-out-fence-kept c = omega (arith, node-in c, counted (c .before .before .before .before .before .before .before .before .before .pre .0 .at .accepted) .nodes)
 
-fence-kept-requires : tie.Need-fence-kept-requires Inv-loop μ-loop
-fence-kept-requires c κs = search needs
-
 returns : tie.Need-returns Inv-loop μ-loop
 unfolding fenceFlowsKept
 returns c =
@@ -105,12 +96,6 @@ returns c =
     let r = now (s .args .rows) in
     let k = s .args .s in
     sym (every-not (nodesOf l) (fenceKept l r k (directionIn l r k)) (h .loop .v) (node-in t) (sym (found b) ∙ not-true _ (c .if1 .taken)))
-
-add-v : tie.Need-add-v Inv-loop μ-loop
-add-v c = omega arith
-
-loop-less : tie.Need-loop-less Inv-loop μ-loop
-loop-less c = omega arith
 
 loop-again : tie.Need-loop-again Inv-loop μ-loop
 loop-again c =
@@ -131,24 +116,7 @@ returns-2 c =
     sym (rw e at (h .loop .inv .1))
 
 pub fence-flows-kept-spec : {M : Type 1} → statement M
-fence-flows-kept-spec =
-    tie.close
-    (tie.spec
-    Inv-loop
-    μ-loop
-    mul-direction
-    element-copy-out-direction
-    choice-of-requires
-    index-requires
-    direction-requires
-    mul-inside
-    element-copy-out-inside
-    loop-holds
-    mul-fence-kept
-    shared-slice-copy-out-fence-kept
-    fence-kept-requires
-    returns
-    add-v
-    loop-less
-    loop-again
-    returns-2)
+fence-flows-kept-spec = tie.close (tie.spec
+    Inv-loop μ-loop mul-direction element-copy-out-direction choice-of-requires (λ c κs. search needs)
+    (λ c κs. search needs) mul-inside element-copy-out-inside loop-holds mul-fence-kept shared-slice-copy-out-fence-kept
+    (λ c κs. search needs) returns (λ c. omega arith) (λ c. omega arith) loop-again returns-2)

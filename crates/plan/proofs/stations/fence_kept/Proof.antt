@@ -14,21 +14,6 @@ in-station c = let s = c .before in c .member .ensures ∙ ap (λ (z : ℤ). mem
 in-plain : (c : tie.After-member2) → c .member2 .result ≡ memberOf (c .before .before .before .args .plain) (c .before .before .before .args .v)
 in-plain c = let s = c .before .before .before in c .member2 .ensures ∙ ap (λ (z : ℤ). memberOf z (s .args .v)) (toZ-ofZ (s .fits .plain))
 
-member-requires : tie.Need-member-requires
-member-requires c κs = search needs
-
-member-requires-2 : tie.Need-member-requires-2
-member-requires-2 c κs = search needs
-
-member-requires-3 : tie.Need-member-requires-3
-member-requires-3 c κs = search needs
-
-member-requires-4 : tie.Need-member-requires-4
-member-requires-4 c κs = search needs
-
-fence-flow-kept-requires : tie.Need-fence-flow-kept-requires
-fence-flow-kept-requires c κs = search needs
-
 returns : tie.Need-returns
 unfolding fenceNodeKept
 returns c =
@@ -53,14 +38,6 @@ unfolding fenceNodeKept
 returns-3 c = rw (sym (in-station (c .before)) ∙ c .if1 .left)
 
 pub fence-kept-spec : {M : Type 1} → statement M
-fence-kept-spec =
-    tie.close
-    (tie.spec
-    member-requires
-    member-requires-2
-    member-requires-3
-    member-requires-4
-    fence-flow-kept-requires
-    returns
-    returns-2
-    returns-3)
+fence-kept-spec = tie.close (tie.spec
+    (λ c κs. search needs) (λ c κs. search needs) (λ c κs. search needs) (λ c κs. search needs) (λ c κs. search needs)
+    returns returns-2 returns-3)

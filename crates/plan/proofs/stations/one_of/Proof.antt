@@ -11,12 +11,6 @@ use Rattle.plan.proofs.stations.one_of.Tie as tie
 tested : (c : tie.After-at-most) → c .at-most .result ≡ leZ (pos 0) (c .before .args .x)
 tested c = c .at-most .ensures ∙ ap (leZ (pos 0)) (toZ-ofZ (c .before .fits .x))
 
-at-most-requires : tie.Need-at-most-requires
-at-most-requires c κs = search needs
-
-index-requires : tie.Need-index-requires
-index-requires c κs = search needs
-
 returns : tie.Need-returns
 returns c =
     let t = c .before .before in
@@ -27,4 +21,4 @@ returns-2 : tie.Need-returns-2
 returns-2 c = rw (sym (tested (c .before)) ∙ c .if1 .left)
 
 pub one-of-spec : {M : Type 1} → statement M
-one-of-spec = tie.close (tie.spec at-most-requires index-requires returns returns-2)
+one-of-spec = tie.close (tie.spec (λ c κs. search needs) (λ c κs. search needs) returns returns-2)

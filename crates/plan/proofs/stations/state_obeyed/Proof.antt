@@ -22,18 +22,6 @@ all-on c =
     let r = x .before .before .before .before in
     c .subset .ensures ∙ ap₂ subsetOf (kept _ (x .struct-told2 .given .1 .0 .1) ∙ ap (λ (y : State). y .on) (r .state .ensures)) (toZ-ofZ (r .before .fits .active))
 
-state-requires : tie.Need-state-requires
-state-requires c κs = search needs
-
-member-requires : tie.Need-member-requires
-member-requires c κs = search needs
-
-subset-requires : tie.Need-subset-requires
-subset-requires c κs = search needs
-
-disjoint-requires : tie.Need-disjoint-requires
-disjoint-requires c κs = search needs
-
 returns : tie.Need-returns
 unfolding obeyed
 returns c =
@@ -55,13 +43,6 @@ unfolding obeyed
 returns-3 c = rw (sym (supports (c .before)) ∙ c .if1 .left)
 
 pub state-obeyed-spec : {M : Type 1} → statement M
-state-obeyed-spec =
-    tie.close
-    (tie.spec
-    state-requires
-    member-requires
-    subset-requires
-    disjoint-requires
-    returns
-    returns-2
+state-obeyed-spec = tie.close (tie.spec
+    (λ c κs. search needs) (λ c κs. search needs) (λ c κs. search needs) (λ c κs. search needs) returns returns-2
     returns-3)

@@ -20,9 +20,6 @@ Inv-loop case rows layout i stations active once flows s₀ s = (s ≤ stations)
 abbrev μ-loop : tie.MeasureT-loop
 μ-loop case rows layout i stations active once flows s₀ s = stations - s
 
-active-sets-requires : tie.Need-active-sets-requires Inv-loop μ-loop
-active-sets-requires c κs = (c .pre .0 .accepted, c .pre .0 .laid .arcs)
-
 machines-once-requires : tie.Need-machines-once-requires Inv-loop μ-loop
 machines-once-requires c κs = let s = c .before in (s .pre .0 .accepted, s .pre .0 .laid .arcs, s .pre .2)
 
@@ -49,9 +46,6 @@ array-read-station-answer c = omega (arith, station-in c, counted (c .before .be
 array-read-station-answer-2 : tie.Need-array-read-station-answer-2 Inv-loop μ-loop
 array-read-station-answer-2 c = omega (arith, station-in c, counted (c .before .before .before .before .before .pre .0 .accepted) .stations)
 
-slice-aggregate-station-answer : tie.Need-slice-aggregate-station-answer Inv-loop μ-loop
-slice-aggregate-station-answer c = search needs
-
 station-answer-requires : tie.Need-station-answer-requires Inv-loop μ-loop
 station-answer-requires c κs =
     let t = c .before in
@@ -73,9 +67,6 @@ station-answer-requires c κs =
 enum-told : tie.Need-enum-told Inv-loop μ-loop
 enum-told c = search needs
 
-enum-told-2 : tie.Need-enum-told-2 Inv-loop μ-loop
-enum-told-2 c = search needs
-
 returns : tie.Need-returns Inv-loop μ-loop
 returns c =
     let b = c .before .before in
@@ -83,12 +74,6 @@ returns c =
     let h = t .before in
     let a = h .before .before .before .before .args in
     sym (rest-no (stationQuestions (now (a .case)) (now (a .rows)) (a .i)) (h .loop .s) (a .layout .stations) (h .loop .inv .1) (t .loop-test .taken) (b .station-answer .ensures) (c .enum-told2 .given .1))
-
-add-s : tie.Need-add-s Inv-loop μ-loop
-add-s c = omega arith
-
-loop-less : tie.Need-loop-less Inv-loop μ-loop
-loop-less c = omega arith
 
 loop-again : tie.Need-loop-again Inv-loop μ-loop
 loop-again c =
@@ -105,24 +90,8 @@ returns-2 c =
     sym (rest-end (stationQuestions (now (a .case)) (now (a .rows)) (a .i)) (h .loop .s) (a .layout .stations) (h .loop .inv .1) (c .loop-test .left))
 
 pub station-answers-spec : {M : Type 1} → statement M
-station-answers-spec =
-    tie.close
-    (tie.spec
-    Inv-loop
-    μ-loop
-    active-sets-requires
-    machines-once-requires
-    artificial-flows-requires
-    loop-holds
-    mul-station-answer
-    array-read-station-answer
-    array-read-station-answer-2
-    slice-aggregate-station-answer
-    station-answer-requires
-    enum-told
-    enum-told-2
-    returns
-    add-s
-    loop-less
-    loop-again
-    returns-2)
+station-answers-spec = tie.close (tie.spec
+    Inv-loop μ-loop (λ c κs. (c .pre .0 .accepted, c .pre .0 .laid .arcs)) machines-once-requires
+    artificial-flows-requires loop-holds mul-station-answer array-read-station-answer array-read-station-answer-2
+    (λ c. search needs) station-answer-requires enum-told (λ c. search needs) returns (λ c. omega arith)
+    (λ c. omega arith) loop-again returns-2)

@@ -2,12 +2,6 @@ use borrow.Author.Needs.{needs}
 use Rattle.plan.proofs.stepped.stopped.Statement.{statement}
 use Rattle.plan.proofs.stepped.stopped.Tie as tie
 
-enum-told : tie.Need-enum-told
-enum-told c = search needs
-
-enum-known-a : tie.Need-enum-known-a
-enum-known-a c = search needs
-
 returns : tie.Need-returns
 returns c = search needs
 
@@ -15,4 +9,4 @@ returns-2 : tie.Need-returns-2
 returns-2 c = rw (c .before .a .given .1)
 
 pub stopped-spec : {M : Type 1} → statement M
-stopped-spec = tie.close (tie.spec enum-told enum-known-a returns returns-2)
+stopped-spec = tie.close (tie.spec (λ c. search needs) (λ c. search needs) returns returns-2)

@@ -6,20 +6,8 @@ use Rattle.plan.proofs.StepGroups.{stations-stop, stations-passed}
 use Rattle.plan.proofs.steps.past_arcs.Statement.{statement}
 use Rattle.plan.proofs.steps.past_arcs.Tie as tie
 
-station-answers-requires : tie.Need-station-answers-requires
-station-answers-requires c κs = (c .pre .0, c .pre .1, c .pre .3)
-
 enum-told : tie.Need-enum-told
 enum-told c = search needs
-
-balance-requires : tie.Need-balance-requires
-balance-requires c κs = search needs
-
-enum-told-2 : tie.Need-enum-told-2
-enum-told-2 c = search needs
-
-stopped-requires : tie.Need-stopped-requires
-stopped-requires c κs = search needs
 
 returns : tie.Need-returns
 returns c =
@@ -40,13 +28,6 @@ returns-2 c =
     stations-stop l r (a .i) (nodeResiduals l r (a .i)) (e .enum-told2 .given .1) (c .stopped .ensures) (n .station-answers .ensures)
 
 pub past-arcs-spec : {M : Type 1} → statement M
-past-arcs-spec =
-    tie.close
-    (tie.spec
-    station-answers-requires
-    enum-told
-    balance-requires
-    enum-told-2
-    stopped-requires
-    returns
-    returns-2)
+past-arcs-spec = tie.close (tie.spec
+    (λ c κs. (c .pre .0, c .pre .1, c .pre .3)) enum-told (λ c κs. search needs) (λ c. search needs)
+    (λ c κs. search needs) returns returns-2)

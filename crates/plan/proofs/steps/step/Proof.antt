@@ -33,17 +33,8 @@ flows-are c =
     let s = c .before .before .before .before .before .before .before .before in
     flows-sized (now (s .args .case)) (numberAt (s .args .previous .pressures)) (now (s .args .rows)) (s .args .i) (s .pre .0 .accepted) (arcs-yes c)
 
-node-answers-requires : tie.Need-node-answers-requires
-node-answers-requires c κs = search needs
-
 enum-told : tie.Need-enum-told
 enum-told c = search needs
-
-enum-told-2 : tie.Need-enum-told-2
-enum-told-2 c = search needs
-
-stopped-requires : tie.Need-stopped-requires
-stopped-requires c κs = search needs
 
 returns : tie.Need-returns
 returns c =
@@ -54,29 +45,17 @@ returns c =
     let r = now (a .rows) in
     nodes-stop l (numberAt (a .previous .pressures)) r (a .i) (nodeResiduals l r (a .i)) (t .enum-told2 .given .1) (c .stopped .ensures) (n .node-answers .ensures)
 
-slice-aggregate-arc-answers : tie.Need-slice-aggregate-arc-answers
-slice-aggregate-arc-answers c = search needs
-
 arc-answers-requires : tie.Need-arc-answers-requires
 arc-answers-requires c κs =
     let t = c .before in
     let s = t .before .before .before .before in
     (s .pre .0, s .pre .1, pressures-sized (nodes-are t))
 
-enum-told-3 : tie.Need-enum-told-3
-enum-told-3 c = search needs
-
 past-arcs-requires : tie.Need-past-arcs-requires
 past-arcs-requires c κs =
     let t = c .before .before .before .before in
     let s = t .before .before .before .before in
     (s .pre .0, flows-are c, nodes-are t, machines-kept (now (s .args .case)) (numberAt (s .args .previous .pressures)) (now (s .args .rows)) (s .args .i) (arcs-yes c))
-
-enum-told-4 : tie.Need-enum-told-4
-enum-told-4 c = search needs
-
-stopped-requires-2 : tie.Need-stopped-requires-2
-stopped-requires-2 c κs = search needs
 
 returns-2 : tie.Need-returns-2
 returns-2 c =
@@ -98,19 +77,7 @@ returns-3 c =
     arcs-stop l (numberAt (a .previous .pressures)) r (a .i) (nodeResiduals l r (a .i)) (e .enum-told4 .given .1) (c .stopped2 .ensures) (nodes-yes t) (q .arc-answers .ensures)
 
 pub step-spec : {M : Type 1} → statement M
-step-spec =
-    tie.close
-    (tie.spec
-    node-answers-requires
-    enum-told
-    enum-told-2
-    stopped-requires
-    returns
-    slice-aggregate-arc-answers
-    arc-answers-requires
-    enum-told-3
-    past-arcs-requires
-    enum-told-4
-    stopped-requires-2
-    returns-2
+step-spec = tie.close (tie.spec
+    (λ c κs. search needs) enum-told (λ c. search needs) (λ c κs. search needs) returns (λ c. search needs)
+    arc-answers-requires (λ c. search needs) past-arcs-requires (λ c. search needs) (λ c κs. search needs) returns-2
     returns-3)

@@ -55,9 +55,6 @@ step-yes e = kept-yes _ (e .before .before .step .ensures) (e .a .given .1)
 step-width-requires : tie.Need-step-width-requires Inv-loop μ-loop
 step-width-requires c κs = let d = c .pre .1 in let k = counted (c .pre .0) in (omega (arith, d .nodes, k .nodes), omega (arith, d .arcs, k .arcs), omega (arith, d .stations, k .stations))
 
-start-requires : tie.Need-start-requires Inv-loop μ-loop
-start-requires c κs = (counted (c .before .pre .0), c .before .pre .1)
-
 opened-requires : tie.Need-opened-requires Inv-loop μ-loop
 opened-requires c κs =
     let s = c .before .before in
@@ -83,9 +80,6 @@ part-of-requires c κs =
 step-requires : tie.Need-step-requires Inv-loop μ-loop
 step-requires c κs = (at-step (c .before), c .before .before .loop .inv .pressures)
 
-enum-known-a : tie.Need-enum-known-a Inv-loop μ-loop
-enum-known-a c = search needs
-
 added-requires : tie.Need-added-requires Inv-loop μ-loop
 added-requires c κs =
     let p = c .before .before .before .before in
@@ -97,9 +91,6 @@ after-requires : tie.Need-after-requires Inv-loop μ-loop
 after-requires c κs =
     let s = c .before .before .before .before .before .before .before .before .before .before .before in
     (counted (s .pre .0), s .pre .1)
-
-enum-known-a-2 : tie.Need-enum-known-a-2 Inv-loop μ-loop
-enum-known-a-2 c = search needs
 
 returns : tie.Need-returns Inv-loop μ-loop
 returns c =
@@ -139,24 +130,7 @@ returns-2 c =
     finished (s .pre .0) (l .before .loop .inv) (omega (arith, l .loop-test .left, s .pre .1 .steps)) (c .closed .ensures)
 
 pub steps-spec : {M : Type 1} → statement M
-steps-spec =
-    tie.close
-    (tie.spec
-    Inv-loop
-    μ-loop
-    step-width-requires
-    start-requires
-    opened-requires
-    loop-holds
-    part-of-requires
-    step-requires
-    enum-known-a
-    added-requires
-    after-requires
-    enum-known-a-2
-    returns
-    add-i
-    loop-less
-    loop-again
-    closed-requires
-    returns-2)
+steps-spec = tie.close (tie.spec
+    Inv-loop μ-loop step-width-requires (λ c κs. (counted (c .before .pre .0), c .before .pre .1)) opened-requires
+    loop-holds part-of-requires step-requires (λ c. search needs) added-requires after-requires (λ c. search needs)
+    returns add-i loop-less loop-again closed-requires returns-2)

@@ -19,20 +19,8 @@ use Rattle.plan.specs.inside.StepSizes.{both-yes, first-no, second-no}
 use Rattle.plan.proofs.totals.activity_cost.Statement.{statement}
 use Rattle.plan.proofs.totals.activity_cost.Tie as tie
 
-arc-requires : tie.Need-arc-requires
-arc-requires c κs = search needs
-
 arc-row-requires : tie.Need-arc-row-requires
 arc-row-requires c κs = let s = c .before .before .before in (counted (s .pre .0), s .pre .1)
-
-at-most-requires : tie.Need-at-most-requires
-at-most-requires c κs = search needs
-
-changed-requires : tie.Need-changed-requires
-changed-requires c κs = search needs
-
-artificial-requires : tie.Need-artificial-requires
-artificial-requires c κs = search needs
 
 returns : tie.Need-returns
 unfolding activityCost
@@ -75,14 +63,6 @@ returns-3 c =
     first-no (changed (s .args .was) (activeIn l (now (s .args .rows)) (s .args .e))) (artificialOf l (s .args .e) .weight) (lt-leb 3 _ k)
 
 pub activity-cost-spec : {M : Type 1} → statement M
-activity-cost-spec =
-    tie.close
-    (tie.spec
-    arc-requires
-    arc-row-requires
-    at-most-requires
-    changed-requires
-    artificial-requires
-    returns
-    returns-2
-    returns-3)
+activity-cost-spec = tie.close (tie.spec
+    (λ c κs. search needs) arc-row-requires (λ c κs. search needs) (λ c κs. search needs) (λ c κs. search needs) returns
+    returns-2 returns-3)

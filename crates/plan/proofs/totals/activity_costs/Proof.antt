@@ -22,9 +22,6 @@ abbrev μ-loop : tie.MeasureT-loop
 loop-holds : tie.Need-loop-holds Inv-loop μ-loop
 loop-holds c = (omega (arith, counted (c .pre .0) .arcs, c .pre .1), startN)
 
-array-read-activity-cost : tie.Need-array-read-activity-cost Inv-loop μ-loop
-array-read-activity-cost c = omega arith
-
 activity-cost-requires : tie.Need-activity-cost-requires Inv-loop μ-loop
 activity-cost-requires c κs = let s = c .before .before in (s .pre .0, omega (arith, c .loop-test .taken, s .pre .1))
 
@@ -36,12 +33,6 @@ add-sum c =
     let p : i < arcsOf (now (s .args .case)) = omega (arith, c .before .loop-test .taken, s .pre .1) in
     let b : c .activity-cost .result ≤ 1000000 = omega (arith, c .activity-cost .ensures, activity-le (s .pre .0) (activeOf (s .args .t2) i) (now (s .args .rows)) i p) in
     omega (arith, h .loop .inv .1 .small)
-
-add-e : tie.Need-add-e Inv-loop μ-loop
-add-e c = omega arith
-
-loop-less : tie.Need-loop-less Inv-loop μ-loop
-loop-less c = omega arith
 
 loop-again : tie.Need-loop-again Inv-loop μ-loop
 loop-again c =
@@ -60,16 +51,6 @@ returns c =
     endN (h .loop .inv .1) (c .loop-test .left) ∙ ap (λ (n : ℕ). sumN n (activityPart (now (s .args .case)) (activeOf (s .args .t2)) (now (s .args .rows)))) (s .pre .1)
 
 pub activity-costs-spec : {M : Type 1} → statement M
-activity-costs-spec =
-    tie.close
-    (tie.spec
-    Inv-loop
-    μ-loop
-    loop-holds
-    array-read-activity-cost
-    activity-cost-requires
-    add-sum
-    add-e
-    loop-less
-    loop-again
-    returns)
+activity-costs-spec = tie.close (tie.spec
+    Inv-loop μ-loop loop-holds (λ c. omega arith) activity-cost-requires add-sum (λ c. omega arith) (λ c. omega arith)
+    loop-again returns)

@@ -15,20 +15,8 @@ use Rattle.plan.specs.inside.StepSizes.{pressure-slack-sized, demand-sla
 use Rattle.plan.proofs.totals.added.Statement.{statement}
 use Rattle.plan.proofs.totals.added.Tie as tie
 
-slacks-of-requires : tie.Need-slacks-of-requires
-slacks-of-requires c κs = search needs
-
-choice-costs-requires : tie.Need-choice-costs-requires
-choice-costs-requires c κs = search needs
-
-activity-costs-requires : tie.Need-activity-costs-requires
-activity-costs-requires c κs = search needs
-
 slice-aggregate-pipe-residuals : tie.Need-slice-aggregate-pipe-residuals
 slice-aggregate-pipe-residuals c = let s = c .before .before .before .before .before .before .before .before in sym (simp length-map at (s .good .1 .1 .1 .0 .1 .1 .0 .1 .0 .1))
-
-pipe-residuals-requires : tie.Need-pipe-residuals-requires
-pipe-residuals-requires c κs = search needs
 
 add-t18 : tie.Need-add-t18
 add-t18 c =
@@ -154,18 +142,6 @@ returns c =
     }
 
 pub added-spec : {M : Type 1} → statement M
-added-spec =
-    tie.close
-    (tie.spec
-    slacks-of-requires
-    choice-costs-requires
-    activity-costs-requires
-    slice-aggregate-pipe-residuals
-    pipe-residuals-requires
-    add-t18
-    add-t19
-    add-t20
-    add-t21
-    add-t22
-    add-t23
-    returns)
+added-spec = tie.close (tie.spec
+    (λ c κs. search needs) (λ c κs. search needs) (λ c κs. search needs) slice-aggregate-pipe-residuals
+    (λ c κs. search needs) add-t18 add-t19 add-t20 add-t21 add-t22 add-t23 returns)

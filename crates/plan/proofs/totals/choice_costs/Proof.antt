@@ -22,30 +22,12 @@ abbrev μ-loop : tie.MeasureT-loop
 loop-holds : tie.Need-loop-holds Inv-loop μ-loop
 loop-holds c = (omega (arith, counted (c .pre .0) .stations, c .pre .1 .stations), startN)
 
-mul-offset : tie.Need-mul-offset Inv-loop μ-loop
-mul-offset c = omega arith
-
-element-copy-out-offset : tie.Need-element-copy-out-offset Inv-loop μ-loop
-element-copy-out-offset c = omega arith
-
-mul-direction-cost : tie.Need-mul-direction-cost Inv-loop μ-loop
-mul-direction-cost c = omega arith
-
-array-read-direction-cost : tie.Need-array-read-direction-cost Inv-loop μ-loop
-array-read-direction-cost c = omega arith
-
 direction-cost-requires : tie.Need-direction-cost-requires Inv-loop μ-loop
 direction-cost-requires c κs =
     let h = c .before .before in
     let s = h .before in
     let p : h .loop .s < stationsOf (now (s .args .case)) = omega (arith, c .before .loop-test .taken, s .pre .1 .stations) in
     (s .pre .0, p, s .pre .1 .offsets .each (h .loop .s) p)
-
-mul-state-cost : tie.Need-mul-state-cost Inv-loop μ-loop
-mul-state-cost c = omega arith
-
-array-read-state-cost : tie.Need-array-read-state-cost Inv-loop μ-loop
-array-read-state-cost c = omega arith
 
 state-cost-requires : tie.Need-state-cost-requires Inv-loop μ-loop
 state-cost-requires c κs =
@@ -78,12 +60,6 @@ add-sum-2 c =
     let b : c .state-cost .result ≤ 1000000 = omega (arith, c .state-cost .ensures, state-le (s .pre .0) (s .pre .2) i p (indexOf (s .args .t3) i)) in
     omega (arith, h .loop .inv .1 .small)
 
-add-s : tie.Need-add-s Inv-loop μ-loop
-add-s c = omega arith
-
-loop-less : tie.Need-loop-less Inv-loop μ-loop
-loop-less c = omega arith
-
 loop-again : tie.Need-loop-again Inv-loop μ-loop
 unfolding choiceCost
 loop-again c =
@@ -107,23 +83,7 @@ returns c =
     ∙ ap (λ (n : ℕ). sumN n (choiceCost (now (s .args .case)) (indexOf (s .args .t2)) (indexOf (s .args .t3)) (now (s .args .rows)))) (s .pre .1 .stations)
 
 pub choice-costs-spec : {M : Type 1} → statement M
-choice-costs-spec =
-    tie.close
-    (tie.spec
-    Inv-loop
-    μ-loop
-    loop-holds
-    mul-offset
-    element-copy-out-offset
-    mul-direction-cost
-    array-read-direction-cost
-    direction-cost-requires
-    mul-state-cost
-    array-read-state-cost
-    state-cost-requires
-    add-sum
-    add-sum-2
-    add-s
-    loop-less
-    loop-again
-    returns)
+choice-costs-spec = tie.close (tie.spec
+    Inv-loop μ-loop loop-holds (λ c. omega arith) (λ c. omega arith) (λ c. omega arith) (λ c. omega arith)
+    direction-cost-requires (λ c. omega arith) (λ c. omega arith) state-cost-requires add-sum add-sum-2
+    (λ c. omega arith) (λ c. omega arith) loop-again returns)

@@ -35,12 +35,6 @@ add-sum c =
     let k = got (p .pipe-gas .ensures) (gas-sized (s .pre .0) (s .pre .2) (h .loop .e) q) tt in
     fits (h .loop .inv .1) k t (omega (arith, h .loop .inv .0))
 
-add-e : tie.Need-add-e Inv-loop μ-loop
-add-e c = omega arith
-
-loop-less : tie.Need-loop-less Inv-loop μ-loop
-loop-less c = omega arith
-
 loop-again : tie.Need-loop-again Inv-loop μ-loop
 loop-again c =
     let p = c .before .before in
@@ -61,15 +55,5 @@ returns c =
     ∙ ap (λ (n : ℕ). sum n (gasPart (now (s .args .case)) (numberAt (now (s .args .pressures))))) (s .pre .1)
 
 pub gas-spec : {M : Type 1} → statement M
-gas-spec =
-    tie.close
-    (tie.spec
-    Inv-loop
-    μ-loop
-    loop-holds
-    pipe-gas-requires
-    add-sum
-    add-e
-    loop-less
-    loop-again
-    returns)
+gas-spec = tie.close (tie.spec
+    Inv-loop μ-loop loop-holds pipe-gas-requires add-sum (λ c. omega arith) (λ c. omega arith) loop-again returns)

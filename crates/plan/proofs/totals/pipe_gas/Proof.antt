@@ -15,18 +15,6 @@ use Rattle.plan.proofs.Adding.{got, taken-part, left-part}
 use Rattle.plan.proofs.totals.pipe_gas.Statement.{statement}
 use Rattle.plan.proofs.totals.pipe_gas.Tie as tie
 
-arc-requires : tie.Need-arc-requires
-arc-requires c κs = search needs
-
-pipe-requires : tie.Need-pipe-requires
-pipe-requires c κs = search needs
-
-at-requires : tie.Need-at-requires
-at-requires c κs = search needs
-
-at-requires-2 : tie.Need-at-requires-2
-at-requires-2 c κs = search needs
-
 add-result : tie.Need-add-result
 add-result c =
     let q = c .before .before in
@@ -77,14 +65,6 @@ returns-2 c =
     sym (left-part _ refl (ne-eqb _ 2 (λ (k : arcOf (now (s .args .case)) (s .args .e) .kind ≡ 2). c .if1 .left (ap (λ (x : Arc). x .kind) (a .arc .ensures) ∙ k))))
 
 pub pipe-gas-spec : {M : Type 1} → statement M
-pipe-gas-spec =
-    tie.close
-    (tie.spec
-    arc-requires
-    pipe-requires
-    at-requires
-    at-requires-2
-    add-result
-    mul-result
-    returns
-    returns-2)
+pipe-gas-spec = tie.close (tie.spec
+    (λ c κs. search needs) (λ c κs. search needs) (λ c κs. search needs) (λ c κs. search needs) add-result mul-result
+    returns returns-2)

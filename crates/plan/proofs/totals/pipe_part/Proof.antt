@@ -11,9 +11,6 @@ use Rattle.plan.proofs.Adding.{takenN, leftN}
 use Rattle.plan.proofs.totals.pipe_part.Statement.{statement}
 use Rattle.plan.proofs.totals.pipe_part.Tie as tie
 
-arc-requires : tie.Need-arc-requires
-arc-requires c κs = search needs
-
 pipe-residual-requires : tie.Need-pipe-residual-requires
 pipe-residual-requires c κs =
     let b = c .before .before in
@@ -45,4 +42,4 @@ returns-2 c =
     sym (leftN _ (ne-eqb _ 2 (λ (k : arcOf (now (s .args .case)) (s .args .e) .kind ≡ 2). c .if1 .left (ap (λ (x : Arc). x .kind) (b .arc .ensures) ∙ k))))
 
 pub pipe-part-spec : {M : Type 1} → statement M
-pipe-part-spec = tie.close (tie.spec arc-requires pipe-residual-requires returns returns-2)
+pipe-part-spec = tie.close (tie.spec (λ c κs. search needs) pipe-residual-requires returns returns-2)

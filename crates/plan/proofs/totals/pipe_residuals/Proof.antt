@@ -32,12 +32,6 @@ add-sum c =
     let b : c .pipe-part .result ≤ 1000000 = omega (arith, c .pipe-part .ensures, s .pre .3 .pipes (h .loop .e) p) in
     omega (arith, h .loop .inv .1 .small)
 
-add-e : tie.Need-add-e Inv-loop μ-loop
-add-e c = omega arith
-
-loop-less : tie.Need-loop-less Inv-loop μ-loop
-loop-less c = omega arith
-
 loop-again : tie.Need-loop-again Inv-loop μ-loop
 loop-again c =
     let g = c .before in
@@ -56,15 +50,5 @@ returns c =
     ∙ ap (λ (n : ℕ). sumN n (pipePart (now (s .args .case)) (numberAt (now (s .args .old))) (now (s .args .rows)) (s .args .i))) (s .pre .2)
 
 pub pipe-residuals-spec : {M : Type 1} → statement M
-pipe-residuals-spec =
-    tie.close
-    (tie.spec
-    Inv-loop
-    μ-loop
-    loop-holds
-    pipe-part-requires
-    add-sum
-    add-e
-    loop-less
-    loop-again
-    returns)
+pipe-residuals-spec = tie.close (tie.spec
+    Inv-loop μ-loop loop-holds pipe-part-requires add-sum (λ c. omega arith) (λ c. omega arith) loop-again returns)

@@ -21,9 +21,6 @@ abbrev μ-loop : tie.MeasureT-loop
 loop-holds : tie.Need-loop-holds Inv-loop μ-loop
 loop-holds c = (omega (arith, counted (c .pre .0) .nodes, c .pre .1), start, start)
 
-node-row-requires : tie.Need-node-row-requires Inv-loop μ-loop
-node-row-requires c κs = omega arith
-
 add-sum : tie.Need-add-sum Inv-loop μ-loop
 add-sum c =
     let r = c .before .before in
@@ -66,12 +63,6 @@ add-sum-4 c =
     let k = got (ap (λ (x : NodeRow). x .splus) (r .node-row .ensures)) (z .splus) tt +ʳ got (ap (λ (x : NodeRow). x .sminus) (r .node-row .ensures)) (z .sminus) tt in
     fits (h .loop .inv .2) (held k tt) t (omega (arith, h .loop .inv .0))
 
-add-v : tie.Need-add-v Inv-loop μ-loop
-add-v c = omega arith
-
-loop-less : tie.Need-loop-less Inv-loop μ-loop
-loop-less c = omega arith
-
 loop-again : tie.Need-loop-again Inv-loop μ-loop
 unfolding pressureSlackAt demandSlackAt
 loop-again c =
@@ -98,18 +89,6 @@ returns c =
     }
 
 pub slacks-of-spec : {M : Type 1} → statement M
-slacks-of-spec =
-    tie.close
-    (tie.spec
-    Inv-loop
-    μ-loop
-    loop-holds
-    node-row-requires
-    add-sum
-    add-sum-2
-    add-sum-3
-    add-sum-4
-    add-v
-    loop-less
-    loop-again
-    returns)
+slacks-of-spec = tie.close (tie.spec
+    Inv-loop μ-loop loop-holds (λ c κs. omega arith) add-sum add-sum-2 add-sum-3 add-sum-4 (λ c. omega arith)
+    (λ c. omega arith) loop-again returns)

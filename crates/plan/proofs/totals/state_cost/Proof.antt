@@ -15,15 +15,6 @@ use Rattle.plan.specs.inside.StepSizes.{cost-same, cost-new}
 use Rattle.plan.proofs.totals.state_cost.Statement.{statement}
 use Rattle.plan.proofs.totals.state_cost.Tie as tie
 
-choice-of-requires : tie.Need-choice-of-requires
-choice-of-requires c κs = (counted (c .pre .0), c .pre .1)
-
-index-requires : tie.Need-index-requires
-index-requires c κs = search needs
-
-state-requires : tie.Need-state-requires
-state-requires c κs = search needs
-
 returns : tie.Need-returns
 unfolding stateCost
 returns c =
@@ -48,5 +39,5 @@ returns-2 c =
     ∙ cost-new (stateOf l (s .args .s) f .weight) (λ (q : f ≡ s .args .was). c .before .if1 .left (e ∙ q))
 
 pub state-cost-spec : {M : Type 1} → statement M
-state-cost-spec =
-    tie.close (tie.spec choice-of-requires index-requires state-requires returns returns-2)
+state-cost-spec = tie.close (tie.spec
+    (λ c κs. (counted (c .pre .0), c .pre .1)) (λ c κs. search needs) (λ c κs. search needs) returns returns-2)
