@@ -2,18 +2,17 @@
 -- Assumes nothing.
 use mathlib.Core.Path.{_≡_, refl, ap, sym, _∙_}
 use mathlib.Core.Bool.{cond}
-use mathlib.Core.List.{List, [], _∷_}
+use mathlib.Core.List.{List}
 use Prim.Native.Nat.{ℕ, zero, suc, _+_, _*_, _-_, _^_, _≤_, _<_}
 use native.Mathlib.Nat.{mul-le-mul, mul-le-mul-left, mul-assoc, pow-succ', one-le-pow}
 use native.Mathlib.Numerals.{add-one}
 use native.Mathlib.Omega.{arith}
-use borrow.Author.Tests.{lt-ltb, le-ltb, lt-leb, le-leb, eq-eqb, ne-eqb}
+use borrow.Author.Tests.{lt-ltb, le-ltb, lt-leb}
 use lib.Dec.{leb}
 use lib.ListN.{length, getD, drop, drop-of-length-le}
 use lib.Seq.{drop-cons}
 use Rattle.numbers.specs.law.Reading.{laterBytes, lastByte, inFront, numberOf}
 use Rattle.numbers.specs.inside.Shifted.{shifted, shifted-first, shifted-more}
-use Rattle.numbers.specs.declared.reader.Number.{Number}
 use Rattle.numbers.specs.declared.reader.Number.the-variants.{Whole, Refused}
 
 pub product-small : {b scale : ℕ} → b < 128 → scale ≤ 2 ^ 56 → scale * b ≤ 2 ^ 56 * 127

@@ -1,11 +1,11 @@
 -- The groups of a number, placed one after the other in the lent bytes.
 -- Assumes nothing.
 use mathlib.Core.Path.{_≡_, refl, ap, sym, _∙_}
-use mathlib.Core.List.{List, [], _∷_, _++_}
-use Prim.Native.Nat.{ℕ, zero, suc, _+_, _*_, _-_, _/_, _%_, _^_, _≤_, _<_}
+use mathlib.Core.List.{List}
+use Prim.Native.Nat.{ℕ, _+_, _-_, _/_, _%_, _^_, _≤_, _<_}
 use native.Mathlib.Numerals.{add-one}
 use native.Mathlib.Omega.{arith}
-use lib.ListN.{length, set, length-set, length-append}
+use lib.ListN.{length, set, length-set}
 use lib.Seq.{sets}
 use Rattle.numbers.specs.law.Groups.{groups, groupsUpTo}
 use Rattle.numbers.specs.inside.GroupLaws.{one-group, some-group}

@@ -1,19 +1,18 @@
 -- The numbers of the bytes, stored one after the other in the lent list.
 -- Assumes nothing.
-use mathlib.Core.Path.{_≡_, refl, ap, sym, subst, _∙_}
-use mathlib.Core.List.{List, [], _∷_, _++_}
+use mathlib.Core.Path.{_≡_, refl, ap, sym, _∙_}
+use mathlib.Core.List.{List}
 use Prim.Native.Nat.{ℕ, zero, suc, _+_, _-_, _≤_, _<_}
 use native.Mathlib.Numerals.{add-one}
 use native.Mathlib.Omega.{arith}
-use lib.IntN.{ℤ, pos}
-use lib.ListN.{length, getD, take, drop, set, length-set, length-drop, drop-of-length-le}
+use lib.IntN.{ℤ}
+use lib.ListN.{length, drop, set, length-set, length-drop, drop-of-length-le}
 use lib.Seq.{sets, drop-cons, drop-drop}
 use Rattle.numbers.specs.law.Mapping.{signedOf}
 use Rattle.numbers.specs.law.Told.{overlay}
 use Rattle.numbers.specs.inside.OverlayLaws.{overlay-sets}
 use Rattle.numbers.specs.inside.ReadingBounds.{used-some}
 use Rattle.numbers.specs.law.Reading.{numberOf, Read, Ending, all, no, stopped, withFirst, afterNumber, readFrom, readOf, readTold, endTold}
-use Rattle.numbers.specs.declared.reader.Number.{Number}
 use Rattle.numbers.specs.declared.reader.Number.the-variants.{Whole, Refused}
 
 -- ---- what is read from `at` on, by what stands there

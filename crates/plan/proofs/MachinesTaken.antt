@@ -1,11 +1,11 @@
 -- The machines that a station's arcs have taken, as a set, arc by arc.
 -- Assumes nothing.
-use mathlib.Core.Path.{_≡_, refl, sym, ap, _∙_}
+use mathlib.Core.Path.{_≡_, refl, sym, _∙_}
 use mathlib.Core.Bool.{Bool, true, false, cond, _&&_}
 use mathlib.Core.List.{List}
-use Prim.Native.Nat.{ℕ, _+_, _-_, _*_, _/_, _%_, _^_, _<_, _≤_, min, max}
+use Prim.Native.Nat.{ℕ, _+_, _-_, _/_, _^_, _<_, _≤_, min, max}
 use native.Mathlib.Omega.{arith}
-use borrow.Author.Tests.{eqb-true, eqb-false, leb-true, leb-false, le-leb, ltb-true, ltb-false}
+use borrow.Author.Tests.{eqb-true, eqb-false, leb-true, le-leb, ltb-true, ltb-false}
 use lib.Bits.{bitAnd, bitOr, or-step, or-shr}
 use lib.Dec.{eqb, leb, ltb}
 use lib.IntN.{ℤ, pos}
@@ -13,7 +13,7 @@ use lib.Pow.{pow-pos}
 use lib.Signed.{leZ}
 use Rattle.numbers.specs.law.Signed.{posPart}
 use Rattle.numbers.specs.inside.SignedParts.{ints, size}
-use Rattle.numbers.specs.law.Sets.{bit, memberOf, subsetOf}
+use Rattle.numbers.specs.law.Sets.{bit, subsetOf}
 use Rattle.numbers.specs.inside.SetLaws.{bit-zero, bit-high, subset-is, disjoint-is, is-disjoint}
 use Rattle.numbers.specs.law.Sums.{count}
 use Rattle.case.specs.law.Layout.{arcsOf, stationsOf}

@@ -1,6 +1,6 @@
 -- What a step asks and adds goes by the pressures of nodes, the activities of arcs and the choices of stations alone.
 -- Assumes nothing.
-use mathlib.Core.Path.{_≡_, refl, ap, ap₂, _∙_}
+use mathlib.Core.Path.{_≡_, refl, ap, ap₂}
 use mathlib.Core.Bool.{Bool}
 use mathlib.Core.List.{List, _++_}
 use Prim.Native.Nat.{ℕ, zero, suc, _+_, _<_}
@@ -21,7 +21,7 @@ use Rattle.plan.specs.law.ArcRules.{arcQuestions, pipeQuestions, allArcQ
 use Rattle.plan.specs.law.StationRules.{allStationQuestions}
 use Rattle.plan.specs.law.Balance.{allBalanceQuestions}
 use Rattle.plan.specs.law.Step.{stepQuestions}
-use Rattle.plan.specs.law.Totals.{pipePart, pipeResiduals, gasPart, gasAt, directionCost, stateCost, choiceCost, choiceCosts, activityCost, activityPart, activityCosts}
+use Rattle.plan.specs.law.Totals.{pipePart, pipeResiduals, gasPart, gasAt, directionCost, stateCost, choiceCost, choiceCosts, activityCost, activityCosts}
 
 over-alike : (f g : ℕ → List Question) (i n : ℕ) → ((j : ℕ) → j < n → f (i + j) ≡ g (i + j)) → over f i n ≡ over g i n
 over-alike f g i zero h = refl

@@ -1,22 +1,19 @@
 -- Every refusal of a case has a small number, step and place: a place is a field's index, an arc, a node or a station.
 -- Assumes nothing.
-use mathlib.Core.Path.{_≡_, refl, ap, sym, subst, _∙_}
-use mathlib.Core.Bool.{Bool, true, false, cond, _&&_}
-use mathlib.Core.List.{List, [], _∷_, _++_}
+use mathlib.Core.Path.{_≡_, sym, subst}
+use mathlib.Core.Bool.{Bool, true, false, cond}
+use mathlib.Core.List.{List, _++_}
 use Prim.Native.Nat.{ℕ, zero, suc, _+_, _*_, _≤_, _<_}
 use native.Mathlib.Nat.{mul-le-mul}
 use native.Mathlib.Omega.{arith}
 use borrow.Author.Needs.{needs}
-use lib.Dec.{eqb, leb, ltb}
+use lib.Dec.{eqb, leb}
 use lib.IntN.{ℤ, pos}
-use lib.ListN.{length}
-use lib.Signed.{leZ}
-use Rattle.numbers.specs.law.Question.{Question, firstNo}
+use Rattle.numbers.specs.law.Question.{firstNo}
 use Rattle.numbers.specs.law.Items.{over}
 use Rattle.numbers.specs.inside.SmallRefusals.{Small, AllSmall, small-append, small-over, all-small, all-append, all-over}
-use Rattle.numbers.specs.declared.answer.Answer.{Answer}
-use Rattle.numbers.specs.declared.answer.Answer.the-variants.{Yes, No}
-use Rattle.case.specs.law.Layout.{nodesOf, arcsOf, stationsOf, stepsOf, nodeAt, arcAt, stationAt, stationEnd, directionAt, stateAt, machineAt, directionCount, stateCount, machineCount, countAt, numberAt}
+use Rattle.numbers.specs.declared.answer.Answer.the-variants.{Yes}
+use Rattle.case.specs.law.Layout.{nodesOf, arcsOf, stationsOf, stepsOf, nodeAt, arcAt, stationAt, stationEnd, directionAt, stateAt, machineAt, directionCount, stateCount, machineCount, countAt}
 use Rattle.case.specs.law.Field.{field, fields, nextField}
 use Rattle.case.specs.law.HeadFields.{headFields, countFields, toleranceFields}
 use Rattle.case.specs.law.ArcFields.{allArcFields, arcFields, endFields, kindFields, pipeFields, memberFields, compressorFields}

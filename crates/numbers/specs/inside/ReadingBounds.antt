@@ -1,15 +1,15 @@
 -- Bounds of a reading: a number takes a byte at least, counts are within the room, places are bytes, and the numbers of refusals are 1 to 3.
 -- Assumes nothing.
-use mathlib.Core.Path.{_≡_, refl, ap, sym, subst, _∙_}
+use mathlib.Core.Path.{_≡_, ap, subst}
 use mathlib.Core.Bool.{Bool, true, false, cond}
 use mathlib.Core.List.{List, [], _∷_}
 use Prim.Native.Nat.{ℕ, zero, suc, _+_, _-_, _≤_, _<_}
 use native.Mathlib.Omega.{arith}
 use lib.Dec.{ltb, leb, eqb}
-use lib.IntN.{ℤ, pos, natAbs}
+use lib.IntN.{pos, natAbs}
 use lib.ListN.{length, getD, drop, length-drop}
 use Rattle.numbers.specs.law.Told.{Told, gives, refuses}
-use Rattle.numbers.specs.law.Reading.{numberOf, laterBytes, lastByte, inFront, Read, Ending, all, no, stopped, afterNumber, readFrom, readOf, endTold, readTold}
+use Rattle.numbers.specs.law.Reading.{numberOf, laterBytes, lastByte, inFront, Ending, all, no, afterNumber, readFrom, readOf, endTold, readTold}
 use Rattle.numbers.specs.declared.reader.Number.{Number}
 use Rattle.numbers.specs.declared.reader.Number.the-variants.{Whole, Refused}
 

@@ -1,6 +1,6 @@
 -- A number whose first groups have been read: laws for the loop over its bytes.
 -- Assumes nothing.
-use mathlib.Core.Path.{_≡_, refl, ap, ap₂}
+use mathlib.Core.Path.{_≡_, refl, ap₂}
 use Prim.Native.Nat.{ℕ, _+_, _*_}
 use native.Mathlib.Omega.{arith}
 use Rattle.numbers.specs.law.Reading.{inFront}

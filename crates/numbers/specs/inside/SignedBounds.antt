@@ -6,8 +6,7 @@ use Prim.Native.Nat.{ℕ, suc, _+_, _*_, _≤_, max}
 use native.Mathlib.Omega.{arith}
 use lib.IntN.{ℤ, pos, negsuc, negℤ, natAbs, _+ℤ_, _-ℤ_, _*ℤ_}
 use lib.Signed.{mag, ltZ, _≤ℤ_}
-use Rattle.numbers.specs.law.Signed.{posPart}
-use Rattle.numbers.specs.inside.SignedParts.{negPart, added, taken, posPart-neg, negPart-neg, size-parts, size, ints}
+use Rattle.numbers.specs.inside.SignedParts.{added, taken, posPart-neg, negPart-neg, size-parts, size, ints}
 
 pub record Bounded (z : ℤ) (n : ℕ) : Type 0 where
   pub bound : natAbs z ≤ n

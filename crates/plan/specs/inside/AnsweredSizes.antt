@@ -1,6 +1,6 @@
 -- What a step's questions give once they have been answered yes: sizes, by which no later sum or product is too large.
 -- Assumes nothing.
-use mathlib.Core.Path.{_≡_, refl, sym, ap, _∙_, subst}
+use mathlib.Core.Path.{_≡_}
 use mathlib.Core.Bool.{Bool, true, false, cond, not, _&&_, _||_}
 use mathlib.Core.List.{List, _++_}
 use Prim.Native.Nat.{ℕ, _+_, _-_, _<_, _≤_}
@@ -13,12 +13,11 @@ use Rattle.numbers.specs.law.Signed.{posPart}
 use Rattle.numbers.specs.inside.SignedParts.{ints, size, taken}
 use Rattle.numbers.specs.inside.SignedBounds.{Bounded}
 use Rattle.numbers.specs.law.Sums.{onlyN}
-use Rattle.numbers.specs.law.Question.{Question, firstNo}
+use Rattle.numbers.specs.law.Question.{firstNo}
 use Rattle.numbers.specs.inside.QuestionLaws.{all-yes}
 use Rattle.numbers.specs.declared.answer.Answer.the-variants.{Yes}
 use Rattle.case.specs.declared.records.Node.{Node}
 use Rattle.case.specs.declared.records.Arc.{Arc}
-use Rattle.case.specs.declared.records.Artificial.{Artificial}
 use Rattle.case.specs.law.Layout.{numberAt, nodesOf, arcsOf, stationsOf, stepsOf, massTolerance}
 use Rattle.case.specs.law.Records.{nodeOf, arcOf, artificialOf, stationOf}
 use Rattle.case.specs.law.Field.{mostFlow}
@@ -26,13 +25,13 @@ use Rattle.case.specs.inside.FieldLaws.{first-yes, second-yes, item-yes, and-fi
 use Rattle.plan.specs.declared.rows.NodeRow.{NodeRow}
 use Rattle.plan.specs.declared.rows.ArcRow.{ArcRow}
 use Rattle.plan.specs.law.Compared.{within, isZero}
-use Rattle.plan.specs.law.PlanRecords.{nodeRow, arcRow, choiceOf, pressureIn, directionIn, stateIn}
+use Rattle.plan.specs.law.PlanRecords.{nodeRow, arcRow, choiceOf, pressureIn}
 use Rattle.plan.specs.law.Setting.{settingOf}
 use Rattle.plan.specs.law.NodeRules.{slackLimit, slacksKept, boundaryFlowKept, nodeNumbersKept, nodeQuestions, allNodeQuestions}
 use Rattle.plan.specs.law.ArcFlows.{leastFlow, mostBackward, flowsKept, machinesWithin, settingAllowed, arcNumbersKept}
 use Rattle.plan.specs.law.Pipes.{isPipe, pipeResidual, pipeMassKept}
 use Rattle.plan.specs.law.ArcRules.{flowQuestions, pressureQuestions, pipeQuestions, arcQuestions, allArcQuestions}
-use Rattle.plan.specs.law.StationRules.{oneOf, stateObeyed, choiceKept, stationQuestions, allStationQuestions}
+use Rattle.plan.specs.law.StationRules.{oneOf, choiceKept, stationQuestions, allStationQuestions}
 use Rattle.plan.specs.law.Balance.{nodeResidual, balanceKept, balanceQuestions, allBalanceQuestions}
 use Rattle.plan.specs.law.Step.{stepQuestions}
 use Rattle.plan.specs.law.Totals.{pipePart}

@@ -1,9 +1,9 @@
 -- Net flows in an array, gathered arc by arc.
 -- Assumes nothing.
 use mathlib.Core.List.{List}
-use Prim.Native.Nat.{ℕ, _<_, _≤_}
+use Prim.Native.Nat.{ℕ, _<_}
 use lib.Dec.{eqb}
-use lib.IntN.{ℤ, natAbs, _+ℤ_, _-ℤ_}
+use lib.IntN.{ℤ, _+ℤ_, _-ℤ_}
 use Rattle.numbers.specs.law.Sums.{only}
 use Rattle.numbers.specs.inside.SignedBounds.{Bounded}
 use Rattle.case.specs.law.Layout.{numberAt}

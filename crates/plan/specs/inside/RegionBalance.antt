@@ -16,7 +16,7 @@ use Rattle.numbers.specs.inside.SumLaws.{sum-cong, sum-sub, sum-mul, incidence,
 use Rattle.case.specs.law.Layout.{nodesOf, arcsOf}
 use Rattle.case.specs.law.Records.{arcOf, pipeOf}
 use Rattle.plan.specs.law.PlanRecords.{nodeRow, arcRow, pressureIn}
-use Rattle.plan.specs.law.Pipes.{duration, isPipe, change, pipeImbalance, pipeResidual}
+use Rattle.plan.specs.law.Pipes.{duration, isPipe, pipeImbalance, pipeResidual}
 use Rattle.plan.specs.law.Balance.{flowAtFrom, flowAtTo, outPart, inPart, outflow, inflow, netFlow, nodeImbalance, nodeResidual}
 use Rattle.plan.specs.law.Region.{beginsIn, endsIn, innerPipe, innerGas, regionGas, regionSupply, inward, edgeFlow, suppliesIn, edgeFlows, broughtIn}
 use Rattle.plan.specs.law.RegionResidual.{ownNode, ownPipe, ownNodes, ownPipes, regionResidual}

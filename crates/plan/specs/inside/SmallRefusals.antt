@@ -1,23 +1,20 @@
 -- Every refusal of a plan and of the ledger has a small number, step and place: a place is a node, an arc or a station.
 -- Assumes nothing.
-use mathlib.Core.Path.{_≡_, refl}
 use mathlib.Core.Bool.{Bool, true, false, cond}
-use mathlib.Core.List.{List, [], _∷_, _++_}
+use mathlib.Core.List.{List, _∷_, _++_}
 use Prim.Native.Nat.{ℕ, zero, suc, _+_, _-_, _<_, _≤_}
 use native.Mathlib.Omega.{arith}
 use borrow.Author.Needs.{needs}
-use lib.IntN.{ℤ, pos}
-use Rattle.numbers.specs.law.Question.{Question, firstNo}
+use lib.IntN.{ℤ}
+use Rattle.numbers.specs.law.Question.{firstNo}
 use Rattle.numbers.specs.law.Items.{over}
 use Rattle.numbers.specs.inside.SmallRefusals.{Small, AllSmall, small-append, all-small, all-append, all-over}
 use Rattle.numbers.specs.law.Sets.{memberOf}
-use Rattle.numbers.specs.declared.answer.Answer.the-variants.{Yes}
 use Rattle.case.specs.law.Layout.{nodesOf, arcsOf, stationsOf, stepsOf}
 use Rattle.case.specs.inside.Counts.{Counted}
 use Rattle.case.specs.law.Judged.{caseQuestions}
 use Rattle.case.specs.inside.FieldLaws.{first-yes}
 use Rattle.case.specs.inside.SmallRefusals.{limit, case-small}
-use Rattle.plan.specs.inside.Preconditions.{AcceptedCase}
 use Rattle.plan.specs.inside.CaseSizes.{counted}
 use Rattle.plan.specs.law.PlanHead.{headQuestion}
 use Rattle.plan.specs.law.NodeRules.{nodeQuestions, allNodeQuestions}

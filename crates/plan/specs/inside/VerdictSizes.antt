@@ -1,6 +1,6 @@
 -- The numbers of a verdict, of the answer on two byte strings and of the ledger fit what an export hands on.
 -- Assumes nothing.
-use mathlib.Core.Path.{_≡_, refl, ap, sym, subst, _∙_}
+use mathlib.Core.Path.{_≡_, refl, ap}
 use mathlib.Core.Bool.{Bool, true, false, cond}
 use mathlib.Core.List.{List, [], _∷_}
 use Prim.Native.Nat.{ℕ, _+_, _*_, _<_, _≤_, _^_}
@@ -9,7 +9,6 @@ use native.Mathlib.Omega.{arith}
 use lib.IntN.{ℤ, pos, natAbs, _-ℤ_, _*ℤ_}
 use lib.Dec.{eqb}
 use lib.ListN.{length, getD}
-use lib.Signed.{_≤ℤ_}
 use Rattle.numbers.specs.law.Told.{Told, refuses}
 use Rattle.numbers.specs.law.Question.{firstNo}
 use Rattle.numbers.specs.inside.QuestionLaws.{all-yes}
@@ -48,7 +47,6 @@ use Rattle.plan.specs.law.Ledger.{regionQuestions, ledgerQuestions, ledg
 use Rattle.plan.specs.inside.SmallRefusals.{judge-small, ledger-small}
 use Rattle.plan.specs.declared.verdict.Verdict.{Verdict}
 use Rattle.plan.specs.declared.verdict.Verdict.the-variants.{Accepted, Refused}
-use Rattle.plan.specs.declared.figures.Figures.{Figures}
 use Rattle.plan.specs.declared.figures.Ledger.{Ledger}
 use Rattle.plan.specs.declared.figures.Ledger.the-variants.{Given}
 use Rattle.plan.specs.declared.figures.Ledger.the-variants as stopped

@@ -1,7 +1,6 @@
 use mathlib.Core.Path.{_≡_, refl, sym, _∙_}
 use Prim.Native.Nat.{_≤_, _<_, _-_}
 use native.Mathlib.Omega.{arith}
-use borrow.Author.Needs.{needs}
 use borrow.Author.Tests.{not-true, not-false}
 use denote.Ref.{now}
 use lib.IntN.{pos}

@@ -1,9 +1,9 @@
 -- What the bytes hold at the end stays the same: the groups of `rest` are still to be placed from `i` on.
-use mathlib.Core.Path.{_≡_, ap, _∙_}
-use Prim.Native.Nat.{ℕ, _%_}
+use mathlib.Core.Path.{_≡_, _∙_}
+use Prim.Native.Nat.{_%_}
 use borrow.Author.Needs.{needs}
 use native.Mathlib.Omega.{arith}
-use lib.ListN.{length-set, set}
+use lib.ListN.{length-set}
 use Rattle.numbers.proofs.Placed.{Placing, placing, place-free, place-turn, place-last}
 use Rattle.numbers.proofs.writer.put.Statement.{statement}
 use Rattle.numbers.proofs.writer.put.Tie as tie

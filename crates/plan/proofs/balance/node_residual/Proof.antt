@@ -1,10 +1,10 @@
-use mathlib.Core.Path.{_≡_, sym, ap, ap₂, _∙_}
-use Prim.Native.Nat.{ℕ, _*_, _≤_}
+use mathlib.Core.Path.{_≡_, ap, ap₂, _∙_}
+use Prim.Native.Nat.{_*_, _≤_}
 use native.Mathlib.Nat.{mul-le-mul}
 use native.Mathlib.Omega.{arith}
 use borrow.Author.Needs.{needs}
 use denote.Ref.{now}
-use lib.IntN.{ℤ, natAbs, _-ℤ_}
+use lib.IntN.{natAbs, _-ℤ_}
 use mir.Facts.{fits-le, fits-lit}
 use mir.Syntax.{w64}
 use mir.Val.{toZ, ofZ}
