@@ -63,7 +63,8 @@ END
     run "a prover at work" env PATH="$room/fake:$PATH" "$tree/judge" "$tree/examples/incident"
     ends 1 "$incident"
     cmp -s <(grep -E 'prov(ed \(|ing|es)' "$room/err") <(printf 'judge: %s\n' "the first run proves everything, which takes about three minutes" \
-        "proving case .." "case proved (48 s)" "plan proved (0 s)" "line proved (2 s)" "proving checker .." "checker proved (15 s)") || fail "other lines were due for the crates"
+        "proving case .." "case proved (48 s)" "plan proved (0 s)" "line proved (2 s)" "proving checker .." "checker proved (15 s)") ||
+        fail "other lines were due for the crates"
     is_silent_on 'fn case::head'
     grep -q 'fn case::head: proved' "$tree/target/judge.log" || fail "the log is not whole"
 

@@ -8,7 +8,8 @@ use lib.Dec.{eqb, leb}
 use lib.IntN.{ℤ, pos, negsuc}
 use Rattle.numbers.specs.law.Question.{Question}
 use Rattle.numbers.specs.law.Items.{over}
-use Rattle.case.specs.law.Layout.{countAt, nodesOf, arcsOf, stationsOf, arcAt, arcKindAt, fromAt, qmaxAt, sevenAt, cAt, fAt, hAt, pipeZerosAt, arcStationAt, bothwaysAt, arcWeightAt, startActivityAt, machineSetAt, mostMachinesAt, outboundAt}
+use Rattle.case.specs.law.Layout.{countAt, nodesOf, arcsOf, stationsOf, arcAt, arcKindAt, fromAt, qmaxAt, sevenAt, cAt, fAt, hAt, pipeZerosAt}
+use Rattle.case.specs.law.Layout.{arcStationAt, bothwaysAt, arcWeightAt, startActivityAt, machineSetAt, mostMachinesAt, outboundAt}
 use Rattle.case.specs.law.Field.{field, fields, lastOf, mostPressure, mostFlow, mostWeight}
 
 -- n fields from i on that are to be 0

@@ -11,7 +11,11 @@ use Rattle.case.specs.declared.records.Station.{Station}
 use Rattle.case.specs.declared.records.Direction.{Direction}
 use Rattle.case.specs.declared.records.State.{State}
 use Rattle.case.specs.declared.records.Machine.{Machine}
-use Rattle.case.specs.law.Layout.{numberAt, countAt, timeAt, nodeAt, arcAt, directionAt, stateAt, machineAt, stationAt, nodeKindAt, p0At, lowAt, highAt, actlowAt, acthighAt, demandsAt, arcKindAt, fromAt, toAt, qmaxAt, cAt, fAt, gAt, hAt, arcStationAt, bothwaysAt, arcWeightAt, startActivityAt, machineSetAt, mostMachinesAt, outboundAt, directionCountAt, stateCountAt, machineCountAt, startDirectionAt, startStateAt, entryAt, exitAt, directionWeightAt, directionSetAt, onAt, offAt, stateWeightAt, machineFlowAt, ratioAt}
+use Rattle.case.specs.law.Layout.{numberAt, countAt, timeAt, nodeAt, arcAt, directionAt, stateAt, machineAt, stationAt, nodeKindAt, p0At}
+use Rattle.case.specs.law.Layout.{lowAt, highAt, actlowAt, acthighAt, demandsAt, arcKindAt, fromAt, toAt, qmaxAt, cAt, fAt, gAt, hAt}
+use Rattle.case.specs.law.Layout.{arcStationAt, bothwaysAt, arcWeightAt, startActivityAt, machineSetAt, mostMachinesAt, outboundAt}
+use Rattle.case.specs.law.Layout.{directionCountAt, stateCountAt, machineCountAt, startDirectionAt, startStateAt, entryAt, exitAt}
+use Rattle.case.specs.law.Layout.{directionWeightAt, directionSetAt, onAt, offAt, stateWeightAt, machineFlowAt, ratioAt}
 
 -- the time at which the step with index i ends
 abbrev pub timeOf : List ℤ → ℕ → ℤ

@@ -7,7 +7,9 @@ use Prim.Native.Nat.{ℕ, _-_, _^_}
 use lib.IntN.{ℤ, pos}
 use Rattle.numbers.specs.law.Question.{Question}
 use Rattle.numbers.specs.law.Items.{over}
-use Rattle.case.specs.law.Layout.{directionCount, stateCount, machineCount, directionAt, stateAt, machineAt, stationAt, stationsOf, directionCountAt, stateCountAt, machineCountAt, startDirectionAt, startStateAt, entryAt, directionWeightAt, directionSetAt, onAt, stateWeightAt, machineFlowAt, ratioAt}
+use Rattle.case.specs.law.Layout.{directionCount, stateCount, machineCount, directionAt, stateAt, machineAt, stationAt, stationsOf}
+use Rattle.case.specs.law.Layout.{directionCountAt, stateCountAt, machineCountAt, startDirectionAt, startStateAt, entryAt, directionWeightAt}
+use Rattle.case.specs.law.Layout.{directionSetAt, onAt, stateWeightAt, machineFlowAt, ratioAt}
 use Rattle.case.specs.law.Field.{field, fields, lastOf, mostFlow, mostWeight}
 
 -- the set of the first n items

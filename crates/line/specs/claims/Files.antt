@@ -91,6 +91,7 @@ module _ (case plan : List ℕ) where
   accepted-says a =
       let c = length-replicate caseNumbers (pos 0) in
       let p = length-replicate planNumbers (pos 0) in
-      let b = subst (λ (n : ℕ). BytesAccepted case plan n (length (zeros planNumbers))) (sym c) (subst (BytesAccepted case plan caseNumbers) (sym p) (a .judged)) in
+      let j = subst (BytesAccepted case plan caseNumbers) (sym p) (a .judged) in
+      let b = subst (λ (n : ℕ). BytesAccepted case plan n (length (zeros planNumbers))) (sym c) j in
       let t = accepted-bytes case plan (zeros caseNumbers) (zeros planNumbers) b in
       rw (a .short) (ap lineOf t ∙ rw (c, p))

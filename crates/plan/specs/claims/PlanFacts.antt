@@ -19,7 +19,8 @@ use Rattle.plan.specs.law.Totals.{totalsOf}
 use Rattle.plan.specs.law.Judged.{verdictTold, judgeOf}
 use Rattle.plan.specs.claims.Acceptance.{PlanRules, sound, complete}
 use Rattle.plan.specs.claims.NodeFacts.{Rule20, Rule21, Rule22, Rule23, rule20-says, rule21-says, rule22-says, rule23-says}
-use Rattle.plan.specs.claims.ArcFacts.{Rule24, Rule25, Rule26, Rule27, Rule28, Rule29, rule24-says, rule25-says, rule26-says, rule27-says, rule28-says, rule29-says}
+use Rattle.plan.specs.claims.ArcFacts.{Rule24, Rule25, Rule26, Rule27, Rule28, Rule29, rule24-says, rule25-says, rule26-says, rule27-says}
+use Rattle.plan.specs.claims.ArcFacts.{rule28-says, rule29-says}
 use Rattle.plan.specs.claims.StationFacts.{Rule30, Rule31, Rule32, Rule33, rule30-says, rule31-says, rule32-says, rule33-says}
 
 -- Steps go by index from 0: index i is document 01's step i + 1.
