@@ -49,6 +49,8 @@ impl Reply {
 pub struct Beside {
     pub judge: Judge,
     pub tally: Tally,
+    /// What the calls are made on now, in words.
+    pub input: &'static str,
     calls: usize,
 }
 
@@ -57,6 +59,7 @@ impl Beside {
         Beside {
             judge,
             tally: Tally::default(),
+            input: "",
             calls: 0,
         }
     }

@@ -11,11 +11,13 @@ pub fn round(beside: &mut Beside, seed: u64) -> Result<(), Difference> {
     beside.begin(seed);
     let mut rng = Rng::new(seed);
     let bytes = any_bytes(&mut rng);
+    beside.input = "bytes of any sort";
     // A number takes a byte at least.
     for room in 0..=bytes.len() + 1 {
         beside.read(&bytes, room)?;
     }
     let list = any_list(&mut rng, 4);
+    beside.input = "numbers of any size";
     let encoded = encode(&list).bytes;
     for room in 0..=encoded.len() + 1 {
         beside.write(&list, room)?;
@@ -24,6 +26,7 @@ pub fn round(beside: &mut Beside, seed: u64) -> Result<(), Difference> {
     beside.tally.strings_and_lists += 2;
     for (name, aim) in BYTES_AIMS {
         if let Some(aimed) = aim(&mut rng, &list) {
+            beside.input = name;
             let reply = beside.read(&aimed.bytes, aimed.room)?;
             reply.expect(aimed.expect, name)?;
             beside.tally.aim(name);

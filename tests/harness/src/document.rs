@@ -7,6 +7,7 @@ use crate::beside::{Beside, Difference, Reply};
 
 /// Table T, row by row.
 pub fn table_t(beside: &mut Beside) -> Result<(), Difference> {
+    beside.input = "table T";
     for (number, row) in table_t::rows() {
         let (found, wanted) = run_row(beside, row)?;
         if found != wanted {
@@ -71,6 +72,7 @@ pub(crate) fn verdict(reply: &Reply) -> String {
 /// For each slip, an input that a checker with the slip answers otherwise.
 pub fn slips(beside: &mut Beside) -> Result<(), Difference> {
     for slip in slips::slips() {
+        beside.input = slip.name;
         let answer = answers(beside, &slip.input, slip.in_ledger)?;
         let with_slip = answers(beside, &slip.seen_as, slip.in_ledger)?;
         if answer == with_slip {

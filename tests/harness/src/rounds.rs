@@ -41,6 +41,16 @@ pub fn round(beside: &mut Beside, seed: u64) -> Result<(), Difference> {
     pair_round(beside, &mut rng, pair)
 }
 
+/// An accepted pair in files, as a round has them now and then.
+pub fn files_round(beside: &mut Beside, seed: u64) -> Result<(), Difference> {
+    beside.begin(seed);
+    let mut rng = Rng::new(seed);
+    let pair = generate::accepted(&mut rng);
+    let strings = [pair.case.list(), pair.plan.list()].map(|list| encode(&list).bytes);
+    beside.input = "files";
+    files::round(beside, &mut rng, [&strings[0], &strings[1]])
+}
+
 /// Everything that is made from one accepted pair.
 fn pair_round(beside: &mut Beside, rng: &mut Rng, pair: Pair) -> Result<(), Difference> {
     let (case, plan) = (pair.case.list(), pair.plan.list());
@@ -76,6 +86,7 @@ fn must_be_accepted(reply: &Reply, what: &str) -> Result<(), Difference> {
 }
 
 fn accepted(beside: &mut Beside, input: &Input) -> Result<(), Difference> {
+    beside.input = "an accepted pair";
     let reply = beside.case(&input.case)?;
     must_be_accepted(&reply, "the case")?;
     let reply = beside.plan(&input.case, &input.plan)?;
@@ -86,6 +97,7 @@ fn accepted(beside: &mut Beside, input: &Input) -> Result<(), Difference> {
 fn ledgers(beside: &mut Beside, rng: &mut Rng, input: &Input) -> Result<(), Difference> {
     let lists = [input.case.as_slice(), input.plan.as_slice()];
     let steps = input.pair.steps() as i64;
+    beside.input = "a region of an accepted pair";
     for _ in 0..4 {
         let set = rng.part_of((1 << input.pair.case.nodes.len()) - 1);
         let s = rng.within(0..=steps);
@@ -98,6 +110,7 @@ fn ledgers(beside: &mut Beside, rng: &mut Rng, input: &Input) -> Result<(), Diff
     }
     for (name, aim) in LEDGER_AIMS {
         if let Some(aimed) = aim(rng, &input.pair) {
+            beside.input = name;
             let reply = beside.ledger(lists, aimed.set, aimed.s, aimed.t)?;
             reply.expect(aimed.expect, name)?;
             beside.tally.aim(name);
@@ -116,6 +129,7 @@ fn aims(beside: &mut Beside, rng: &mut Rng, input: &Input) -> Result<(), Differe
         let Some(aimed) = aim(rng, &input.pair) else {
             continue;
         };
+        beside.input = name;
         let reply = beside.plan(&aimed.case, &aimed.plan)?;
         reply.expect(aimed.expect, name)?;
         beside.tally.aim(name);
@@ -127,6 +141,7 @@ fn aims(beside: &mut Beside, rng: &mut Rng, input: &Input) -> Result<(), Differe
         }
         made.push(aimed);
     }
+    beside.input = "two changes at once";
     for _ in 0..made.len() {
         let [one, other] = [0; 2].map(|_| &made[rng.below(made.len())]);
         let case = overlay(&input.case, &one.case, &other.case);
@@ -146,6 +161,7 @@ fn overlay(before: &[i64], one: &[i64], other: &[i64]) -> Vec<i64> {
 }
 
 fn damaged_lists(beside: &mut Beside, rng: &mut Rng, input: &Input) -> Result<(), Difference> {
+    beside.input = "damaged lists";
     for _ in 0..DAMAGED {
         if !input.is_due(rng) {
             continue;
@@ -174,6 +190,7 @@ fn damaged_lists(beside: &mut Beside, rng: &mut Rng, input: &Input) -> Result<()
 fn strings(beside: &mut Beside, rng: &mut Rng, input: &Input) -> Result<(), Difference> {
     let (case, plan) = (encode(&input.case).bytes, encode(&input.plan).bytes);
     let rooms = [input.case.len(), input.plan.len()];
+    beside.input = "an accepted pair as bytes";
     for more in [0, rng.below(5)] {
         let reply = beside.bytes([&case, &plan], rooms.map(|room| room + more))?;
         must_be_accepted(&reply, "the pair of strings")?;
@@ -183,6 +200,7 @@ fn strings(beside: &mut Beside, rng: &mut Rng, input: &Input) -> Result<(), Diff
         if !input.is_due(rng) {
             continue;
         }
+        beside.input = name;
         if let Some(aimed) = aim(rng, &input.case) {
             let reply = beside.bytes([&aimed.bytes, &plan], [aimed.room, rooms[1]])?;
             reply.expect(aimed.expect, name)?;
@@ -197,12 +215,14 @@ fn strings(beside: &mut Beside, rng: &mut Rng, input: &Input) -> Result<(), Diff
         }
     }
     if rng.once_in(FILES_IN) {
+        beside.input = "files";
         files::round(beside, rng, [&case, &plan])?;
     }
     Ok(())
 }
 
 fn damaged_strings(beside: &mut Beside, rng: &mut Rng, input: &Input) -> Result<(), Difference> {
+    beside.input = "damaged bytes";
     let (case, plan) = (encode(&input.case).bytes, encode(&input.plan).bytes);
     for _ in 0..DAMAGED {
         if !input.is_due(rng) {

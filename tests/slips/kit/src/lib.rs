@@ -36,7 +36,10 @@ thread_local! {
 /// What a program prints that is run in a folder with these files.
 pub fn run(files: Vec<(&'static [u8], Vec<u8>)>, main: fn()) -> Vec<u8> {
     FOLDER.with_borrow_mut(|folder| {
-        folder.files = files.into_iter().map(|(name, file)| (name, file, 0)).collect();
+        folder.files = files
+            .into_iter()
+            .map(|(name, file)| (name, file, 0))
+            .collect();
         folder.printed.clear();
     });
     main();
