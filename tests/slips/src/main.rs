@@ -15,6 +15,9 @@ use harness::{Beside, Difference, codec_rounds, document, rounds};
 
 use edited::{Edited, NONE, Told};
 
+/// Stands for what the document lays down, which is made from no seed.
+const DOCUMENT: u64 = 0;
+
 /// So many seeds are tried before an edit counts as untold.
 const SEEDS: u64 = 200;
 
@@ -32,6 +35,8 @@ fn main() {
     let list = fs::read_to_string(path).expect("the list of edits");
     let edits: Vec<Edit> = list.lines().map(edit_of).collect();
     let harmless = edits.iter().filter(|edit| edit.harmless).count();
+    let count = edits.len() - harmless;
+    assert!(count > 40, "only {count} edits were found");
     assert!(harmless > 0, "nothing shows that this can fail");
     quiet_edits();
     let (next, wrong) = (AtomicUsize::new(0), AtomicUsize::new(0));
@@ -46,7 +51,7 @@ fn main() {
             });
         }
     });
-    let (count, wrong) = (edits.len() - harmless, wrong.into_inner());
+    let wrong = wrong.into_inner();
     if wrong > 0 {
         eprintln!("slips: {wrong} edits are not told as they should be");
         exit(1);
@@ -95,9 +100,12 @@ fn telling_input(edit: usize, by_stops: bool) -> Option<String> {
         told: Told::default(),
     };
     let mut beside = Beside::new(calls::judge(&edited));
-    for seed in 0..=SEEDS {
+    for seed in DOCUMENT..=SEEDS {
         let made = inputs_of(&mut beside, &edited, seed);
         match (edited.told.take(), made) {
+            (Some(told), _) if seed == DOCUMENT => {
+                return Some(format!("{}: {told}", beside.input));
+            }
             (Some(told), _) => return Some(format!("{}, seed {seed}: {told}", beside.input)),
             (None, Ok(())) => {}
             (None, Err(difference)) => panic!("without an edit: {difference}"),
@@ -108,7 +116,7 @@ fn telling_input(edit: usize, by_stops: bool) -> Option<String> {
 
 /// All that is made from a seed, until a call is told apart; first of all what the document lays down.
 fn inputs_of(beside: &mut Beside, edited: &Edited, seed: u64) -> Result<(), Difference> {
-    if seed == 0 {
+    if seed == DOCUMENT {
         document::table_t(beside)?;
         return document::slips(beside);
     }
