@@ -35,6 +35,24 @@ module _ (f : ℕ → List Question) (i n : ℕ) {all : Answer} (so-far : all �
   pub rest-end : n ≤ i → all ≡ Yes
   rest-end p = so-far ∙ rest-done f i n p
 
+-- the loop's invariant: items before i have no "no", so that all n together answer what those from i on do
+pub record Asking (f : ℕ → List Question) (all : Answer) (i n : ℕ) : Type 0 where
+  pub upto : i ≤ n
+  pub so-far : all ≡ rest f i n
+
+pub asking : {f : ℕ → List Question} {n m : ℕ} → n ≡ m → Asking f (firstNo (over f 0 m)) 0 n
+asking {n = n} {m = m} e = record { upto = omega arith; so-far = let d : n - 0 ≡ m = omega (arith, e) in rw d }
+
+module _ {f : ℕ → List Question} {all : Answer} {i n : ℕ} (a : Asking f all i n) where
+  pub asking-on : {one : Answer} → i < n → one ≡ firstNo (f i) → one ≡ Yes → Asking f all (i + 1) n
+  asking-on p e y = record { upto = omega arith; so-far = rest-on f i n (a .so-far) p e y }
+
+  pub asking-no : {one : Answer} {m s q : ℕ} → i < n → one ≡ firstNo (f i) → one ≡ No m s q → one ≡ all
+  asking-no p e y = sym (rest-no f i n (a .so-far) p e y)
+
+  pub asking-end : n ≤ i → Yes ≡ all
+  asking-end p = sym (rest-end f i n (a .so-far) p)
+
 -- no item of those from i on has a no, where none of them together has
 pub over-yes : (f : ℕ → List Question) (i c : ℕ) → firstNo (over f i c) ≡ Yes → (j : ℕ) → j < c → firstNo (f (i + j)) ≡ Yes
 over-yes f i zero e j p = let b : ⊥ = omega arith in absurd b

@@ -1,4 +1,4 @@
--- The two maps between signed and unsigned numbers are inverse to each other.
+-- The two maps between signed and unsigned numbers are inverse to each other, by whether the unsigned number is even.
 -- Assumes nothing.
 use mathlib.Core.Path.{_≡_, refl, ap}
 use mathlib.Core.Bool.{Bool, true, false, cond}
@@ -9,8 +9,6 @@ use borrow.Author.Tests.{eq-eqb, ne-eqb, eqb-true, eqb-false}
 use lib.IntN.{ℤ, pos, negsuc}
 use lib.Signed.{mag}
 use Rattle.numbers.specs.law.Mapping.{unsignedOf, signedOf}
-
--- ---- the two maps are inverse to each other
 
 pub signed-even : (m : ℕ) → m % 2 ≡ 0 → signedOf m ≡ pos (m / 2)
 signed-even m h = rw (eq-eqb (m % 2) 0 h)
@@ -29,24 +27,11 @@ unsigned-signed m = go (eqb (m % 2) 0) refl
     go true e = let k = eqb-true (m % 2) 0 e in omega arith
     go false e = let k = eqb-false (m % 2) 0 e in omega arith
 
--- what fits an i64 goes to what fits a u64, and back
+-- what fits an i64 goes to what fits a u64
 pub unsigned-fits : (z : ℤ) → mag z < 2 ^ 63 → unsignedOf z < 2 ^ 64
 unsigned-fits (pos n) h = omega arith
 unsigned-fits (negsuc n) h = omega arith
 
-pub signed-fits : (m : ℕ) → m < 2 ^ 64 → mag (signedOf m) < 2 ^ 63
-signed-fits m h = go (eqb (m % 2) 0)
-  where
-    go : (b : Bool) → mag (cond b (pos (m / 2)) (negsuc (m / 2))) < 2 ^ 63
-    go true = omega arith
-    go false = omega arith
-
--- 0 and both ends
-pub at-zero : unsignedOf (pos 0) ≡ 0
-at-zero = refl
-
-pub at-largest : unsignedOf (pos 9223372036854775807) ≡ 18446744073709551614
-at-largest = refl
-
+-- the least number of 64 bits goes to the largest that is unsigned
 pub at-least : unsignedOf (negsuc 9223372036854775807) ≡ 18446744073709551615
 at-least = refl

@@ -1,7 +1,7 @@
 -- Signed locals. The machine reads a local back from its bits, `toZ w64 (ofZ w64 z)`; these laws say what is read, and that it fits.
 -- Assumes nothing.
-use mathlib.Core.Path.{_≡_, refl, sym, ap, _∙_, subst}
-use mathlib.Core.Bool.{Bool, true, false, not}
+use mathlib.Core.Path.{_≡_, refl, ap, _∙_, subst}
+use mathlib.Core.Bool.{Bool, true, false}
 use mathlib.Core.List.{List}
 use Prim.Native.Nat.{ℕ, _+_, _*_, _-_, _<_, _≤_, _^_, max}
 use native.Mathlib.Nat.{mul-le-mul, le-trans}
@@ -9,12 +9,12 @@ use native.Mathlib.Omega.{arith}
 use lib.Dec.{T, ltb, ltb→lt, lt→ltb}
 use lib.IntN.{ℤ, pos, negsuc, negℤ, natAbs, _+ℤ_, _-ℤ_, _*ℤ_}
 use lib.ListN.{getD}
-use lib.Signed.{mag, nonNeg, leZ, ltZ}
+use lib.Signed.{mag, nonNeg, ltZ}
 use mir.Syntax.{w64}
 use mir.Val.{SFits, Fits, toZ, ofZ}
 use mir.Facts.{toZ-ofZ, fits-natAbs}
 use Rattle.numbers.specs.law.Signed.{posPart}
-use Rattle.numbers.specs.inside.SignedParts.{negPart, size, ints, ltZ-t, ltZ-f, f-leZ, t-leZ}
+use Rattle.numbers.specs.inside.SignedParts.{negPart, size, ints}
 use Rattle.numbers.specs.inside.SignedBounds.{Bounded, abs-add, abs-neg, abs-mul, mag≤, abs-below, abs-above}
 
 -- `fit BOUND tt`: the bound is a numeral once computed
@@ -25,17 +25,19 @@ fit {z} {n} h t = record { sfits = omega (arith, mag≤ z, ltb→lt n (2 ^ 63) t
 pub kept : (z : ℤ) → mag z < 2 ^ 63 → toZ w64 (ofZ w64 z) ≡ z
 kept z h = toZ-ofZ {w = w64} {z = z} (record { sfits = h })
 
+-- so what is read is what the value is known to be
+pub kept-is : {z y : ℤ} → mag z < 2 ^ 63 → z ≡ y → toZ w64 (ofZ w64 z) ≡ y
+kept-is {z} h e = kept z h ∙ e
+
+-- the items of a set, or a count, that was read as an index
+pub index-is : {z : ℤ} {n : ℕ} → SFits w64 z → n ≡ posPart (toZ w64 (ofZ w64 z)) → n ≡ posPart z
+index-is f e = e ∙ ap posPart (toZ-ofZ f)
+
 -- ---- what a signed local holds. The machine reads a local back from its bits, `toZ w64 (ofZ w64 z)`. `Held r z n`: what is read, r, is z, and |z| ≤ n.
 -- One term of these follows the code's expression, and answers both that it fits (`held-fits`) and what it is (`val`).
 pub record Held (r z : ℤ) (n : ℕ) : Type 0 where
   pub val : r ≡ z
   pub bound : natAbs z ≤ n
-
-lt63 : (n : ℕ) → T (ltb n (2 ^ 63)) → n < 2 ^ 63
-lt63 n t = ltb→lt n (2 ^ 63) t
-
-fits-bound : (z : ℤ) (n : ℕ) → natAbs z ≤ n → T (ltb n (2 ^ 63)) → SFits w64 z
-fits-bound z n h t = record { sfits = omega (arith, mag≤ z, lt63 n t) }
 
 -- a literal or any other number that is not read out of a local
 pub plain : {z : ℤ} {n : ℕ} → natAbs z ≤ n → Held z z n
@@ -43,7 +45,7 @@ plain h = record { val = refl; bound = h }
 
 -- a local: the result of an operation, or a parameter, is read back
 pub held : {r z : ℤ} {n : ℕ} → Held r z n → T (ltb n (2 ^ 63)) → Held (toZ w64 (ofZ w64 r)) z n
-held {r} {z} {n} h t = record { val = subst (λ (y : ℤ). toZ w64 (ofZ w64 y) ≡ z) (sym (h .val)) (toZ-ofZ (fits-bound z n (h .bound) t)); bound = h .bound }
+held h t = record { val = rw (h .val) (toZ-ofZ (fit (record { bound = h .bound }) t)); bound = h .bound }
 
 -- a parameter, or any other signed value in a local, of which a bound is known
 pub param : {z : ℤ} {n : ℕ} → Bounded z n → T (ltb n (2 ^ 63)) → Held (toZ w64 (ofZ w64 z)) z n
@@ -65,24 +67,17 @@ pub _*ʳ_ : {r z s y : ℤ} {m n : ℕ} → Held r z m → Held s y n → Held (
 _*ʳ_ {z = z} {y = y} h k = record { val = cc; bound = omega (arith, abs-mul z y, mul-le-mul (h .bound) (k .bound)) }
 
 pub held-fits : {r z : ℤ} {n : ℕ} → Held r z n → T (ltb n (2 ^ 63)) → SFits w64 r
-held-fits {r} {z} {n} h t = subst (SFits w64) (sym (h .val)) (fits-bound z n (h .bound) t)
+held-fits h t = rw (h .val) (fit (record { bound = h .bound }) t)
 
 -- a test on two such values, as a test on what they are
 pub ltʳ : {r z s y : ℤ} {m n : ℕ} {b : Bool} → Held r z m → Held s y n → ltZ r s ≡ b → ltZ z y ≡ b
 ltʳ h k e = cc (h .val, k .val)
 
-pub leʳ : {r z s y : ℤ} {m n : ℕ} {b : Bool} → Held r z m → Held s y n → leZ r s ≡ b → leZ z y ≡ b
-leʳ h k e = cc (h .val, k .val)
-
 -- the same, of a local: `if d < 0 { -d } else { d }`
 pub absʳ-neg : {r z : ℤ} {n : ℕ} → Held r z n → T (ltb n (2 ^ 63)) → ltZ r (pos 0) ≡ true → toZ w64 (ofZ w64 (pos 0 -ℤ r)) ≡ pos (natAbs z)
-absʳ-neg {r} {z} {n} h t e = (held (literal (pos 0) -ʳ h) (subst (λ (k : ℕ). T (ltb k (2 ^ 63))) (sym (zero-plus n)) t)) .val ∙ abs-below z (ltʳ h (literal (pos 0)) e)
-  where
-    zero-plus : (n : ℕ) → 0 + n ≡ n
-    zero-plus n = omega arith
-
-pub absʳ-pos : {r z : ℤ} {n : ℕ} → Held r z n → ltZ r (pos 0) ≡ false → r ≡ pos (natAbs z)
-absʳ-pos {r} {z} h e = h .val ∙ abs-above z (ltʳ h (literal (pos 0)) e)
+absʳ-neg {r} {z} {n} h t e =
+    let k : 0 + n ≡ n = omega arith in
+    held (literal (pos 0) -ʳ h) (rw k t) .val ∙ abs-below z (ltʳ h (literal (pos 0)) e)
 
 -- ---- tests of the code on signed locals a and b, of which only the type's range is known
 -- `c .fits .x` is the SFits of a parameter, `element s i (c .x .given)` that of an element of a slice that was read into x
@@ -91,24 +86,6 @@ element s i h = record { sfits = h }
 
 pub lt← : {a b : ℤ} {v : Bool} → SFits w64 a → SFits w64 b → ltZ (toZ w64 (ofZ w64 a)) (toZ w64 (ofZ w64 b)) ≡ v → ltZ a b ≡ v
 lt← f g e = cc (toZ-ofZ f, toZ-ofZ g)
-
-pub le← : {a b : ℤ} {v : Bool} → SFits w64 a → SFits w64 b → leZ (toZ w64 (ofZ w64 a)) (toZ w64 (ofZ w64 b)) ≡ v → leZ a b ≡ v
-le← f g e = cc (toZ-ofZ f, toZ-ofZ g)
-
-pub eq← : {a b : ℤ} → SFits w64 a → SFits w64 b → ofZ w64 a ≡ ofZ w64 b → a ≡ b
-eq← f g e = sym (toZ-ofZ f) ∙ ap (toZ w64) e ∙ toZ-ofZ g
-
--- `b ≤ a` is that `a < b` is not
-pub leZ-not : (a b : ℤ) → leZ b a ≡ not (ltZ a b)
-leZ-not a b = go (ltZ a b) refl
-  where
-    go : (v : Bool) → ltZ a b ≡ v → leZ b a ≡ not v
-    go true e = f-leZ b a (ltZ-t a b e)
-    go false e = t-leZ b a (ltZ-f a b e)
-
--- so the code's `a < b` for a specification's `leZ b a`
-pub nlt← : {a b : ℤ} {v : Bool} → SFits w64 a → SFits w64 b → ltZ (toZ w64 (ofZ w64 a)) (toZ w64 (ofZ w64 b)) ≡ v → leZ b a ≡ not v
-nlt← {a} {b} f g e = leZ-not a b ∙ ap not (lt← f g e)
 
 -- ---- the range of the type, by the parts: linear, with no case
 pub record Range (z : ℤ) : Type 0 where
@@ -146,20 +123,6 @@ castu {z} f e = rw (nonneg f e) (tt, fits-natAbs tt f)
 pub castu-is : {z : ℤ} → SFits w64 z → natAbs (toZ w64 (ofZ w64 z)) ≡ natAbs z
 castu-is f = ap natAbs (toZ-ofZ f)
 
--- the two signs of a test `a < 0`, as nonNeg
-pub neg-t : {z : ℤ} → SFits w64 z → ltZ (toZ w64 (ofZ w64 z)) (pos 0) ≡ true → nonNeg z ≡ false
-neg-t {z} f e = nonneg-f z (cc (toZ-ofZ f))
-  where
-    nonneg-f : (z : ℤ) → ltZ z (pos 0) ≡ true → nonNeg z ≡ false
-    nonneg-f (pos n) e = let k = ltb→lt n 0 (subst T (sym e) tt) in let f : ⊥ = omega arith in absurd f
-    nonneg-f (negsuc n) e = refl
-
-pub neg-f : {z : ℤ} → SFits w64 z → ltZ (toZ w64 (ofZ w64 z)) (pos 0) ≡ false → nonNeg z ≡ true
-neg-f {z} f e = nonneg-t z (abs-above z (cc (toZ-ofZ f)))
-  where
-    nonneg-t : (z : ℤ) → z ≡ pos (natAbs z) → nonNeg z ≡ true
-    nonneg-t z e = ap nonNeg e
-
 -- ---- `Held` with bounds that are not numerals, as in a loop's invariant
 -- `sum` of a loop is bits: the invariant says `Held (toZ w64 sum) SPEC (i * 1000000)`
 pub loosen : {r z : ℤ} {m : ℕ} (n : ℕ) → m ≤ n → Held r z m → Held r z n
@@ -173,20 +136,6 @@ held< {n = n} h k = held h (lt→ltb n (2 ^ 63) k)
 
 pub held-fits< : {r z : ℤ} {n : ℕ} → Held r z n → n < 2 ^ 63 → SFits w64 r
 held-fits< {n = n} h k = held-fits h (lt→ltb n (2 ^ 63) k)
-
--- ---- a bound from the code's own two tests with literals, `if x < LO { return .. } if x > HI { return .. }`
-pub bd← : {x : ℤ} (lo hi : ℤ) → SFits w64 x → ltZ (toZ w64 (ofZ w64 x)) lo ≡ false → ltZ hi (toZ w64 (ofZ w64 x)) ≡ false → Bounded x (max (natAbs lo) (natAbs hi))
-bd← {x} lo hi f h k =
-    let a : ltZ x lo ≡ false = cc (toZ-ofZ f) in
-    let b : ltZ hi x ≡ false = cc (toZ-ofZ f) in
-    record { bound = omega (ints, size x, size lo, size hi) }
-
--- a test against a literal: `x < LO` as `leZ LO x`, `HI < x` as `leZ x HI`
-pub low← : {x : ℤ} {b : Bool} (lo : ℤ) → SFits w64 x → ltZ (toZ w64 (ofZ w64 x)) lo ≡ b → leZ lo x ≡ not b
-low← {x} {b} lo f e = let k : ltZ x lo ≡ b = cc (toZ-ofZ f) in leZ-not x lo ∙ ap not k
-
-pub high← : {x : ℤ} {b : Bool} (hi : ℤ) → SFits w64 x → ltZ hi (toZ w64 (ofZ w64 x)) ≡ b → leZ x hi ≡ not b
-high← {x} {b} hi f e = let k : ltZ hi x ≡ b = cc (toZ-ofZ f) in leZ-not hi x ∙ ap not k
 
 -- ---- the positive part by the code's test for a negative number
 pub below-zero : {z : ℤ} → SFits w64 z → ltZ (toZ w64 (ofZ w64 z)) (pos 0) ≡ true → posPart z ≡ 0

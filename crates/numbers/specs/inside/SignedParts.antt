@@ -133,21 +133,11 @@ is-true : (t : Bool) → T t → t ≡ true
 is-true true h = refl
 is-true false h = absurd h
 
-is-false : (t : Bool) → (T t → ⊥) → t ≡ false
-is-false true h = absurd (h tt)
-is-false false h = refl
-
 pub t-leZ : (a b : ℤ) → posPart a + negPart b ≤ negPart a + posPart b → leZ a b ≡ true
 t-leZ a b h = is-true (leZ a b) (leT a b h)
 
 pub t-ltZ : (a b : ℤ) → posPart a + negPart b < negPart a + posPart b → ltZ a b ≡ true
 t-ltZ a b h = is-true (ltZ a b) (ltT a b h)
-
-pub f-leZ : (a b : ℤ) → posPart b + negPart a < negPart b + posPart a → leZ a b ≡ false
-f-leZ a b h = is-false (leZ a b) (λ t. let k = le→ a b (record { le = t }) in omega arith)
-
-pub f-ltZ : (a b : ℤ) → posPart b + negPart a ≤ negPart b + posPart a → ltZ a b ≡ false
-f-ltZ a b h = is-false (ltZ a b) (λ t. let k = lt→ a b (record { lt = t }) in omega arith)
 
 not-t : (t : Bool) → t ≡ false → T (not t)
 not-t t e = subst (λ (b : Bool). T (not b)) (sym e) tt

@@ -5,7 +5,7 @@ use mathlib.Core.Bool.{Bool, true, false}
 use mathlib.Core.List.{List, [], _∷_, _++_}
 use Prim.Native.Nat.{ℕ, zero, suc, _+_, _≤_, _<_}
 use native.Mathlib.Omega.{arith}
-use Rattle.numbers.specs.law.Question.{Question, answer, answerTo, orElse, firstNo}
+use Rattle.numbers.specs.law.Question.{Question, answer, orElse, firstNo}
 use Rattle.numbers.specs.inside.QuestionLaws.{firstNo-append}
 use Rattle.numbers.specs.law.Items.{over}
 use Rattle.numbers.specs.declared.answer.Answer.{Answer}
@@ -19,14 +19,6 @@ module _ (b : ℕ) where
   pub small-else : (x y : Answer) → Small b x → (x ≡ Yes → Small b y) → Small b (orElse x y)
   small-else Yes y s f = f refl
   small-else (No n t p) y s f = s
-
-  pub small-answer : (yes : Bool) {n t p : ℕ} → n < b → t < b → p < b → 1 ≤ n → Small b (answer yes n t p)
-  small-answer true h k l m = tt
-  small-answer false h k l m = (h, k, l, m)
-
-  -- one question
-  pub small-one : (q : Question) → q .number < b → q .step < b → q .place < b → 1 ≤ q .number → Small b (firstNo (q ∷ []))
-  small-one q h k l m = small-else (answerTo q) Yes (small-answer (q .yes) h k l m) (λ e. tt)
 
   -- a question and what comes after it
   pub small-next : (q : Question) (qs : List Question) → q .number < b → q .step < b → q .place < b → 1 ≤ q .number

@@ -7,10 +7,7 @@ use Rattle.case.proofs.arcs.compressor_fields.Tie as tie
 
 returns : tie.Need-returns
 unfolding compressorFields
-returns c = simp firstNo-append
-    (chain (c .or-else2 .ensures) (c .before .before .before .before .field .ensures)
-    (chain (c .before .or-else .ensures) (c .before .before .before .field2 .ensures)
-    (c .before .before .field3 .ensures)))
+returns c = simp firstNo-append (cc)
 
 pub compressor-fields-spec : {M : Type 1} → statement M
 compressor-fields-spec = tie.close (tie.spec

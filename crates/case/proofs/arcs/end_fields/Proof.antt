@@ -16,10 +16,7 @@ returns : tie.Need-returns
 unfolding endFields
 returns c = let t = c .before .before .before .before .before in
     let e : toZ w64 (ofZ w64 (t .last .result)) ≡ lastOf (nodesOf (now (t .before .before .args .case))) = kept _ (t .last .ok) ∙ t .last .ensures ∙ ap lastOf (t .before .count .ensures .value) in
-    simp firstNo-append
-    (chain (c .or-else2 .ensures) (c .before .before .before .before .field .ensures)
-    (chain (c .before .or-else .ensures) (simp e at (c .before .before .before .fields .ensures))
-    (c .before .before .field2 .ensures)))
+    simp firstNo-append (cc (e))
 
 pub end-fields-spec : {M : Type 1} → statement M
 end-fields-spec = tie.close (tie.spec

@@ -19,11 +19,7 @@ returns c = let u = c .before .before .before .before .before .before .before in
     let s = t .before .before in
     let e : toZ w64 (ofZ w64 (t .last .result)) ≡ lastOf (stationsOf (now (s .args .case))) = kept _ (t .last .ok) ∙ t .last .ensures ∙ ap lastOf (t .before .count .ensures .value) in
     let d : toZ w64 (ofZ w64 (u .least-both-ways .result)) ≡ leastBothWays (countAt (now (s .args .case)) (s .args .offset)) = kept _ (u .least-both-ways .ok) ∙ u .least-both-ways .ensures ∙ ap leastBothWays (s .pre .1) in
-    simp firstNo-append
-    (chain (c .or-else3 .ensures) (simp e at (c .before .before .before .before .before .before .field .ensures))
-    (chain (c .before .or-else2 .ensures) (simp d at (c .before .before .before .before .before .field2 .ensures))
-    (chain (c .before .before .or-else .ensures) (c .before .before .before .before .field3 .ensures)
-    (c .before .before .before .field4 .ensures))))
+    simp firstNo-append (cc (e, d))
 
 pub member-fields-spec : {M : Type 1} → statement M
 member-fields-spec = tie.close (tie.spec

@@ -7,11 +7,7 @@ use Rattle.case.proofs.arcs.pipe_fields.Tie as tie
 
 returns : tie.Need-returns
 unfolding pipeFields
-returns c = simp firstNo-append
-    (chain (c .or-else3 .ensures) (c .before .before .before .before .before .before .field .ensures)
-    (chain (c .before .or-else2 .ensures) (c .before .before .before .before .before .fields .ensures)
-    (chain (c .before .before .or-else .ensures) (c .before .before .before .before .field2 .ensures)
-    (c .before .before .before .fields2 .ensures))))
+returns c = simp firstNo-append (cc)
 
 pub pipe-fields-spec : {M : Type 1} → statement M
 pipe-fields-spec = tie.close (tie.spec

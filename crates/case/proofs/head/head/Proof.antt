@@ -7,10 +7,7 @@ use Rattle.case.proofs.head.head.Tie as tie
 
 returns : tie.Need-returns
 unfolding headFields toleranceFields
-returns c = simp firstNo-append
-    (chain (c .or-else2 .ensures) (c .before .before .before .before .counts .ensures)
-    (chain (c .before .or-else .ensures) (c .before .before .before .field .ensures)
-    (c .before .before .field2 .ensures)))
+returns c = simp firstNo-append (cc)
 
 pub head-spec : {M : Type 1} → statement M
 head-spec = tie.close (tie.spec

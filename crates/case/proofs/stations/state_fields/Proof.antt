@@ -8,10 +8,7 @@ use Rattle.case.proofs.stations.state_fields.Tie as tie
 
 returns : tie.Need-returns
 unfolding stateRowFields
-returns c = simp firstNo-append
-    (chain (c .or-else2 .ensures) (simp (toZ-ofZ (c .before .before .before .before .before .fits .sets)) at (c .before .before .before .before .field .ensures))
-    (chain (c .before .or-else .ensures) (c .before .before .before .fields .ensures)
-    (c .before .before .field2 .ensures)))
+returns c = simp firstNo-append (cc (toZ-ofZ (c .before .before .before .before .before .fits .sets)))
 
 pub state-fields-spec : {M : Type 1} → statement M
 state-fields-spec = tie.close (tie.spec

@@ -1,3 +1,4 @@
+-- Both arms compute to the answer of the question, by its flag.
 use borrow.Author.Needs.{needs}
 use Rattle.numbers.proofs.answer.ask.Statement.{statement}
 use Rattle.numbers.proofs.answer.ask.Tie as tie

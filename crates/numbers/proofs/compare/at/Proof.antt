@@ -1,3 +1,4 @@
+-- Past the end of a list, `getD` is its default.
 use mathlib.Core.Path.{sym}
 use borrow.Author.Needs.{needs}
 use denote.Ref.{now}

@@ -1,3 +1,4 @@
+-- A negative number has the positive part 0, and any other number is its positive part.
 use mathlib.Core.Path.{sym}
 use Rattle.numbers.specs.inside.SignedLocals.{castu, below-zero, from-zero}
 use Rattle.numbers.proofs.compare.index.Statement.{statement}

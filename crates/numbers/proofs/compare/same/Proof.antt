@@ -1,3 +1,4 @@
+-- Being within a range from b to b is being at most and at least b; parameters are read back as they are.
 use mir.Facts.{toZ-ofZ}
 use borrow.Author.Needs.{needs}
 use Rattle.numbers.proofs.compare.same.Statement.{statement}

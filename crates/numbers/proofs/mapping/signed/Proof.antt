@@ -1,3 +1,4 @@
+-- Half of a 64-bit number, and its negation less 1, stay within the type; which of them it is goes by whether the number is even.
 use Prim.Native.Nat.{ℕ, _/_}
 use mathlib.Core.Path.{_≡_, sym, _∙_}
 use native.Mathlib.Omega.{arith}

@@ -1,3 +1,4 @@
+-- Of a negative z the code computes -(z + 1), which is `mag z` and fits where -z may not; twice that and 1 is the odd number.
 use mathlib.Core.Path.{_≡_, refl, sym, ap, _∙_}
 use mathlib.Core.Bool.{true, false}
 use Prim.Native.Nat.{_+_, _*_}
@@ -39,31 +40,30 @@ signed-pos z e = omega (ints, mags z)
 neg : (c : tie.Then1) → ltZ (c .before .args .x) (pos 0) ≡ true
 neg c = lt← (c .before .fits .x) (sfits-lit {z = pos 0} tt) (c .if1 .taken)
 
-nonneg : (c : tie.Else1) → toZ w64 (ofZ w64 (c .before .args .x)) ≡ pos (mag (c .before .args .x))
-nonneg c = toZ-ofZ (c .before .fits .x) ∙ signed-pos _ (lt← (c .before .fits .x) (sfits-lit {z = pos 0} tt) (c .if1 .left))
+nonneg : (c : tie.Else1) → c .before .args .x ≡ pos (mag (c .before .args .x))
+nonneg c = signed-pos _ (lt← (c .before .fits .x) (sfits-lit {z = pos 0} tt) (c .if1 .left))
+
+-- `m` of the two arms
+size-neg : (c : tie.Then1) → toZ w64 (ofZ w64 (pos 0 -ℤ toZ w64 (ofZ w64 (toZ w64 (ofZ w64 (c .before .args .x)) +ℤ pos 1)))) ≡ pos (mag (c .before .args .x))
+size-neg c = size-is _ (c .before .fits .x) (neg c)
+
+size-pos : (c : tie.Else1) → toZ w64 (ofZ w64 (c .before .args .x)) ≡ pos (mag (c .before .args .x))
+size-pos c = toZ-ofZ (c .before .fits .x) ∙ nonneg c
 
 add-size : tie.Need-add-size
 add-size c = rw (toZ-ofZ (c .before .fits .x)) (up-fits _ (c .before .fits .x) (neg c))
 
 sub-size : tie.Need-sub-size
-sub-size c = rw (toZ-ofZ (c .before .fits .x), toZ-ofZ (up-fits _ (c .before .fits .x) (neg c))) (neg-fits _ (c .before .fits .x) (neg c))
-
-cast-size : tie.Need-cast-size
-cast-size c = rw (size-is _ (c .before .fits .x) (neg c)) (tt, omega arith)
-
-mul-result : tie.Need-mul-result
-mul-result c = rw (size-is _ (c .before .fits .x) (neg c)) (omega arith)
-
-add-result : tie.Need-add-result
-add-result c = rw (size-is _ (c .before .fits .x) (neg c)) (omega arith)
+sub-size c = let f = c .before .fits .x in rw (toZ-ofZ f, toZ-ofZ (up-fits _ f (neg c))) (neg-fits _ f (neg c))
 
 returns : tie.Need-returns
-returns c = rw (size-is _ (c .before .fits .x) (neg c), unsigned-neg _ (neg c))
+returns c = rw (size-neg c, unsigned-neg _ (neg c))
 
 returns-2 : tie.Need-returns-2
-returns-2 c = rw (nonneg c) (ap unsignedOf (sym (signed-pos (c .before .args .x) (lt← (c .before .fits .x) (sfits-lit {z = pos 0} tt) (c .if1 .left)))))
+returns-2 c = rw (size-pos c) (ap unsignedOf (sym (nonneg c)))
 
 pub unsigned-spec : {M : Type 1} → statement M
 unsigned-spec = tie.close (tie.spec
-    add-size sub-size cast-size mul-result add-result (λ c. rw (nonneg c) (tt, omega arith))
-    (λ c. rw (nonneg c) (omega arith)) returns returns-2)
+    add-size sub-size (λ c. rw (size-neg c) (tt, omega arith)) (λ c. rw (size-neg c) (omega arith))
+    (λ c. rw (size-neg c) (omega arith)) (λ c. rw (size-pos c) (tt, omega arith))
+    (λ c. rw (size-pos c) (omega arith)) returns returns-2)

@@ -1,16 +1,13 @@
-use mathlib.Core.Path.{_≡_}
+-- Both sets are read as their items (`index-is`), of which the test is the law's own.
 use borrow.Author.Needs.{needs}
-use mir.Facts.{toZ-ofZ}
-use Rattle.numbers.specs.law.Signed.{posPart}
+use Rattle.numbers.specs.inside.SignedLocals.{index-is}
 use Rattle.numbers.proofs.sets.subset.Statement.{statement}
 use Rattle.numbers.proofs.sets.subset.Tie as tie
 
 returns : tie.Need-returns
 returns c =
-    let s = c .before .before in
-    let a : c .before .index .result ≡ posPart (s .args .a) = simp (toZ-ofZ (s .fits .a)) at (c .before .index .ensures) in
-    let b : c .index2 .result ≡ posPart (s .args .b) = simp (toZ-ofZ (s .fits .b)) at (c .index2 .ensures) in
-    rw (a, b)
+    let f = c .before .before .fits in
+    rw (index-is (f .a) (c .before .index .ensures), index-is (f .b) (c .index2 .ensures))
 
 pub subset-spec : {M : Type 1} → statement M
 subset-spec = tie.close (tie.spec (λ c κs. search needs) (λ c κs. search needs) returns)
