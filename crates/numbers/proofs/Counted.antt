@@ -1,4 +1,4 @@
--- The groups of a 64-bit number, as a loop takes them off: at most ten.
+-- The groups of a 64-bit number, as a loop takes them off: at most ten, since each takes seven bits of the length.
 -- Assumes nothing.
 use mathlib.Core.Path.{_≡_, refl, ap, subst, _∙_}
 use mathlib.Core.Bool.{Bool, true, false}
@@ -48,8 +48,9 @@ pub record Long (m k : ℕ) : Type 0 where
 -- seven digits fewer without the lowest group
 long-next : (m j : ℕ) → Long m (suc (suc (suc (suc (suc (suc (suc j))))))) → Long (m / 128) j
 long-next m j l =
+    let eight : (k : ℕ) → 2 ^ suc (suc (suc k)) ≡ 8 * 2 ^ k = λ k. omega (arith, pow-suc 2 (suc (suc k)), pow-suc 2 (suc k), pow-suc 2 k) in
     let e : 2 ^ suc (suc (suc (suc (suc (suc (suc j)))))) ≡ 128 * 2 ^ j =
-    omega (arith, pow-suc 2 (suc (suc (suc (suc (suc (suc j)))))), pow-suc 2 (suc (suc (suc (suc (suc j))))), pow-suc 2 (suc (suc (suc (suc j)))), pow-suc 2 (suc (suc (suc j))), pow-suc 2 (suc (suc j)), pow-suc 2 (suc j), pow-suc 2 j) in
+    omega (arith, eight (suc (suc (suc (suc j)))), eight (suc j), pow-suc 2 j) in
     record { below = omega (arith, l .below); top = omega (arith, l .top) }
 
 long-short : (m k : ℕ) → Long m k → m < 128 → k ≤ 7

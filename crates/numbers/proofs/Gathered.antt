@@ -1,4 +1,4 @@
--- The bytes of a number, gathered one after the other.
+-- The bytes of a number, gathered one after the other: those before make up a value, and those after stand at a scale, a power of 128.
 -- Assumes nothing.
 use mathlib.Core.Path.{_≡_, refl, ap, sym, _∙_}
 use mathlib.Core.Bool.{cond}
@@ -28,7 +28,8 @@ module _ (bytes : List ℕ) (at : ℕ) (h : at < length bytes) where
   pub later-last : (more : ℕ) → getD bytes at 0 < 128 → laterBytes (suc more) (drop at bytes) ≡ lastByte (getD bytes at 0)
   later-last more k = rw (drop-cons bytes at 0 h, lt-ltb _ _ k)
 
-  pub later-more : (more : ℕ) → 128 ≤ getD bytes at 0 → laterBytes (suc more) (drop at bytes) ≡ inFront (getD bytes at 0 - 128) (laterBytes more (drop (at + 1) bytes))
+  pub later-more : (more : ℕ) → 128 ≤ getD bytes at 0
+      → laterBytes (suc more) (drop at bytes) ≡ inFront (getD bytes at 0 - 128) (laterBytes more (drop (at + 1) bytes))
   later-more more k = rw (drop-cons bytes at 0 h, le-ltb _ _ k, add-one at)
 
   pub tenth-one : getD bytes at 0 ≡ 1 → laterBytes 0 (drop at bytes) ≡ Whole 1 1
@@ -81,7 +82,8 @@ module _ {bytes : List ℕ} {start group value scale at : ℕ} (less : ℕ) (g :
   pub scale-small : scale * 128 ≤ 2 ^ 63
   scale-small = omega (arith, power-next, mul-le-mul-left (scale * 128) (one-le-pow less 128 (omega arith)))
 
-  pub gather-last : at < length bytes → getD bytes at 0 < 128 → shifted value scale (9 - suc less) (lastByte (getD bytes at 0)) ≡ inFront group (laterBytes 8 (drop start bytes))
+  pub gather-last : at < length bytes → getD bytes at 0 < 128
+      → shifted value scale (9 - suc less) (lastByte (getD bytes at 0)) ≡ inFront group (laterBytes 8 (drop start bytes))
   gather-last h k = sym (g .result ∙ ap (shifted value scale (9 - suc less)) (later-last bytes at h less k))
 
   pub gather-more : at < length bytes → 128 ≤ getD bytes at 0 → getD bytes at 0 < 256

@@ -1,4 +1,4 @@
--- The numbers of a list, counted and placed one after the other.
+-- The numbers of a list, counted and placed one after the other: what is done, and the encoding of what is left, make up the whole encoding.
 -- Assumes nothing.
 use mathlib.Core.Path.{_≡_, refl, ap, sym, _∙_}
 use mathlib.Core.Bool.{Bool, true, false, cond}
@@ -72,12 +72,16 @@ module _ {list : List ℤ} {old bytes : List ℕ} {at i : ℕ} (f : Filling list
   pub fill-room : i < length list → length (encode list) ≤ length old → at + length (groupsAt list i) ≤ length bytes
   fill-room h k = omega (arith, f .ends, f .whole, length-from list i h)
 
-  pub fill-turn : i < length list → {next : List ℕ} {at′ : ℕ} → next ≡ sets bytes at (groupsAt list i) → at′ ≡ at + length (groupsAt list i) → Filling list old next at′ (i + 1)
+  pub fill-turn : i < length list → {next : List ℕ} {at′ : ℕ} → next ≡ sets bytes at (groupsAt list i)
+      → at′ ≡ at + length (groupsAt list i) → Filling list old next at′ (i + 1)
   fill-turn h {next} {at′} e d = record {
     upto = omega arith;
     whole = ap length e ∙ length-sets bytes at (groupsAt list i) ∙ f .whole;
     ends = omega (arith, d, f .ends, length-from list i h);
-    result = rw (e, d) (sym (sets-append bytes at (groupsAt list i) (encode (drop (i + 1) list))) ∙ ap (sets bytes at) (sym (encode-from list i h)) ∙ f .result);
+    result =
+        rw (e, d) (sym (sets-append bytes at (groupsAt list i) (encode (drop (i + 1) list))))
+        ∙ ap (sets bytes at) (sym (encode-from list i h))
+        ∙ f .result;
   }
 
   pub fill-end : length list ≤ i → bytes ≡ sets old 0 (encode list)

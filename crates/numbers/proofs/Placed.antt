@@ -1,4 +1,4 @@
--- The groups of a number, placed one after the other in the lent bytes.
+-- The groups of a number, placed one after the other in the lent bytes: what the bytes hold at the end stays the same.
 -- Assumes nothing.
 use mathlib.Core.Path.{_≡_, refl, ap, sym, _∙_}
 use mathlib.Core.List.{List}

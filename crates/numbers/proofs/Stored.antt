@@ -1,4 +1,4 @@
--- The numbers of the bytes, stored one after the other in the lent list.
+-- The numbers of the bytes, stored one after the other in the lent list: what is stored, and what is still read, make up the whole reading.
 -- Assumes nothing.
 use mathlib.Core.Path.{_≡_, refl, ap, sym, _∙_}
 use mathlib.Core.List.{List}
@@ -79,7 +79,8 @@ module _ {bytes : List ℕ} {old list : List ℤ} {at count : ℕ} (s : Storing 
 
   -- one number more to read
   read-one : at < length bytes → count < length list
-      → readFrom (length old - count) at (drop at bytes) ≡ afterNumber at (numberOf (drop at bytes)) (λ used. readFrom (length old - (count + 1)) (at + used) (drop used (drop at bytes)))
+      → readFrom (length old - count) at (drop at bytes)
+      ≡ afterNumber at (numberOf (drop at bytes)) (λ used. readFrom (length old - (count + 1)) (at + used) (drop used (drop at bytes)))
   read-one h k =
       let e : length old - count ≡ suc (length old - (count + 1)) = omega (arith, s .whole) in
       rw e (read-number (length old - (count + 1)) at bytes h)
@@ -87,10 +88,11 @@ module _ {bytes : List ℕ} {old list : List ℤ} {at count : ℕ} (s : Storing 
   pub store-no : {n : ℕ} → at < length bytes → count < length list → numberOf (drop at bytes) ≡ Refused n → Stopped bytes old list (no n at) count
   store-no h k e = store-stop (read-one h k ∙ rw e)
 
-  pub store-turn : {v u : ℕ} → at < length bytes → count < length list → numberOf (drop at bytes) ≡ Whole v u → Storing bytes old (set list count (signedOf v)) (at + u) (count + 1)
+  pub store-turn : {v u : ℕ} → at < length bytes → count < length list → numberOf (drop at bytes) ≡ Whole v u
+      → Storing bytes old (set list count (signedOf v)) (at + u) (count + 1)
   store-turn {v} {u} h k e =
-      let r : readFrom (length old - count) at (drop at bytes) ≡ withFirst (signedOf v) (readFrom (length old - (count + 1)) (at + u) (drop (at + u) bytes)) =
-      read-one h k ∙ rw (e, drop-drop u at bytes) in
+      let rest = readFrom (length old - (count + 1)) (at + u) (drop (at + u) bytes) in
+      let r : readFrom (length old - count) at (drop at bytes) ≡ withFirst (signedOf v) rest = read-one h k ∙ rw (e, drop-drop u at bytes) in
       record {
         inside = omega (arith, used-some (drop at bytes) e, length-drop at bytes);
         upto = omega (arith, s .whole);

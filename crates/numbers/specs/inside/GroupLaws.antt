@@ -39,7 +39,8 @@ module _ (list : List ℤ) (room : ℕ) where
   unfolding writeTold
   write-within count e = go (leb (length (encode list)) room) refl e
     where
-      go : (b : Bool) → leb (length (encode list)) room ≡ b → gives (pos count ∷ []) ≡ cond b (gives (pos (length (encode list)) ∷ [])) (refuses 4 0 0) → count ≤ room
+      go : (b : Bool) → leb (length (encode list)) room ≡ b
+          → gives (pos count ∷ []) ≡ cond b (gives (pos (length (encode list)) ∷ [])) (refuses 4 0 0) → count ≤ room
       go true t e =
           let v = ap (λ (t : Told). natAbs (getD (t .values) 0 (pos 0))) e in
           let h = leb-true (length (encode list)) room t in

@@ -40,7 +40,8 @@ within-later zero (b ∷ bytes) = go (leb b 1)
 within-later (suc more) [] = (omega arith, omega arith)
 within-later (suc more) (b ∷ bytes) = go (within-later more bytes) (ltb b 128)
   where
-    go : Within (length bytes) (laterBytes more bytes) → (t : Bool) → Within (suc (length bytes)) (cond t (lastByte b) (inFront (b - 128) (laterBytes more bytes)))
+    go : Within (length bytes) (laterBytes more bytes) → (t : Bool)
+        → Within (suc (length bytes)) (cond t (lastByte b) (inFront (b - 128) (laterBytes more bytes)))
     go w true = within-last b (length bytes)
     go w false = within-front (b - 128) (length bytes) (laterBytes more bytes) w
 
@@ -101,7 +102,8 @@ module _ (bytes : List ℕ) (room : ℕ) where
   unfolding readTold readOf
   refusal-within number place e = go (readFrom room 0 bytes .ended) (read-placed (length bytes) room 0 bytes (omega arith)) e
     where
-      go : (d : Ending) → Placed (length bytes) d → refuses number 0 place ≡ endTold d (length (readFrom room 0 bytes .stored)) → (number ≤ 3) × (place < length bytes) × (1 ≤ number)
+      go : (d : Ending) → Placed (length bytes) d → refuses number 0 place ≡ endTold d (length (readFrom room 0 bytes .stored))
+          → (number ≤ 3) × (place < length bytes) × (1 ≤ number)
       go all w e = let v = ap (λ (t : Told). length (t .values)) e in let f : ⊥ = omega arith in absurd f
       go (no n p) w e =
           let m = ap (λ (t : Told). t .number) e in

@@ -22,13 +22,18 @@ use Rattle.numbers.specs.claims.CodecInputs.{Numbers, Bytes}
 
 -- ---- from a number to bytes and back
 
--- the groups that come after the first group of a number
+-- the groups of a number, by whether it has only one
+abbrev split : ℕ → ℕ → Bool → List ℕ
+split more m b = cond b (m ∷ []) ((m % 128 + 128) ∷ groupsUpTo more (m / 128))
+
+-- those that come after the first
 later-groups : (more m : ℕ) (rest : List ℕ) → 1 ≤ m → m < 2 * 128 ^ more → laterBytes more (groupsUpTo more m ++ rest) ≡ Whole m (length (groupsUpTo more m))
 later-groups zero m rest h l = let e : m ≡ 1 = omega (arith, h, l) in rw e
 later-groups (suc more) m rest h l = go (ltb m 128) refl (later-groups more (m / 128) rest)
   where
-    go : (b : Bool) → ltb m 128 ≡ b → (1 ≤ m / 128 → m / 128 < 2 * 128 ^ more → laterBytes more (groupsUpTo more (m / 128) ++ rest) ≡ Whole (m / 128) (length (groupsUpTo more (m / 128))))
-        → laterBytes (suc more) (cond b (m ∷ []) ((m % 128 + 128) ∷ groupsUpTo more (m / 128)) ++ rest) ≡ Whole m (length (cond b (m ∷ []) ((m % 128 + 128) ∷ groupsUpTo more (m / 128))))
+    go : (b : Bool) → ltb m 128 ≡ b
+        → (1 ≤ m / 128 → m / 128 < 2 * 128 ^ more → laterBytes more (groupsUpTo more (m / 128) ++ rest) ≡ Whole (m / 128) (length (groupsUpTo more (m / 128))))
+        → laterBytes (suc more) (split more m b ++ rest) ≡ Whole m (length (split more m b))
     go true t again =
         let z : eqb m 0 ≡ false = ne-eqb m 0 (λ e. omega arith) in
         rw (t, z)
@@ -42,8 +47,7 @@ pub number-groups : (m : ℕ) (rest : List ℕ) → m < 2 ^ 64 → numberOf (gro
 unfolding numberOf groups
 number-groups m rest h = go (ltb m 128) refl
   where
-    go : (b : Bool) → ltb m 128 ≡ b
-        → numberOf (cond b (m ∷ []) ((m % 128 + 128) ∷ groupsUpTo 8 (m / 128)) ++ rest) ≡ Whole m (length (cond b (m ∷ []) ((m % 128 + 128) ∷ groupsUpTo 8 (m / 128))))
+    go : (b : Bool) → ltb m 128 ≡ b → numberOf (split 8 m b ++ rest) ≡ Whole m (length (split 8 m b))
     go true t = rw t
     go false t =
         let k = ltb-false m 128 t in
@@ -52,7 +56,8 @@ number-groups m rest h = go (ltb m 128) refl
         rw (n, r) (ap₂ Whole (omega arith) (omega arith))
 
 -- one number more to read
-read-some : (room place : ℕ) (bytes : List ℕ) → 1 ≤ length bytes → readFrom (suc room) place bytes ≡ afterNumber place (numberOf bytes) (λ used. readFrom room (place + used) (drop used bytes))
+read-some : (room place : ℕ) (bytes : List ℕ) → 1 ≤ length bytes
+    → readFrom (suc room) place bytes ≡ afterNumber place (numberOf bytes) (λ used. readFrom room (place + used) (drop used bytes))
 read-some room place [] h = let f : ⊥ = omega arith in absurd f
 read-some room place (b ∷ bytes) h = refl
 
@@ -60,7 +65,8 @@ unfoldable groups-nonempty : (m : ℕ) (rest : List ℕ) → 1 ≤ length (group
 unfolding groups
 groups-nonempty m rest = omega (arith, length-append (groupsUpTo 9 m) rest, some-group 9 m)
 
-pub read-encoded : (list : List ℤ) (room place : ℕ) → Numbers list → length list ≤ room → readFrom room place (encode list) ≡ record { stored = list; ended = all }
+pub read-encoded : (list : List ℤ) (room place : ℕ) → Numbers list → length list ≤ room
+    → readFrom room place (encode list) ≡ record { stored = list; ended = all }
 read-encoded [] zero place f h = refl
 read-encoded [] (suc room) place f h = refl
 read-encoded (n ∷ list) zero place f h = let z : ⊥ = omega arith in absurd z

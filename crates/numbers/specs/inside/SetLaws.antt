@@ -37,7 +37,9 @@ pub disjoint-is : (a b : ℕ) → bitAnd a b ≡ 0 → (i : ℕ) → min (bit a 
 disjoint-is a b e i = omega (arith, bit-and a b i, ap (λ (n : ℕ). bit n i) e, bit-zero i)
 
 pub is-disjoint : (k a b : ℕ) → a < 2 ^ k → ((i : ℕ) → min (bit a i) (bit b i) ≡ 0) → bitAnd a b ≡ 0
-is-disjoint k a b h f = bit-ext k (bitAnd a b) 0 (omega (arith, and-le-l a b)) (omega (arith, and-le-l a b)) (λ i. omega (arith, bit-and a b i, f i, bit-zero i))
+is-disjoint k a b h f =
+    let l = and-le-l a b in
+    bit-ext k (bitAnd a b) 0 (omega arith) (omega arith) (λ i. omega (arith, bit-and a b i, f i, bit-zero i))
 
 -- a number below 2^k has no item from k on
 pub bit-high : (k n i : ℕ) → n < 2 ^ k → k ≤ i → bit n i ≡ 0

@@ -16,6 +16,7 @@ pub shifted-first : (group : ℕ) (r : Number) → inFront group r ≡ shifted g
 shifted-first group (Whole v u) = refl
 shifted-first group (Refused n) = refl
 
-pub shifted-more : (value scale used group : ℕ) (r : Number) → shifted value scale used (inFront group r) ≡ shifted (value + scale * group) (scale * 128) (used + 1) r
+pub shifted-more : (value scale used group : ℕ) (r : Number)
+    → shifted value scale used (inFront group r) ≡ shifted (value + scale * group) (scale * 128) (used + 1) r
 shifted-more value scale used group (Whole v u) = ap₂ Whole (omega arith) (omega arith)
 shifted-more value scale used group (Refused n) = refl

@@ -34,7 +34,8 @@ module _ (b : ℕ) where
   small-append xs ys s f = subst (Small b) (sym (firstNo-append xs ys)) (small-else (firstNo xs) (firstNo ys) s f)
 
   -- one item after another, each asked only where those before it have no "no"
-  pub small-over : (f : ℕ → List Question) (i c : ℕ) → ((j : ℕ) → j < c → ((m : ℕ) → m < j → firstNo (f (i + m)) ≡ Yes) → Small b (firstNo (f (i + j)))) → Small b (firstNo (over f i c))
+  pub small-over : (f : ℕ → List Question) (i c : ℕ)
+      → ((j : ℕ) → j < c → ((m : ℕ) → m < j → firstNo (f (i + m)) ≡ Yes) → Small b (firstNo (f (i + j)))) → Small b (firstNo (over f i c))
   small-over f i zero h = tt
   small-over f i (suc c) h =
       let z : i + 0 ≡ i = omega arith in

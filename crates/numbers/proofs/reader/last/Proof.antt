@@ -1,3 +1,4 @@
+-- The product with the scale is at most 2^56 * 127, so value and byte together stay within 64 bits; a byte 0 is refused.
 use native.Mathlib.Omega.{arith}
 use borrow.Author.Needs.{needs}
 use borrow.Author.Tests.{eq-eqb, ne-eqb}

@@ -15,7 +15,8 @@ Inv-loop bytes start group value₀ scale₀ at₀ more₀ value scale at more =
 abbrev μ-loop : tie.MeasureT-loop
 μ-loop bytes start group value₀ scale₀ at₀ more₀ value scale at more = more
 
-byte-small : (w : tie.After-wide Inv-loop μ-loop) → let l = w .before .before .before .before in getD (l .before .before .args .bytes .now) (l .loop .at) 0 < 256
+byte-small : (w : tie.After-wide Inv-loop μ-loop)
+    → let l = w .before .before .before .before in getD (l .before .before .args .bytes .now) (l .loop .at) 0 < 256
 byte-small w = let l = w .before .before .before .before in omega (arith, w .before .shared-slice-known2 .given (l .loop .at))
 
 -- the group of a byte that is not the last
@@ -46,17 +47,11 @@ returns-2 c =
     let b = w .wide .ensures in
     c .last .ensures ∙ rw b (gathered _ (i .before .loop .inv) (i .loop-test .taken) (e .if1 .left) (subst (λ (n : ℕ). n < 128) b (c .before .if2 .taken)))
 
-mul-value : tie.Need-mul-value Inv-loop μ-loop
-mul-value c =
-    let m = group-small c in
-    record { fits = omega (arith, m) }
-
 add-value : tie.Need-add-value Inv-loop μ-loop
 add-value c =
-    let m = group-small c in
     let i = c .before .before .before .before in
     let g = i .before .loop .inv in
-    record { fits = omega (arith, m, g .below, scale-most _ g (i .loop-test .taken)) }
+    record { fits = omega (arith, group-small c, g .below, scale-most _ g (i .loop-test .taken)) }
 
 mul-scale : tie.Need-mul-scale Inv-loop μ-loop
 mul-scale c =
@@ -82,5 +77,5 @@ returns-3 c = c .tenth .ensures ∙ gather-tenth _ (c .before .before .loop .inv
 pub later-spec : {M : Type 1} → statement M
 later-spec = tie.close (tie.spec
     Inv-loop μ-loop loop-holds returns (λ c. omega arith) (λ c κs. search needs) (λ c. omega arith) last-requires
-    returns-2 mul-value add-value mul-scale (λ c. omega arith) (λ c. omega arith) (λ c. omega arith) loop-again
+    returns-2 (λ c. record { fits = omega (arith, group-small c) }) add-value mul-scale (λ c. omega arith) (λ c. omega arith) (λ c. omega arith) loop-again
     tenth-requires returns-3)

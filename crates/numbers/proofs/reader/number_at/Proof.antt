@@ -1,3 +1,4 @@
+-- A first byte below 128 is the number; any other is its lowest group, in front of what `later` reads from the next place.
 use mathlib.Core.Path.{sym, subst, _∙_}
 use Prim.Native.Nat.{ℕ, _<_, _≤_}
 use native.Mathlib.Omega.{arith}

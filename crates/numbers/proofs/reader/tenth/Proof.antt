@@ -1,3 +1,4 @@
+-- What stands at the tenth byte decides: nothing there, a 1, or a byte that is too large for 64 bits.
 use mathlib.Core.Path.{sym, ap, _∙_}
 use borrow.Author.Needs.{needs}
 use Prim.Native.Nat.{_^_}

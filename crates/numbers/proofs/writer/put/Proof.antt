@@ -1,9 +1,9 @@
 -- What the bytes hold at the end stays the same: the groups of `rest` are still to be placed from `i` on.
 use mathlib.Core.Path.{_≡_, _∙_}
-use Prim.Native.Nat.{_%_}
+use Prim.Native.Nat.{_<_, _%_}
 use borrow.Author.Needs.{needs}
 use native.Mathlib.Omega.{arith}
-use lib.ListN.{length-set}
+use lib.ListN.{length, length-set}
 use Rattle.numbers.proofs.Placed.{Placing, placing, place-free, place-turn, place-last}
 use Rattle.numbers.proofs.writer.put.Statement.{statement}
 use Rattle.numbers.proofs.writer.put.Tie as tie
@@ -17,26 +17,12 @@ abbrev μ-loop : tie.MeasureT-loop
 loop-holds : tie.Need-loop-holds Inv-loop μ-loop
 loop-holds c = placing _ _ _ (search needs)
 
-slice-write-bytes : tie.Need-slice-write-bytes Inv-loop μ-loop
-slice-write-bytes c = place-free (c .before .loop .inv) (c .before .before .pre)
-
-add-i : tie.Need-add-i Inv-loop μ-loop
-add-i c =
-    let l = c .before .loop .inv in
-    let f = place-free l (c .before .before .pre) in
-    omega (arith, l .whole)
+-- there is a place for one more byte, at every test of the loop
+free : (l : tie.At-loop Inv-loop μ-loop) → l .loop .i < length (l .loop .bytes)
+free l = place-free (l .loop .inv) (l .before .pre)
 
 loop-again : tie.Need-loop-again Inv-loop μ-loop
 loop-again c = place-turn (c .before .loop .inv) (c .loop-test .taken)
-
-slice-write-bytes-2 : tie.Need-slice-write-bytes-2 Inv-loop μ-loop
-slice-write-bytes-2 c = place-free (c .before .loop .inv) (c .before .before .pre)
-
-add-result : tie.Need-add-result Inv-loop μ-loop
-add-result c =
-    let l = c .before .loop .inv in
-    let f = place-free l (c .before .before .pre) in
-    omega (arith, l .whole)
 
 same-length : tie.Need-same-length Inv-loop μ-loop
 same-length c = length-set (c .before .loop .bytes) _ _ ∙ c .before .loop .inv .whole
@@ -49,5 +35,6 @@ returns c =
 
 pub put-spec : {M : Type 1} → statement M
 put-spec = tie.close (tie.spec
-    Inv-loop μ-loop loop-holds (λ c. search needs) (λ c. search needs) slice-write-bytes add-i (λ c. omega arith)
-    loop-again (λ c. search needs) slice-write-bytes-2 add-result same-length returns)
+    Inv-loop μ-loop loop-holds (λ c. search needs) (λ c. search needs) (λ c. free (c .before))
+    (λ c. omega (arith, free (c .before))) (λ c. omega arith) loop-again (λ c. search needs) (λ c. free (c .before))
+    (λ c. omega (arith, free (c .before))) same-length returns)

@@ -22,7 +22,8 @@ abbrev μ-loop : tie.MeasureT-loop
 μ-loop list bytes₀ at₀ i₀ bytes at i = length list - i
 
 -- what is placed is the groups of the number at `i`
-groups-are : (c : tie.After-unsigned Inv-loop μ-loop) → let l = c .before .before .before .before in groups (c .unsigned .result) ≡ groupsAt (l .before .before .args .list .now) (l .loop .i)
+groups-are : (c : tie.After-unsigned Inv-loop μ-loop)
+    → let l = c .before .before .before .before in groups (c .unsigned .result) ≡ groupsAt (l .before .before .args .list .now) (l .loop .i)
 groups-are c =
     let b = c .before in
     let l = b .before .before .before in

@@ -22,11 +22,13 @@ abbrev μ-loop : tie.MeasureT-loop
 μ-loop list room total₀ i₀ total i = length list - i
 
 -- what was counted is the groups of the number at `i`
-width-is : (c : tie.After-width Inv-loop μ-loop) → let l = c .before .before .before .before in c .width .result ≡ length (groupsAt (l .before .args .list .now) (l .loop .i))
+width-is : (c : tie.After-width Inv-loop μ-loop)
+    → let l = c .before .before .before .before in c .width .result ≡ length (groupsAt (l .before .args .list .now) (l .loop .i))
 width-is c =
     let b = c .before .before in
     let l = b .before .before in
-    c .width .ensures ∙ ap (λ (m : ℕ). length (groups m)) (simp (toZ-ofZ (element (l .before .args .list .now) (l .loop .i) (b .unsigned-arg .given))) at (c .before .unsigned .ensures))
+    let z = element (l .before .args .list .now) (l .loop .i) (b .unsigned-arg .given) in
+    c .width .ensures ∙ ap (λ (m : ℕ). length (groups m)) (simp (toZ-ofZ z) at (c .before .unsigned .ensures))
 
 loop-holds : tie.Need-loop-holds Inv-loop μ-loop
 loop-holds c = sizing _ _

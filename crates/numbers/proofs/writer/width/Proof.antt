@@ -1,3 +1,4 @@
+-- The count of groups is the length in bits over seven, rounded up; the length is 64 less the leading zeros.
 use mathlib.Core.Path.{refl, ap, sym}
 use native.Mathlib.Omega.{arith}
 use borrow.Author.Needs.{needs}

@@ -1,4 +1,4 @@
--- The count is known before the first byte is placed.
+-- The count is known before the first byte is placed: either all bytes fit, or none is written.
 use mathlib.Core.Path.{sym, _∙_}
 use borrow.Author.Needs.{needs}
 use denote.Ref.{now}
