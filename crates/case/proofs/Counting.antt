@@ -1,8 +1,8 @@
--- What the questions that have let a count pass say of it.
+-- What the questions that have let a count pass say of it, and so where rows begin and that offsets fit.
 -- Assumes nothing.
 use mathlib.Core.Path.{_≡_, ap, _∙_}
 use mathlib.Core.List.{List}
-use Prim.Native.Nat.{ℕ, _+_, _*_, _-_, _<_, _≤_}
+use Prim.Native.Nat.{ℕ, _+_, _*_, _<_, _≤_}
 use native.Mathlib.Nat.{add-zero, mul-le-mul}
 use native.Mathlib.Numerals.{add-one}
 use native.Mathlib.Omega.{arith}
@@ -11,18 +11,19 @@ use Rattle.numbers.specs.inside.SignedParts.{ints, added, size}
 use Rattle.numbers.specs.inside.SignedBounds.{Bounded}
 use Rattle.numbers.specs.law.Question.{firstNo}
 use Rattle.numbers.specs.declared.answer.Answer.the-variants.{Yes}
-use Rattle.case.specs.law.Layout.{countAt, timeAt}
+use Rattle.case.specs.law.Layout.{countAt, timeAt, directionCount, stateCount, machineCount}
 use Rattle.case.specs.law.Records.{timeOf, timeBefore}
 use Rattle.case.specs.inside.FieldLaws.{field-yes}
 use Rattle.case.specs.law.TimeFields.{timeField}
-use Rattle.case.specs.inside.Counts.{Counts}
+use Rattle.case.specs.inside.Counts.{Counts, StationCounted}
 
 -- a row's first number
 pub first-is : {case : List ℤ} (offset : ℕ) {r : ℕ} → Counts case (offset + 0) r → r ≡ countAt case offset
 first-is {case} offset c = c .value ∙ ap (countAt case) (add-zero offset)
 
 -- times grow by at most a day a step
-pub time-grows : (case : List ℤ) (i : ℕ) {n : ℕ} → Bounded (timeBefore case i) n → firstNo (timeField case i) ≡ Yes → Bounded (timeBefore case (i + 1)) (n + 86400)
+pub time-grows : (case : List ℤ) (i : ℕ) {n : ℕ} → Bounded (timeBefore case i) n → firstNo (timeField case i) ≡ Yes
+    → Bounded (timeBefore case (i + 1)) (n + 86400)
 unfolding timeField
 time-grows case i b e =
     let r = field-yes case (timeAt i) (timeBefore case i +ℤ pos 1) (timeBefore case i +ℤ pos 86400) e in
@@ -35,3 +36,25 @@ node-row v k h l =
     let a : v ≤ 60 = omega arith in
     let b : 6 + k ≤ 54 = omega arith in
     omega (arith, mul-le-mul a b)
+
+-- a station's counts as they were read
+pub record StationRead (case : List ℤ) (offset d z m : ℕ) : Type 0 where
+  pub directions : d ≡ directionCount case offset
+  pub states : z ≡ stateCount case offset
+  pub machines : m ≡ machineCount case offset
+  pub few-directions : d ≤ 8
+  pub few-states : z ≤ 16
+  pub few-machines : m ≤ 12
+
+pub station-read : {case : List ℤ} {offset d z m : ℕ} → StationCounted case offset
+    → Counts case (offset + 0) d → Counts case (offset + 1) z → Counts case (offset + 2) m → StationRead case offset d z m
+station-read {case} {offset} c d z m =
+    let e = first-is offset d in
+    record {
+      directions = e;
+      states = z .value;
+      machines = m .value;
+      few-directions = omega (arith, c .directions);
+      few-states = omega (arith, z .value, c .states);
+      few-machines = omega (arith, m .value, c .machines);
+    }

@@ -3,3 +3,4 @@ pub mod Asked
 pub mod Counting
 pub mod Rows
 pub mod Ruled
+pub mod Ends

@@ -1,4 +1,4 @@
--- Reading at places that may lie past the end.
+-- Reading at places that may lie past the end, where every number is 0: so a row may be read from its own beginning or from the end if that is nearer.
 -- Assumes nothing.
 use mathlib.Core.Path.{_≡_, refl, sym, ap, _∙_}
 use mathlib.Core.List.{List}
@@ -11,7 +11,11 @@ use borrow.Author.Tests.{leb-true, leb-false}
 use lib.IntN.{ℤ, pos, negsuc}
 use lib.Signed.{mag}
 use lib.ListN.{length, getD, List·getD-eq-default}
+use mir.Syntax.{w64}
+use mir.Val.{toZ, ofZ}
 use Rattle.numbers.specs.law.Signed.{posPart}
+use Rattle.numbers.specs.inside.SignedLocals.{kept-is}
+use Rattle.case.specs.inside.Counts.{Counts}
 
 -- a number past the end
 pub past : (case : List ℤ) (i : ℕ) → length case ≤ i → pos 0 ≡ getD case i (pos 0)
@@ -42,15 +46,22 @@ count-small (pos n) h = h
 count-small (negsuc n) h = omega arith
 
 -- a number j places into a row, read from where `r` says that the row begins
-pub number-in : (case : List ℤ) (offset j : ℕ) {r : ℕ} {z : ℤ} → r ≡ min offset (length case) → z ≡ getD case (r + j) (pos 0) → z ≡ getD case (offset + j) (pos 0)
-number-in case offset j e h = h ∙ ap (λ (i : ℕ). getD case (i + j) (pos 0)) e ∙ near case offset j
+module _ (case : List ℤ) (offset : ℕ) {r : ℕ} (e : r ≡ min offset (length case)) where
+  row-number : (j : ℕ) → getD case (r + j) (pos 0) ≡ getD case (offset + j) (pos 0)
+  row-number j = ap (λ (i : ℕ). getD case (i + j) (pos 0)) e ∙ near case offset j
 
-pub count-in : (case : List ℤ) (offset j : ℕ) {r n : ℕ} → r ≡ min offset (length case) → n ≡ posPart (getD case (r + j) (pos 0)) → n ≡ posPart (getD case (offset + j) (pos 0))
-count-in case offset j e h = h ∙ ap posPart (number-in case offset j e refl)
+  first : getD case (r + 0) (pos 0) ≡ getD case offset (pos 0)
+  first = row-number 0 ∙ ap (λ (i : ℕ). getD case i (pos 0)) (add-zero offset)
 
--- the same of a row's first number
-pub first-number : (case : List ℤ) (offset : ℕ) {r : ℕ} {z : ℤ} → r ≡ min offset (length case) → z ≡ getD case (r + 0) (pos 0) → z ≡ getD case offset (pos 0)
-first-number case offset e h = number-in case offset 0 e h ∙ ap (λ (i : ℕ). getD case i (pos 0)) (add-zero offset)
+  -- a signed number in a local, and a count; the same of a row's first number
+  pub number-in : (j : ℕ) {z : ℤ} → mag z < 2 ^ 63 → z ≡ getD case (r + j) (pos 0) → toZ w64 (ofZ w64 z) ≡ getD case (offset + j) (pos 0)
+  number-in j f h = kept-is f (h ∙ row-number j)
 
-pub first-count : (case : List ℤ) (offset : ℕ) {r n : ℕ} → r ≡ min offset (length case) → n ≡ posPart (getD case (r + 0) (pos 0)) → n ≡ posPart (getD case offset (pos 0))
-first-count case offset e h = h ∙ ap posPart (first-number case offset e refl)
+  pub count-in : (j : ℕ) {n : ℕ} → Counts case (r + j) n → n ≡ posPart (getD case (offset + j) (pos 0))
+  count-in j c = c .value ∙ ap posPart (row-number j)
+
+  pub first-number : {z : ℤ} → mag z < 2 ^ 63 → z ≡ getD case (r + 0) (pos 0) → toZ w64 (ofZ w64 z) ≡ getD case offset (pos 0)
+  first-number f h = kept-is f (h ∙ first)
+
+  pub first-count : {n : ℕ} → Counts case (r + 0) n → n ≡ posPart (getD case offset (pos 0))
+  first-count c = c .value ∙ ap posPart first

@@ -1,14 +1,16 @@
--- Rows that begin at an offset, and the questions of one row.
+-- Where rows begin, from the counts as they were read, and the questions of one row.
 -- Assumes nothing.
 use mathlib.Core.Path.{_≡_}
 use mathlib.Core.List.{List}
-use Prim.Native.Nat.{ℕ, _+_, _*_}
+use Prim.Native.Nat.{ℕ, _+_, _*_, _≤_}
 use native.Mathlib.Omega.{arith}
 use lib.IntN.{ℤ}
 use Rattle.numbers.specs.law.Question.{firstNo, orElse}
 use Rattle.numbers.specs.inside.QuestionLaws.{firstNo-append}
 use Rattle.numbers.specs.declared.answer.Answer.{Answer}
-use Rattle.case.specs.law.Layout.{nodesOf, arcsOf, stepsOf, nodeAt, arcAt, directionCount, directionAt, stateAt, machineAt, stationAt}
+use Rattle.case.specs.law.Layout.{nodesOf, arcsOf, stationsOf, stepsOf, nodeAt, arcAt, directionCount, directionAt, stateAt, machineAt, stationAt}
+use Rattle.case.specs.inside.Counts.{Counts, Counted}
+use Rattle.case.specs.inside.CountsInRange.{arcs-begin, stations-begin}
 use Rattle.case.specs.law.ArcFields.{endFields, kindFields, arcFields}
 use Rattle.case.proofs.Asked.{chain}
 
@@ -24,15 +26,31 @@ pub machine-row : (l : List ℤ) (offset m : ℕ) {first : ℕ} → first ≡ ma
 unfolding machineAt
 machine-row l offset m h = omega (arith, h)
 
-pub arc-asked : (l : List ℤ) (e offset : ℕ) {a b r : Answer} → offset ≡ arcAt l e → r ≡ orElse a b → a ≡ firstNo (endFields l offset) → b ≡ firstNo (kindFields l offset) → r ≡ firstNo (arcFields l e)
+pub arc-asked : (l : List ℤ) (e offset : ℕ) {a b r : Answer} → offset ≡ arcAt l e → r ≡ orElse a b → a ≡ firstNo (endFields l offset)
+    → b ≡ firstNo (kindFields l offset) → r ≡ firstNo (arcFields l e)
 unfolding arcFields
 arc-asked l e offset h o p q = rw (← h, firstNo-append) (chain o p q)
 
--- where the arcs' rows begin, and the stations'
-pub first-arc : (l : List ℤ) {n k : ℕ} → n ≡ nodesOf l → k ≡ stepsOf l → 7 + k + n * (6 + k) ≡ arcAt l 0
-unfolding arcAt nodeAt
-first-arc l p q = rw (p, q) (omega arith)
+-- the head's counts as they were read, and where the arcs' rows begin and the stations'
+pub record Begins (l : List ℤ) (n a t k : ℕ) : Type 0 where
+  pub nodes : n ≡ nodesOf l
+  pub arcs : a ≡ arcsOf l
+  pub stations : t ≡ stationsOf l
+  pub steps : k ≡ stepsOf l
+  pub arc : 7 + k + n * (6 + k) ≡ arcAt l 0
+  pub station : 7 + k + n * (6 + k) + a * 11 ≡ stationAt l 0
+  pub early-arc : arcAt l 0 ≤ 3295
+  pub early-station : stationAt l 0 ≤ 4615
 
-pub first-station : (l : List ℤ) {n k a : ℕ} → n ≡ nodesOf l → k ≡ stepsOf l → a ≡ arcsOf l → 7 + k + n * (6 + k) + a * 11 ≡ stationAt l 0
+pub begins : {l : List ℤ} {n a t k : ℕ} → Counted l → Counts l 1 n → Counts l 2 a → Counts l 3 t → Counts l 4 k → Begins l n a t k
 unfolding stationAt arcAt nodeAt
-first-station l p q r = rw (p, q, r)
+begins {l} c n a t k = record {
+  nodes = n .value;
+  arcs = a .value;
+  stations = t .value;
+  steps = k .value;
+  arc = rw (n .value, k .value) (omega arith);
+  station = rw (n .value, k .value, a .value);
+  early-arc = arcs-begin l c;
+  early-station = stations-begin l c;
+}

@@ -167,3 +167,21 @@ every-not (suc n) w i p e = go (λ q. every-not n w i q e) (ltb i n) refl
 -- a loop that has found another that is so
 pub every-more : (i : ℕ) (w : ℕ → Bool) → every i w ≡ true → w i ≡ true → every (i + 1) w ≡ true
 every-more i w e h = rw (add-one i, e, h)
+
+-- the invariant of such a loop, and what it tells once it stops
+pub record Keeping (w : ℕ → Bool) (i n : ℕ) : Type 0 where
+  pub upto : i ≤ n
+  pub so-far : every i w ≡ true
+
+pub keeping : {w : ℕ → Bool} {n : ℕ} → Keeping w 0 n
+keeping = record { upto = omega arith; so-far = refl }
+
+module _ {w : ℕ → Bool} {i n : ℕ} (k : Keeping w i n) where
+  pub keep-on : i < n → w i ≡ true → Keeping w (i + 1) n
+  keep-on p e = record { upto = omega arith; so-far = every-more i w (k .so-far) e }
+
+  pub keep-no : i < n → w i ≡ false → false ≡ every n w
+  keep-no p e = sym (every-not n w i p e)
+
+  pub keep-end : n ≤ i → true ≡ every n w
+  keep-end p = let e : i ≡ n = omega (arith, k .upto) in sym (rw e at (k .so-far))

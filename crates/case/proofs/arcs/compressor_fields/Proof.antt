@@ -1,7 +1,7 @@
+-- The answers of the three fields are put together (`firstNo-append`).
 use borrow.Author.Needs.{needs}
 use Rattle.numbers.specs.inside.QuestionLaws.{firstNo-append}
 use Rattle.case.specs.law.ArcFields.{compressorFields}
-use Rattle.case.proofs.Asked.{chain}
 use Rattle.case.proofs.arcs.compressor_fields.Statement.{statement}
 use Rattle.case.proofs.arcs.compressor_fields.Tie as tie
 

@@ -1,21 +1,18 @@
-use mathlib.Core.Path.{_≡_, ap, _∙_}
+-- The last node goes by the count that was read; the answers of the three groups of fields are put together.
+use mathlib.Core.Path.{ap, _∙_}
 use borrow.Author.Needs.{needs}
-use denote.Ref.{now}
-use mir.Syntax.{w64}
-use mir.Val.{toZ, ofZ}
 use Rattle.numbers.specs.inside.QuestionLaws.{firstNo-append}
 use Rattle.case.specs.law.ArcFields.{endFields}
 use Rattle.case.specs.law.Field.{lastOf}
-use Rattle.case.specs.law.Layout.{nodesOf}
-use Rattle.case.proofs.Asked.{chain}
-use Rattle.numbers.specs.inside.SignedLocals.{kept}
+use Rattle.numbers.specs.inside.SignedLocals.{kept-is}
 use Rattle.case.proofs.arcs.end_fields.Statement.{statement}
 use Rattle.case.proofs.arcs.end_fields.Tie as tie
 
 returns : tie.Need-returns
 unfolding endFields
-returns c = let t = c .before .before .before .before .before in
-    let e : toZ w64 (ofZ w64 (t .last .result)) ≡ lastOf (nodesOf (now (t .before .before .args .case))) = kept _ (t .last .ok) ∙ t .last .ensures ∙ ap lastOf (t .before .count .ensures .value) in
+returns c =
+    let t = c .before .before .before .before .before in
+    let e = kept-is (t .last .ok) (t .last .ensures) ∙ ap lastOf (t .before .count .ensures .value) in
     simp firstNo-append (cc (e))
 
 pub end-fields-spec : {M : Type 1} → statement M

@@ -1,3 +1,4 @@
+-- The range goes by the kind alone: a shortcut goes both ways, any other artificial arc may.
 use borrow.Author.Tests.{ne-eqb}
 use Rattle.case.proofs.arcs.least_both_ways.Statement.{statement}
 use Rattle.case.proofs.arcs.least_both_ways.Tie as tie

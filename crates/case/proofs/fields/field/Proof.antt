@@ -1,3 +1,4 @@
+-- A field that is there has one question left, whether it is in its range; bounds and number are read back as they are.
 use mathlib.Core.Bool.{_&&_}
 use mathlib.Core.Path.{_≡_, _∙_}
 use borrow.Author.Needs.{needs}
@@ -14,11 +15,13 @@ use Rattle.case.proofs.fields.field.Tie as tie
 
 returns : tie.Need-returns
 unfolding field
-returns c = let s = c .before .before .before .before in
-    let a = s .args in
-    let x = numberAt (now (a .case)) (a .i) in
-    let e : c .before .within .result ≡ (leZ (a .low) x && leZ x (a .high)) = simp (toZ-ofZ (s .fits .low), toZ-ofZ (s .fits .high), kept x (c .before .before .x .given)) at (c .before .within .ensures) in
-    c .ask .ensures ∙ rw (lt-ltb _ _ (c .before .before .before .if1 .taken), orElse-yes, e)
+returns c =
+    let w = c .before in
+    let s = w .before .before .before in
+    let x = numberAt (now (s .args .case)) (s .args .i) in
+    let e : w .within .result ≡ (leZ (s .args .low) x && leZ x (s .args .high)) =
+    simp (toZ-ofZ (s .fits .low), toZ-ofZ (s .fits .high), kept x (w .before .x .given)) at (w .within .ensures) in
+    c .ask .ensures ∙ rw (lt-ltb _ _ (w .before .before .if1 .taken), orElse-yes, e)
 
 returns-2 : tie.Need-returns-2
 unfolding field

@@ -1,3 +1,4 @@
+-- The array holds the node sets of the stations before `s`, and 0 from there on.
 use mathlib.Core.Path.{_≡_, refl, ap, _∙_}
 use Prim.Native.Nat.{ℕ, _≤_, _-_}
 use native.Mathlib.Omega.{arith}
@@ -11,7 +12,7 @@ use Rattle.case.specs.law.LayoutOf.{Holds, Clear}
 use Rattle.case.specs.inside.HoldsLaws.{holds-none, holds-more, holds-to, clear-new, clear-more}
 use Rattle.case.specs.law.StationArcs.{belongs}
 use Rattle.case.specs.law.StationNodes.{endsOf, stationNodes}
-use Rattle.numbers.specs.inside.SignedLocals.{kept}
+use Rattle.numbers.specs.inside.SignedLocals.{kept-is}
 use Rattle.case.proofs.judge.insides.Statement.{statement}
 use Rattle.case.proofs.judge.insides.Tie as tie
 
@@ -26,13 +27,13 @@ loop-holds c = (omega arith, refl, holds-none, clear-new 8 0)
 
 loop-again : tie.Need-loop-again Inv-loop μ-loop
 unfolding stationNodes
-loop-again c = let h = c .before .before in
-    let s = h .before in
-    let l = now (s .args .case) in
+loop-again c =
+    let h = c .before .before in
+    let l = now (h .before .args .case) in
     let i = h .loop .s in
-    let e : toZ w64 (ofZ w64 (c .station-nodes .result)) ≡ stationNodes l i = kept _ (c .station-nodes .ok) ∙ c .station-nodes .ensures ∙ ap (λ (a : ℕ). pos (endsOf l (belongs l i) a)) (s .pre .1) in
-    let n = clear-more (h .loop .inv .3) (toZ w64 (ofZ w64 (c .station-nodes .result))) in
-    (omega arith, simp length-set (h .loop .inv .1), holds-more (h .loop .inv .2) (omega arith) e, n)
+    let v = h .loop .inv in
+    let e = kept-is (c .station-nodes .ok) (c .station-nodes .ensures) ∙ ap (λ (a : ℕ). pos (endsOf l (belongs l i) a)) (h .before .pre .1) in
+    (omega arith, simp length-set (v .1), holds-more (v .2) (omega arith) e, clear-more (v .3) (toZ w64 (ofZ w64 (c .station-nodes .result))))
 
 returns : tie.Need-returns Inv-loop μ-loop
 returns c =

@@ -1,3 +1,4 @@
+-- The rules are asked where 10 to 12 let the list pass, and then the layout is that of the case.
 use mathlib.Core.Path.{_≡_, refl, sym, ap, _∙_}
 use Prim.Native.Nat.{ℕ}
 use native.Mathlib.Omega.{arith}

@@ -1,81 +1,52 @@
-use mathlib.Core.Path.{_≡_}
+-- The counts that were read are the head's, and say where rows begin (`Begins`); the answers of the four groups are put together.
 use native.Mathlib.Omega.{arith}
 use borrow.Author.Needs.{needs}
 use denote.Ref.{now}
 use Rattle.numbers.specs.inside.QuestionLaws.{firstNo-append}
 use Rattle.case.specs.law.ArcFields.{allArcFields}
 use Rattle.case.specs.law.Judged.{rowQuestions}
-use Rattle.case.specs.law.Layout.{nodesOf, arcsOf, stationsOf, stepsOf}
 use Rattle.case.specs.law.NodeFields.{allNodeFields}
-use Rattle.case.specs.inside.CountsInRange.{arcs-begin, stations-begin}
 use Rattle.case.specs.law.TimeFields.{timeFields}
 use Rattle.case.proofs.Asked.{chain}
-use Rattle.case.proofs.Rows.{first-arc, first-station}
+use Rattle.case.proofs.Rows.{Begins, begins}
 use Rattle.case.proofs.judge.rows.Statement.{statement}
 use Rattle.case.proofs.judge.rows.Tie as tie
 
-mul-first-arc : tie.Need-mul-first-arc
-mul-first-arc c = let s = c .before .before .before .before in
-    let l = now (s .args .case) in
-    let n : c .before .before .before .count .result ≡ nodesOf l = c .before .before .before .count .ensures .value in
-    let a : c .before .before .count2 .result ≡ arcsOf l = c .before .before .count2 .ensures .value in
-    let t : c .before .count3 .result ≡ stationsOf l = c .before .count3 .ensures .value in
-    let k : c .count4 .result ≡ stepsOf l = c .count4 .ensures .value in
-    omega (arith, first-arc l n k, arcs-begin l (s .pre), first-station l n k a, stations-begin l (s .pre))
-
-add-first-arc-3 : tie.Need-add-first-arc-3
-add-first-arc-3 c = let s = c .before .before .before .before in
-    let l = now (s .args .case) in
-    let n : c .before .before .before .count .result ≡ nodesOf l = c .before .before .before .count .ensures .value in
-    let a : c .before .before .count2 .result ≡ arcsOf l = c .before .before .count2 .ensures .value in
-    let t : c .before .count3 .result ≡ stationsOf l = c .before .count3 .ensures .value in
-    let k : c .count4 .result ≡ stepsOf l = c .count4 .ensures .value in
-    omega (arith, first-arc l n k, arcs-begin l (s .pre), first-station l n k a, stations-begin l (s .pre))
+-- the head's counts, and where rows begin
+begun : (c : tie.After-count4) → let n = c .before .before .before in
+    Begins (now (n .before .args .case)) (n .count .result) (c .before .before .count2 .result) (c .before .count3 .result) (c .count4 .result)
+begun c =
+    let n = c .before .before .before in
+    begins (n .before .pre) (n .count .ensures) (c .before .before .count2 .ensures) (c .before .count3 .ensures) (c .count4 .ensures)
 
 arc-rows-requires : tie.Need-arc-rows-requires
-arc-rows-requires c κs = let s = c .before .before .before .before .before .before in
-    let l = now (s .args .case) in
-    let n : c .before .before .before .before .before .count .result ≡ nodesOf l = c .before .before .before .before .before .count .ensures .value in
-    let a : c .before .before .before .before .count2 .result ≡ arcsOf l = c .before .before .before .before .count2 .ensures .value in
-    let t : c .before .before .before .count3 .result ≡ stationsOf l = c .before .before .before .count3 .ensures .value in
-    let k : c .before .before .count4 .result ≡ stepsOf l = c .before .before .count4 .ensures .value in
-    (omega (arith, first-arc l n k, arcs-begin l (s .pre), first-station l n k a, stations-begin l (s .pre)), omega (arith, a, s .pre .arcs), first-arc l n k)
-
-add-station-rows : tie.Need-add-station-rows
-add-station-rows c = let s = c .before .before .before .before .before .before .before in
-    let l = now (s .args .case) in
-    let n : c .before .before .before .before .before .before .count .result ≡ nodesOf l = c .before .before .before .before .before .before .count .ensures .value in
-    let a : c .before .before .before .before .before .count2 .result ≡ arcsOf l = c .before .before .before .before .before .count2 .ensures .value in
-    let t : c .before .before .before .before .count3 .result ≡ stationsOf l = c .before .before .before .before .count3 .ensures .value in
-    let k : c .before .before .before .count4 .result ≡ stepsOf l = c .before .before .before .count4 .ensures .value in
-    omega (arith, first-arc l n k, arcs-begin l (s .pre), first-station l n k a, stations-begin l (s .pre))
+arc-rows-requires c κs =
+    let b = begun (c .before .before) in
+    (omega arith, omega (arith, c .before .before .before .before .before .before .pre .arcs), b .arc)
 
 station-rows-requires : tie.Need-station-rows-requires
-station-rows-requires c κs = let s = c .before .before .before .before .before .before .before in
-    let l = now (s .args .case) in
-    let n : c .before .before .before .before .before .before .count .result ≡ nodesOf l = c .before .before .before .before .before .before .count .ensures .value in
-    let a : c .before .before .before .before .before .count2 .result ≡ arcsOf l = c .before .before .before .before .before .count2 .ensures .value in
-    let t : c .before .before .before .before .count3 .result ≡ stationsOf l = c .before .before .before .before .count3 .ensures .value in
-    let k : c .before .before .before .count4 .result ≡ stepsOf l = c .before .before .before .count4 .ensures .value in
-    (omega (arith, first-arc l n k, arcs-begin l (s .pre), first-station l n k a, stations-begin l (s .pre)), first-station l n k a, omega (arith, t, s .pre .stations), t)
+station-rows-requires c κs =
+    let k = c .before .before .before in
+    let b = begun k in
+    (omega arith, b .station, omega (arith, k .before .before .before .before .pre .stations), b .stations)
 
 returns : tie.Need-returns
 unfolding rowQuestions timeFields allNodeFields allArcFields
-returns c = let s = c .before .before .before .before .before .before .before .before .before .before .before in
-    let l = now (s .args .case) in
-    let n : c .before .before .before .before .before .before .before .before .before .before .count .result ≡ nodesOf l = c .before .before .before .before .before .before .before .before .before .before .count .ensures .value in
-    let a : c .before .before .before .before .before .before .before .before .before .count2 .result ≡ arcsOf l = c .before .before .before .before .before .before .before .before .before .count2 .ensures .value in
-    let t : c .before .before .before .before .before .before .before .before .count3 .result ≡ stationsOf l = c .before .before .before .before .before .before .before .before .count3 .ensures .value in
-    let k : c .before .before .before .before .before .before .before .count4 .result ≡ stepsOf l = c .before .before .before .before .before .before .before .count4 .ensures .value in
+returns c =
+    let s = c .before .before .before in
+    let a = s .before in
+    let n = a .before in
+    let t = n .before in
+    let b = begun (t .before) in
     simp firstNo-append
-    (chain (c .or-else3 .ensures) (simp k at (c .before .before .before .before .before .before .times .ensures))
-    (chain (c .before .or-else2 .ensures) (simp n at (c .before .before .before .before .before .node-rows .ensures))
-    (chain (c .before .before .or-else .ensures) (simp a at (c .before .before .before .before .arc-rows .ensures))
-    (simp firstNo-append at (c .before .before .before .station-rows .ensures)))))
+    (chain (c .or-else3 .ensures) (simp (b .steps) at (t .times .ensures))
+    (chain (c .before .or-else2 .ensures) (simp (b .nodes) at (n .node-rows .ensures))
+    (chain (c .before .before .or-else .ensures) (simp (b .arcs) at (a .arc-rows .ensures)) (simp firstNo-append at (s .station-rows .ensures)))))
 
 pub rows-spec : {M : Type 1} → statement M
 rows-spec = tie.close (tie.spec
     (λ c κs. search needs) (λ c κs. search needs) (λ c κs. search needs) (λ c κs. search needs) (λ c. search needs)
-    (λ c. search needs) mul-first-arc add-first-arc-3 (λ c κs. search needs) (λ c κs. search needs) arc-rows-requires
-    (λ c. search needs) add-station-rows station-rows-requires (λ c κs. search needs) (λ c κs. search needs)
+    (λ c. search needs) (λ c. omega (arith, begun c)) (λ c. omega (arith, begun c)) (λ c κs. search needs)
+    (λ c κs. search needs) arc-rows-requires (λ c. search needs)
+    (λ c. omega (arith, begun (c .before .before .before))) station-rows-requires (λ c κs. search needs) (λ c κs. search needs)
     (λ c κs. search needs) returns)

@@ -1,3 +1,4 @@
+-- A station begins where the one before it ends; the array holds where those before `s` begin, and 0 from there on.
 use mathlib.Core.Path.{_≡_, refl, sym, ap, _∙_}
 use Prim.Native.Nat.{_≤_, _<_, _-_, _+_, _*_}
 use native.Mathlib.Omega.{arith}
@@ -22,26 +23,28 @@ loop-holds : tie.Need-loop-holds Inv-loop μ-loop
 loop-holds c = (omega arith, c .pre .1, omega (arith, c .pre .0), refl, holds-none, clear-new 8 0)
 
 station-end-requires : tie.Need-station-end-requires Inv-loop μ-loop
-station-end-requires c κs = let h = c .before in
+station-end-requires c κs =
+    let h = c .before in
     let s = h .before in
-    let l = now (s .args .case) in
-    let p : h .loop .s < stationsOf l = omega (arith, s .pre .3, c .loop-test .taken) in
+    let p : h .loop .s < stationsOf (now (s .args .case)) = omega (arith, s .pre .3, c .loop-test .taken) in
     (omega (arith, h .loop .inv .2, s .pre .2, c .loop-test .taken), rw (h .loop .inv .1) (s .pre .4 .each (h .loop .s) p))
 
 loop-again : tie.Need-loop-again Inv-loop μ-loop
-loop-again c = let h = c .before .before in
+loop-again c =
+    let h = c .before .before in
     let s = h .before in
     let l = now (s .args .case) in
     let i = h .loop .s in
-    let p : i < stationsOf l = omega (arith, s .pre .3, c .before .loop-test .taken) in
-    let k = s .pre .4 .each i p in
-    let e = c .station-end .ensures ∙ ap (stationEnd l) (h .loop .inv .1) in (
+    let v = h .loop .inv in
+    let k = s .pre .4 .each i (omega (arith, s .pre .3, c .before .loop-test .taken)) in
+    let e = c .station-end .ensures ∙ ap (stationEnd l) (v .1) in
+    let m = end-most l (stationAt l i) k in (
       omega arith,
       e ∙ sym (station-next l i),
-      omega (arith, e, end-most l (stationAt l i) k, h .loop .inv .1, h .loop .inv .2),
-      simp length-set (h .loop .inv .3),
-      holds-more (h .loop .inv .4) (omega arith) (h .loop .inv .1),
-      clear-more (h .loop .inv .5) (h .loop .offset),
+      omega (arith, e, m, v .1, v .2),
+      simp length-set (v .3),
+      holds-more (v .4) (omega arith) (v .1),
+      clear-more (v .5) (h .loop .offset),
     )
 
 returns : tie.Need-returns Inv-loop μ-loop

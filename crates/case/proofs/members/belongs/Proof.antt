@@ -1,3 +1,4 @@
+-- The kind that was read decides first; of an artificial arc the fifth number of its row is its station.
 use mathlib.Core.Path.{_≡_}
 use borrow.Author.Needs.{needs}
 use borrow.Author.Tests.{le-leb, lt-leb}
@@ -8,19 +9,18 @@ use Rattle.case.proofs.Reading.{count-in, first-count}
 use Rattle.case.proofs.members.belongs.Statement.{statement}
 use Rattle.case.proofs.members.belongs.Tie as tie
 
+-- the kind that was read
+kind-is : (c : tie.After-count) → c .count .result ≡ arcOf (now (c .before .before .args .case)) (c .before .before .args .e) .kind
+kind-is c = let u = c .before in first-count _ (arcAt _ (u .before .args .e)) (u .arc-at .ensures) (c .count .ensures)
+
 returns : tie.Need-returns
-returns c = let u = c .before .before .before in
-    let a = u .before .args in
-    let l = now (a .case) in
-    let k : c .before .before .count .result ≡ arcOf l (a .e) .kind = first-count l (arcAt l (a .e)) (u .arc-at .ensures) (c .before .before .count .ensures .value) in
-    rw (← k, le-leb _ _ (c .before .if1 .taken), count-in l (arcAt l (a .e)) 4 (u .arc-at .ensures) (c .count2 .ensures .value))
+returns c =
+    let k = c .before .before in
+    let u = k .before in
+    rw (← kind-is k, le-leb _ _ (c .before .if1 .taken), count-in _ (arcAt _ (u .before .args .e)) (u .arc-at .ensures) 4 (c .count2 .ensures))
 
 returns-2 : tie.Need-returns-2
-returns-2 c = let u = c .before .before in
-    let a = u .before .args in
-    let l = now (a .case) in
-    let k : c .before .count .result ≡ arcOf l (a .e) .kind = first-count l (arcAt l (a .e)) (u .arc-at .ensures) (c .before .count .ensures .value) in
-    rw (← k, lt-leb _ _ (c .if1 .left))
+returns-2 c = rw (← kind-is (c .before), lt-leb _ _ (c .if1 .left))
 
 pub belongs-spec : {M : Type 1} → statement M
 belongs-spec = tie.close (tie.spec

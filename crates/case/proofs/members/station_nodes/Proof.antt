@@ -1,55 +1,38 @@
+-- The set holds the ends of the station's arcs so far (`Gathering`).
 use mathlib.Core.Logic.{⊎-elim}
-use mathlib.Core.Path.{_≡_, sym, ap, _∙_}
-use Prim.Native.Nat.{ℕ, _≤_, _<_, _-_, _^_}
+use mathlib.Core.Path.{sym, _∙_}
+use Prim.Native.Nat.{_-_}
 use native.Mathlib.Omega.{arith}
 use borrow.Author.Needs.{needs}
-use denote.Ref.{now}
-use lib.IntN.{pos}
-use mir.Facts.{toZ-pos}
-use mir.Syntax.{w64}
-use Rattle.case.specs.inside.CountLaws.{ends-none, ends-yes, ends-no, ends-lt}
 use Rattle.case.specs.law.StationArcs.{belongs}
-use Rattle.case.specs.law.StationNodes.{withEnds, endsOf}
+use Rattle.case.proofs.Ends.{Gathering, gathering, gather-yes, gather-no, gather-fits, gather-end}
 use Rattle.case.proofs.members.station_nodes.Statement.{statement}
 use Rattle.case.proofs.members.station_nodes.Tie as tie
 
 abbrev Inv-loop : tie.InvT-loop
-Inv-loop case s arcs nodes₀ e₀ nodes e = (e ≤ arcs) × (nodes ≡ endsOf case (belongs case s) e)
+Inv-loop case s arcs nodes₀ e₀ nodes e = Gathering case (belongs case s) nodes e arcs
 
 abbrev μ-loop : tie.MeasureT-loop
 μ-loop case s arcs nodes₀ e₀ nodes e = arcs - e
 
 loop-holds : tie.Need-loop-holds Inv-loop μ-loop
-loop-holds c = let l = now (c .args .case) in let a = c .args in (omega arith, sym (ends-none l (belongs l (a .s))))
+loop-holds c = gathering
 
 loop-again : tie.Need-loop-again Inv-loop μ-loop
-loop-again c = let b = c .before in
-    let h = b .before .before in
-    let a = h .before .args in
-    let l = now (a .case) in
-    let i = h .loop .e in (
-      omega arith,
-      ⊎-elim
-          (λ w. w .2 ∙ w .1 .ensures ∙ ap (λ (x : ℕ). withEnds l x i) (h .loop .inv .1) ∙ sym (ends-yes l (belongs l (a .s)) i (sym (b .belongs .ensures) ∙ w .0 .taken)))
-          (λ w. w .1 ∙ h .loop .inv .1 ∙ sym (ends-no l (belongs l (a .s)) i (sym (b .belongs .ensures) ∙ w .0 .left)))
-          (c .if1 .came),
-    )
-
-cast-result : tie.Need-cast-result Inv-loop μ-loop
-cast-result c = let h = c .before in
-    let a = h .before .args in
-    let l = now (a .case) in
-    record { sfits = omega (arith, h .loop .inv .1, ends-lt l (belongs l (a .s)) (h .loop .e)) }
+loop-again c =
+    let b = c .before in
+    let t = b .before in
+    let g = t .before .loop .inv in
+    let f = sym (b .belongs .ensures) in
+    ⊎-elim
+    (λ x. gather-yes g (t .loop-test .taken) (x .2 ∙ x .1 .ensures) (f ∙ x .0 .taken))
+    (λ x. gather-no g (t .loop-test .taken) (x .1) (f ∙ x .0 .left))
+    (c .if1 .came)
 
 returns : tie.Need-returns Inv-loop μ-loop
-returns c = let h = c .before in
-    let a = h .before .args in
-    let l = now (a .case) in
-    let e : h .loop .e ≡ a .arcs = omega arith in
-    let f : h .loop .nodes < 2 ^ 63 = omega (arith, h .loop .inv .1, ends-lt l (belongs l (a .s)) (h .loop .e)) in
-    toZ-pos w64 f ∙ ap pos (rw e at (h .loop .inv .1))
+returns c = gather-end (c .before .loop .inv) (c .loop-test .left)
 
 pub station-nodes-spec : {M : Type 1} → statement M
 station-nodes-spec = tie.close (tie.spec
     Inv-loop μ-loop loop-holds (λ c κs. search needs) (λ c κs. search needs) (λ c. omega arith) (λ c. omega arith)
-    loop-again cast-result returns)
+    loop-again (λ c. record { sfits = gather-fits (c .before .loop .inv) }) returns)

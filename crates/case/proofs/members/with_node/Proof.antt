@@ -1,3 +1,4 @@
+-- A one shifted by fewer than 64 places is the set of one item; a node from 60 on is left out.
 use native.Mathlib.Omega.{arith}
 use borrow.Author.Needs.{needs}
 use borrow.Author.Tests.{lt-ltb, le-ltb}

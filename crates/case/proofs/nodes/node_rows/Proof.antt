@@ -1,23 +1,23 @@
-use mathlib.Core.Path.{_≡_, sym}
-use Prim.Native.Nat.{_≤_, _-_}
+-- The rows of the nodes before `v` have no "no" (`Asking`).
+use mathlib.Core.Path.{refl}
+use Prim.Native.Nat.{_-_}
 use native.Mathlib.Omega.{arith}
 use borrow.Author.Needs.{needs}
-use denote.Ref.{now}
 use Rattle.numbers.specs.law.Items.{over}
-use Rattle.numbers.specs.inside.ItemLaws.{rest, rest-on, rest-no, rest-end}
 use Rattle.numbers.specs.law.Question.{firstNo}
 use Rattle.case.specs.law.NodeFields.{nodeFields}
+use Rattle.numbers.specs.inside.ItemLaws.{Asking, asking, asking-on, asking-no, asking-end}
 use Rattle.case.proofs.nodes.node_rows.Statement.{statement}
 use Rattle.case.proofs.nodes.node_rows.Tie as tie
 
 abbrev Inv-loop : tie.InvT-loop
-Inv-loop case steps nodes v₀ v = (v ≤ nodes) × (firstNo (over (nodeFields case) 0 nodes) ≡ rest (nodeFields case) v nodes)
+Inv-loop case steps nodes v₀ v = Asking (nodeFields case) (firstNo (over (nodeFields case) 0 nodes)) v nodes
 
 abbrev μ-loop : tie.MeasureT-loop
 μ-loop case steps nodes v₀ v = nodes - v
 
 loop-holds : tie.Need-loop-holds Inv-loop μ-loop
-loop-holds c = (omega arith, let e : c .args .nodes - 0 ≡ c .args .nodes = omega arith in rw e)
+loop-holds c = asking refl
 
 node-fields-requires : tie.Need-node-fields-requires Inv-loop μ-loop
 node-fields-requires c κs = (omega arith, omega arith, c .before .before .pre .2)
@@ -26,26 +26,17 @@ enum-told : tie.Need-enum-told Inv-loop μ-loop
 enum-told c = search needs
 
 returns : tie.Need-returns Inv-loop μ-loop
-returns c = let b = c .before .before in
-    let t = b .before in
-    let h = t .before in
-    let a = h .before .args in
-    let l = now (a .case) in
-    sym (rest-no (nodeFields l) (h .loop .v) (a .nodes) (h .loop .inv .1) (t .loop-test .taken) (b .node-fields .ensures) (c .enum-told2 .given .1))
+returns c =
+    let b = c .before .before in
+    asking-no (b .before .before .loop .inv) (b .before .loop-test .taken) (b .node-fields .ensures) (c .enum-told2 .given .1)
 
 loop-again : tie.Need-loop-again Inv-loop μ-loop
-loop-again c = let b = c .before .before in
-    let t = b .before in
-    let h = t .before in
-    let a = h .before .args in
-    let l = now (a .case) in
-    (omega arith, rest-on (nodeFields l) (h .loop .v) (a .nodes) (h .loop .inv .1) (t .loop-test .taken) (b .node-fields .ensures) (c .enum-told .given .1))
+loop-again c =
+    let b = c .before .before in
+    asking-on (b .before .before .loop .inv) (b .before .loop-test .taken) (b .node-fields .ensures) (c .enum-told .given .1)
 
 returns-2 : tie.Need-returns-2 Inv-loop μ-loop
-returns-2 c = let h = c .before in
-    let a = h .before .args in
-    let l = now (a .case) in
-    sym (rest-end (nodeFields l) (h .loop .v) (a .nodes) (h .loop .inv .1) (c .loop-test .left))
+returns-2 c = asking-end (c .before .loop .inv) (c .loop-test .left)
 
 pub node-rows-spec : {M : Type 1} → statement M
 node-rows-spec = tie.close (tie.spec

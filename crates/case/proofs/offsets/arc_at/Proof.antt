@@ -1,3 +1,4 @@
+-- The arcs' rows follow those of the nodes, each 11 numbers long.
 use mathlib.Core.Path.{_∙_}
 use native.Mathlib.Omega.{arith}
 use borrow.Author.Needs.{needs}

@@ -1,3 +1,4 @@
+-- The directions' rows follow a station's first five numbers, each three numbers long.
 use mathlib.Core.Path.{_∙_}
 use native.Mathlib.Omega.{arith}
 use borrow.Author.Needs.{needs}

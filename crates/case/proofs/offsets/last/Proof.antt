@@ -1,3 +1,4 @@
+-- A count below 2^63 is itself as a signed number, and one less fits.
 use mathlib.Core.Path.{_≡_, _∙_}
 use borrow.Author.Needs.{needs}
 use lib.IntN.{pos, _-ℤ_}

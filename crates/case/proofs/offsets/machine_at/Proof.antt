@@ -1,3 +1,4 @@
+-- The machines' rows follow those of the states, each two numbers long.
 use mathlib.Core.Path.{_∙_}
 use native.Mathlib.Omega.{arith}
 use borrow.Author.Needs.{needs}

@@ -1,3 +1,4 @@
+-- The nodes' rows follow head and times, each six numbers and a demand for every step long; a count is below 2^63, so the sums fit.
 use mathlib.Core.Path.{_∙_}
 use native.Mathlib.Omega.{arith}
 use borrow.Author.Needs.{needs}

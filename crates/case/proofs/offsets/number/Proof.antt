@@ -1,3 +1,4 @@
+-- Past the end of the list a number is 0; the sum of offset and place is taken only where it is not past the end.
 use Prim.Native.Nat.{_+_}
 use native.Mathlib.Omega.{arith}
 use borrow.Author.Needs.{needs}

@@ -1,18 +1,20 @@
+-- The demands begin six places into the row; past the end of the list a demand is 0.
 use mathlib.Core.Path.{_≡_, ap, _∙_}
 use Prim.Native.Nat.{_+_}
 use native.Mathlib.Omega.{arith}
 use borrow.Author.Needs.{needs}
 use denote.Ref.{now}
 use Rattle.case.specs.law.Layout.{numberAt, demandsAt}
-use Rattle.numbers.specs.inside.SignedLocals.{kept}
 use Rattle.case.proofs.Reading.{past}
+use Rattle.numbers.specs.inside.SignedLocals.{kept-is}
 use Rattle.case.proofs.read.demand.Statement.{statement}
 use Rattle.case.proofs.read.demand.Tie as tie
 
 returns : tie.Need-returns
-returns c = let a = c .before .before .args in
+returns c =
+    let a = c .before .before .args in
     let e : a .offset + (6 + a .i) ≡ demandsAt (a .offset) + a .i = omega arith in
-    kept _ (c .number .ok) ∙ c .number .ensures ∙ ap (numberAt (now (a .case))) e
+    kept-is (c .number .ok) (c .number .ensures) ∙ ap (numberAt (now (a .case))) e
 
 returns-2 : tie.Need-returns-2
 returns-2 c = let a = c .before .args in past (now (a .case)) (demandsAt (a .offset) + a .i) (omega arith)

@@ -1,22 +1,21 @@
-use mathlib.Core.Path.{_∙_}
+-- Each field is a number of the row, read from where the row begins or from the end if that is nearer (`number-in`).
 use borrow.Author.Needs.{needs}
 use denote.Ref.{now}
 use Rattle.case.specs.law.Layout.{stateAt}
-use Rattle.numbers.specs.inside.SignedLocals.{kept}
 use Rattle.case.proofs.Reading.{number-in, count-in, first-number}
 use Rattle.case.proofs.read.state.Statement.{statement}
 use Rattle.case.proofs.read.state.Tie as tie
 
 returns : tie.Need-returns
-returns c = let a = c .before .before .before .before .before .args in
-    let l = now (a .case) in
-    let offset = stateAt l (a .offset) (a .z) in
-    let r = c .before .before .before .before .state-at .ensures in
-    let e0 = kept (c .before .before .before .number .result) (c .before .before .before .number .ok) ∙ first-number l offset r (c .before .before .before .number .ensures) in
-    let e1 = kept (c .before .before .number2 .result) (c .before .before .number2 .ok) ∙ number-in l offset 1 r (c .before .before .number2 .ensures) in
-    let e2 = kept (c .before .number3 .result) (c .before .number3 .ok) ∙ number-in l offset 2 r (c .before .number3 .ensures) in
-    let e3 = count-in l offset 3 r (c .count .ensures .value) in
-    rw (e0, e1, e2, e3)
+returns c =
+    let u = c .before .before .before .before in
+    let l = now (u .before .args .case) in
+    let offset = stateAt l (u .before .args .offset) (u .before .args .z) in
+    let r = u .state-at .ensures in
+    let e0 = first-number l offset r (c .before .before .before .number .ok) (c .before .before .before .number .ensures) in
+    let e1 = number-in l offset r 1 (c .before .before .number2 .ok) (c .before .before .number2 .ensures) in
+    let e2 = number-in l offset r 2 (c .before .number3 .ok) (c .before .number3 .ensures) in
+    rw (e0, e1, e2, count-in l offset r 3 (c .count .ensures))
 
 pub state-spec : {M : Type 1} → statement M
 state-spec = tie.close (tie.spec

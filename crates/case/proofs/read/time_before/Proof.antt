@@ -1,8 +1,9 @@
-use mathlib.Core.Path.{_≡_, _∙_}
+-- The first step comes after time 0, and any other after the time of the step before it.
+use mathlib.Core.Path.{_≡_}
 use Prim.Native.Nat.{suc, _-_}
 use native.Mathlib.Omega.{arith}
 use borrow.Author.Needs.{needs}
-use Rattle.numbers.specs.inside.SignedLocals.{kept}
+use Rattle.numbers.specs.inside.SignedLocals.{kept-is}
 use Rattle.case.proofs.read.time_before.Statement.{statement}
 use Rattle.case.proofs.read.time_before.Tie as tie
 
@@ -10,9 +11,10 @@ returns : tie.Need-returns
 returns c = rw (c .if1 .taken)
 
 returns-2 : tie.Need-returns-2
-returns-2 c = let a = c .before .before .args in
-    let e : a .i ≡ suc (a .i - 1) = omega arith in
-    rw e (kept (c .time .result) (c .time .ok) ∙ c .time .ensures)
+returns-2 c =
+    let i = c .before .before .args .i in
+    let e : i ≡ suc (i - 1) = omega arith in
+    rw e (kept-is (c .time .ok) (c .time .ensures))
 
 pub time-before-spec : {M : Type 1} → statement M
 time-before-spec = tie.close (tie.spec (λ c. search needs) (λ c κs. search needs) returns returns-2)

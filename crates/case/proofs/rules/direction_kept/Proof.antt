@@ -1,4 +1,4 @@
-use mathlib.Core.Bool.{true, false}
+-- The three tests are made in the law's order, on the two sets that were read; a direction in range has only the items of 60 nodes.
 use mathlib.Core.Path.{_≡_, sym, ap, _∙_}
 use borrow.Author.Needs.{needs}
 use denote.Ref.{now}
@@ -11,7 +11,7 @@ use Rattle.case.specs.inside.InSet.{inBoth}
 use Rattle.case.specs.law.Records.{directionRow}
 use Rattle.case.specs.inside.SetLaws.{node-set}
 use Rattle.case.specs.declared.records.Direction.{Direction}
-use Rattle.numbers.specs.inside.SignedLocals.{kept}
+use Rattle.numbers.specs.inside.SignedLocals.{kept-is}
 use Rattle.case.proofs.rules.direction_kept.Statement.{statement}
 use Rattle.case.proofs.rules.direction_kept.Tie as tie
 
@@ -25,56 +25,42 @@ sets-are : (c : tie.After-struct-told)
 sets-are c =
     let t = c .struct-told .given in
     let e = c .before .direction .ensures in
-    (kept _ (t .0 .1) ∙ ap (λ (x : Direction). x .entry) e, kept _ (t .1 .0 .1) ∙ ap (λ (x : Direction). x .exit) e)
+    (kept-is (t .0 .1) (ap (λ (x : Direction). x .entry) e), kept-is (t .1 .0 .1) (ap (λ (x : Direction). x .exit) e))
+
+-- what the first two tests found
+apart : (c : tie.After-disjoint) → let d = c .before .before .before in c .disjoint .result ≡ disjointOf (row-of d .entry) (row-of d .exit)
+apart c = let n = sets-are (c .before .before) in simp (n .0, n .1) at (c .disjoint .ensures)
+
+entry-kept : (c : tie.After-only-fence) → let d = c .before .before .before .before .before in
+    c .only-fence .result ≡ onlyFence (inBoth (d .before .args .inside) (d .before .args .plain)) (row-of d .entry)
+entry-kept c =
+    let t = c .before .before .before .before in
+    let f = t .before .before .fits in
+    simp (sets-are t .0, toZ-ofZ (f .inside), toZ-ofZ (f .plain)) at (c .only-fence .ensures)
 
 only-fence-requires : tie.Need-only-fence-requires
-only-fence-requires c κs =
-    let t = c .before .before .before in
-    rw (sets-are t .0) (node-set (t .before .before .pre .entry))
+only-fence-requires c κs = let t = c .before .before .before in rw (sets-are t .0) (node-set (t .before .before .pre .entry))
 
 only-fence-requires-2 : tie.Need-only-fence-requires-2
-only-fence-requires-2 c κs =
-    let t = c .before .before .before .before .before in
-    rw (sets-are t .1) (node-set (t .before .before .pre .exit))
+only-fence-requires-2 c κs = let t = c .before .before .before .before .before in rw (sets-are t .1) (node-set (t .before .before .pre .exit))
 
 returns : tie.Need-returns
 unfolding setsKept
 returns c =
-    let t = c .before .before .before .before .before .before in
-    let s = t .before .before in
-    let r = row-of (t .before) in
-    let n = sets-are t in
-    let i = toZ-ofZ (s .fits .inside) in
-    let p = toZ-ofZ (s .fits .plain) in
-    let q = c .before .before .before in
-    let e : disjointOf (r .entry) (r .exit) ≡ true = simp (n .0, n .1) at (sym (q .before .disjoint .ensures) ∙ q .if1 .taken) in
-    let f : onlyFence (inBoth (s .args .inside) (s .args .plain)) (r .entry) ≡ true =
-    simp (n .0, i, p) at (sym (c .before .before .only-fence .ensures) ∙ c .before .if2 .taken) in
-    rw (e, f) (simp (n .1, i, p) at (c .only-fence2 .ensures))
+    let o = c .before .before in
+    let d = o .before .before in
+    let t = d .before .before in
+    let f = t .before .before .fits in
+    rw (sym (apart d) ∙ o .before .if1 .taken, sym (entry-kept o) ∙ c .before .if2 .taken)
+    (simp (sets-are t .1, toZ-ofZ (f .inside), toZ-ofZ (f .plain)) at (c .only-fence2 .ensures))
 
 returns-2 : tie.Need-returns-2
 unfolding setsKept
-returns-2 c =
-    let t = c .before .before .before .before .before in
-    let s = t .before .before in
-    let r = row-of (t .before) in
-    let n = sets-are t in
-    let i = toZ-ofZ (s .fits .inside) in
-    let p = toZ-ofZ (s .fits .plain) in
-    let q = c .before .before in
-    let e : disjointOf (r .entry) (r .exit) ≡ true = simp (n .0, n .1) at (sym (q .before .disjoint .ensures) ∙ q .if1 .taken) in
-    let f : onlyFence (inBoth (s .args .inside) (s .args .plain)) (r .entry) ≡ false =
-    simp (n .0, i, p) at (sym (c .before .only-fence .ensures) ∙ c .if2 .left) in
-    rw (e, f)
+returns-2 c = let o = c .before in rw (sym (apart (o .before .before)) ∙ o .before .if1 .taken, sym (entry-kept o) ∙ c .if2 .left)
 
 returns-3 : tie.Need-returns-3
 unfolding setsKept
-returns-3 c =
-    let t = c .before .before .before in
-    let r = row-of (t .before) in
-    let n = sets-are t in
-    let e : disjointOf (r .entry) (r .exit) ≡ false = simp (n .0, n .1) at (sym (c .before .disjoint .ensures) ∙ c .if1 .left) in
-    rw e
+returns-3 c = rw (sym (apart (c .before)) ∙ c .if1 .left)
 
 pub direction-kept-spec : {M : Type 1} → statement M
 direction-kept-spec = tie.close (tie.spec

@@ -1,7 +1,8 @@
-use mathlib.Core.Bool.{true, false}
+-- The station's arcs before `e` name only its own machines (`Keeping`); an arc of another station keeps the rule by itself.
+use mathlib.Core.Bool.{Bool}
 use mathlib.Core.Logic.{⊎-elim}
-use mathlib.Core.Path.{_≡_, refl, sym, ap, _∙_}
-use Prim.Native.Nat.{_≤_, _-_}
+use mathlib.Core.Path.{_≡_, sym, ap, _∙_}
+use Prim.Native.Nat.{_<_, _-_, _^_}
 use native.Mathlib.Omega.{arith}
 use borrow.Author.Needs.{needs}
 use borrow.Author.Tests.{not-true, not-false}
@@ -9,67 +10,60 @@ use denote.Ref.{now}
 use mir.Facts.{toZ-ofZ}
 use mir.Syntax.{w64}
 use mir.Val.{toZ, ofZ}
-use Rattle.numbers.specs.law.Sets.{subsetOf}
-use Rattle.case.specs.inside.CountLaws.{every-more, every-not}
-use Rattle.case.specs.law.Records.{artificialOf}
 use Rattle.case.specs.law.States.{machinesKept}
 use Rattle.case.specs.law.StationArcs.{belongs, every}
 use Rattle.case.specs.declared.records.Artificial.{Artificial}
-use Rattle.numbers.specs.inside.SignedLocals.{kept}
+use Rattle.case.specs.inside.CountLaws.{Keeping, keeping, keep-on, keep-no, keep-end}
+use Rattle.numbers.specs.inside.SignedLocals.{kept-is}
+use lib.Signed.{mag}
 use Rattle.case.proofs.rules.machines_kept.Statement.{statement}
 use Rattle.case.proofs.rules.machines_kept.Tie as tie
 
 abbrev Inv-loop : tie.InvT-loop
-Inv-loop case s own arcs e₀ e = (e ≤ arcs) × (every e (machinesKept case s (toZ w64 own)) ≡ true)
+Inv-loop case s own arcs e₀ e = Keeping (machinesKept case s (toZ w64 own)) e arcs
 
 abbrev μ-loop : tie.MeasureT-loop
 μ-loop case s own arcs e₀ e = arcs - e
 
+-- the set of the station's machines is read back as it is
+told : (s : tie.Start Inv-loop μ-loop) {b : Bool} → let a = s .args in
+    b ≡ every (a .arcs) (machinesKept (now (a .case)) (a .s) (toZ w64 (ofZ w64 (a .own)))) → b ≡ every (a .arcs) (machinesKept (now (a .case)) (a .s) (a .own))
+told s e = simp (toZ-ofZ (s .fits .own)) at e
+
+-- the set of the arc that was read
+machines-is : {x y : Artificial} → mag (x .machines) < 2 ^ 63 → x ≡ y → toZ w64 (ofZ w64 (x .machines)) ≡ y .machines
+machines-is f e = kept-is f (ap (λ (x : Artificial). x .machines) e)
+
 loop-holds : tie.Need-loop-holds Inv-loop μ-loop
-loop-holds c = (omega arith, refl)
+loop-holds c = keeping
 
 returns : tie.Need-returns Inv-loop μ-loop
 unfolding machinesKept
-returns c = let b = c .before .before .before .before .before in
-    let t = b .before in
-    let h = t .before in
-    let s = h .before in
-    let a = s .args in
-    let l = now (a .case) in
-    let e = h .loop .e in
-    let w = machinesKept l (a .s) (toZ w64 (ofZ w64 (a .own))) in
-    let u = c .before .before .before in
-    let m : toZ w64 (ofZ w64 (u .artificial .result .machines)) ≡ artificialOf l e .machines = kept _ (c .before .before .struct-told .given .1 .1 .1 .1 .0 .1) ∙ ap (λ (x : Artificial). x .machines) (u .artificial .ensures) in
-    let y : belongs l (a .s) e ≡ true = sym (b .belongs .ensures) ∙ u .before .if1 .taken in
-    let z : subsetOf (artificialOf l e .machines) (toZ w64 (ofZ w64 (a .own))) ≡ false = simp m at (sym (c .before .subset .ensures) ∙ not-true _ (c .if2 .taken)) in
-    let f : w e ≡ false = rw (y, z) in
-    sym (simp (toZ-ofZ (s .fits .own)) at (every-not (a .arcs) w e (t .loop-test .taken) f))
+returns c =
+    let t = c .before .before in
+    let u = t .before in
+    let b = u .before .before in
+    let h = b .before .before in
+    let m = machines-is (t .struct-told .given .1 .1 .1 .1 .0 .1) (u .artificial .ensures) in
+    let y = sym (b .belongs .ensures) ∙ u .before .if1 .taken in
+    let z = simp m at (sym (c .before .subset .ensures) ∙ not-true _ (c .if2 .taken)) in
+    told (h .before) (keep-no (h .loop .inv) (b .before .loop-test .taken) (rw (y, z)))
 
 loop-again : tie.Need-loop-again Inv-loop μ-loop
 unfolding machinesKept
-loop-again c = let b = c .before in
-    let t = b .before in
-    let h = t .before in
-    let s = h .before in
-    let a = s .args in
-    let l = now (a .case) in
-    let e = h .loop .e in
-    let w = machinesKept l (a .s) (toZ w64 (ofZ w64 (a .own))) in
-    let f : w e ≡ true =
-    ⊎-elim
+loop-again c =
+    let b = c .before in
+    let f = sym (b .belongs .ensures) in
+    keep-on (b .before .before .loop .inv) (b .before .loop-test .taken)
+    (⊎-elim
     (λ x.
-    let m : toZ w64 (ofZ w64 (x .1 .result .machines)) ≡ artificialOf l e .machines = kept _ (x .2 .given .1 .1 .1 .1 .0 .1) ∙ ap (λ (x : Artificial). x .machines) (x .1 .ensures) in
-    let z : subsetOf (artificialOf l e .machines) (toZ w64 (ofZ w64 (a .own))) ≡ true = simp m at (sym (x .3 .ensures) ∙ not-false _ (x .4 .left)) in
-    rw (sym (b .belongs .ensures) ∙ x .0 .taken, z))
-    (λ x. rw (sym (b .belongs .ensures) ∙ x .left))
-    (c .if1 .came) in
-    (omega arith, every-more e w (h .loop .inv .1) f)
+    let m = machines-is (x .2 .given .1 .1 .1 .1 .0 .1) (x .1 .ensures) in
+    rw (f ∙ x .0 .taken, simp m at (sym (x .3 .ensures) ∙ not-false _ (x .4 .left))))
+    (λ x. rw (f ∙ x .left))
+    (c .if1 .came))
 
 returns-2 : tie.Need-returns-2 Inv-loop μ-loop
-returns-2 c = let h = c .before in
-    let s = h .before in
-    let e : h .loop .e ≡ s .args .arcs = omega arith in
-    sym (simp (toZ-ofZ (s .fits .own)) at (rw e at (h .loop .inv .1)))
+returns-2 c = told (c .before .before) (keep-end (c .before .loop .inv) (c .loop-test .left))
 
 pub machines-kept-spec : {M : Type 1} → statement M
 machines-kept-spec = tie.close (tie.spec

@@ -1,4 +1,4 @@
-use mathlib.Core.Bool.{true, false}
+-- The three tests are made in the law's order, on the two sets that were read; they are read back as they are.
 use mathlib.Core.Path.{_≡_, sym, ap, _∙_}
 use borrow.Author.Needs.{needs}
 use denote.Ref.{now}
@@ -9,50 +9,44 @@ use Rattle.numbers.specs.law.Sets.{disjointOf, subsetOf}
 use Rattle.case.specs.law.Records.{stateRow}
 use Rattle.case.specs.law.States.{stateKept}
 use Rattle.case.specs.declared.records.State.{State}
-use Rattle.numbers.specs.inside.SignedLocals.{kept}
+use Rattle.numbers.specs.inside.SignedLocals.{kept-is}
 use Rattle.case.proofs.rules.state_kept.Statement.{statement}
 use Rattle.case.proofs.rules.state_kept.Tie as tie
 
+-- the row that was read, and its two sets
+abbrev row-of : (c : tie.After-state) → State
+row-of c = let a = c .before .args in stateRow (now (a .case)) (a .offset) (a .z)
+
+sets-are : (c : tie.After-struct-told) → let d = c .before in
+    (toZ w64 (ofZ w64 (d .state .result .on)) ≡ row-of d .on) × (toZ w64 (ofZ w64 (d .state .result .off)) ≡ row-of d .off)
+sets-are c =
+    let t = c .struct-told .given in
+    let e = c .before .state .ensures in
+    (kept-is (t .1 .0 .1) (ap (λ (x : State). x .on) e), kept-is (t .1 .1 .0 .1) (ap (λ (x : State). x .off) e))
+
+-- what the first two tests found
+apart : (c : tie.After-disjoint) → let d = c .before .before .before in c .disjoint .result ≡ disjointOf (row-of d .on) (row-of d .off)
+apart c = let n = sets-are (c .before .before) in simp (n .0, n .1) at (c .disjoint .ensures)
+
+on-own : (c : tie.After-subset) → let d = c .before .before .before .before .before in c .subset .result ≡ subsetOf (row-of d .on) (d .before .args .own)
+on-own c = let t = c .before .before .before .before in simp (sets-are t .0, toZ-ofZ (t .before .before .fits .own)) at (c .subset .ensures)
+
 returns : tie.Need-returns
 unfolding stateKept
-returns c = let d = c .before .before .before .before .before .before .before in
-    let s = d .before in
-    let l = now (s .args .case) in
-    let r = stateRow l (s .args .offset) (s .args .z) in
-    let o = toZ-ofZ (s .fits .own) in
-    let t = c .before .before .before .before .before .before .struct-told .given in
-    let n : toZ w64 (ofZ w64 (d .state .result .on)) ≡ r .on = kept _ (t .1 .0 .1) ∙ ap (λ (x : State). x .on) (d .state .ensures) in
-    let x : toZ w64 (ofZ w64 (d .state .result .off)) ≡ r .off = kept _ (t .1 .1 .0 .1) ∙ ap (λ (x : State). x .off) (d .state .ensures) in
-    let e : disjointOf (r .on) (r .off) ≡ true = simp (n, x) at (sym (c .before .before .before .before .disjoint .ensures) ∙ c .before .before .before .if1 .taken) in
-    let f : subsetOf (r .on) (s .args .own) ≡ true = simp (n, o) at (sym (c .before .before .subset .ensures) ∙ c .before .if2 .taken) in
-    rw (e, f) (simp (x, o) at (c .subset2 .ensures))
+returns c =
+    let o = c .before .before in
+    let d = o .before .before in
+    let t = d .before .before in
+    rw (sym (apart d) ∙ o .before .if1 .taken, sym (on-own o) ∙ c .before .if2 .taken)
+    (simp (sets-are t .1, toZ-ofZ (t .before .before .fits .own)) at (c .subset2 .ensures))
 
 returns-2 : tie.Need-returns-2
 unfolding stateKept
-returns-2 c = let d = c .before .before .before .before .before .before in
-    let s = d .before in
-    let l = now (s .args .case) in
-    let r = stateRow l (s .args .offset) (s .args .z) in
-    let o = toZ-ofZ (s .fits .own) in
-    let t = c .before .before .before .before .before .struct-told .given in
-    let n : toZ w64 (ofZ w64 (d .state .result .on)) ≡ r .on = kept _ (t .1 .0 .1) ∙ ap (λ (x : State). x .on) (d .state .ensures) in
-    let x : toZ w64 (ofZ w64 (d .state .result .off)) ≡ r .off = kept _ (t .1 .1 .0 .1) ∙ ap (λ (x : State). x .off) (d .state .ensures) in
-    let e : disjointOf (r .on) (r .off) ≡ true = simp (n, x) at (sym (c .before .before .before .disjoint .ensures) ∙ c .before .before .if1 .taken) in
-    let f : subsetOf (r .on) (s .args .own) ≡ false = simp (n, o) at (sym (c .before .subset .ensures) ∙ c .if2 .left) in
-    rw (e, f)
+returns-2 c = let o = c .before in rw (sym (apart (o .before .before)) ∙ o .before .if1 .taken, sym (on-own o) ∙ c .if2 .left)
 
 returns-3 : tie.Need-returns-3
 unfolding stateKept
-returns-3 c = let d = c .before .before .before .before in
-    let s = d .before in
-    let l = now (s .args .case) in
-    let r = stateRow l (s .args .offset) (s .args .z) in
-    let o = toZ-ofZ (s .fits .own) in
-    let t = c .before .before .before .struct-told .given in
-    let n : toZ w64 (ofZ w64 (d .state .result .on)) ≡ r .on = kept _ (t .1 .0 .1) ∙ ap (λ (x : State). x .on) (d .state .ensures) in
-    let x : toZ w64 (ofZ w64 (d .state .result .off)) ≡ r .off = kept _ (t .1 .1 .0 .1) ∙ ap (λ (x : State). x .off) (d .state .ensures) in
-    let e : disjointOf (r .on) (r .off) ≡ false = simp (n, x) at (sym (c .before .disjoint .ensures) ∙ c .if1 .left) in
-    rw e
+returns-3 c = rw (sym (apart (c .before)) ∙ c .if1 .left)
 
 pub state-kept-spec : {M : Type 1} → statement M
 state-kept-spec = tie.close (tie.spec

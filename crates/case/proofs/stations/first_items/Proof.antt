@@ -1,3 +1,4 @@
+-- A one shifted by n places, less one, is the set of the first n items, and fits where n is below 62.
 use native.Mathlib.Omega.{arith}
 use borrow.Author.Needs.{needs}
 use lib.Pow.{pow-pos}

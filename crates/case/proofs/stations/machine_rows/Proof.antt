@@ -1,57 +1,53 @@
-use mathlib.Core.Path.{_≡_, sym}
-use Prim.Native.Nat.{_≤_, _-_}
+-- The rows of the machines before `m` have no "no" (`Asking`); a row has a flow and a ratio.
+use mathlib.Core.Path.{_≡_, refl}
+use Prim.Native.Nat.{_-_}
 use native.Mathlib.Omega.{arith}
 use borrow.Author.Needs.{needs}
 use denote.Ref.{now}
 use Rattle.numbers.specs.law.Items.{over}
-use Rattle.numbers.specs.inside.ItemLaws.{rest, rest-on, rest-no, rest-end}
 use Rattle.numbers.specs.law.Question.{firstNo}
 use Rattle.numbers.specs.inside.QuestionLaws.{firstNo-append}
 use Rattle.case.specs.law.StationFields.{machineFields}
 use Rattle.case.proofs.Asked.{chain}
 use Rattle.case.proofs.Rows.{machine-row}
+use Rattle.numbers.specs.inside.ItemLaws.{Asking, asking, asking-on, asking-no, asking-end}
 use Rattle.case.proofs.stations.machine_rows.Statement.{statement}
 use Rattle.case.proofs.stations.machine_rows.Tie as tie
 
 abbrev Inv-loop : tie.InvT-loop
-Inv-loop case offset first machines m₀ m = (m ≤ machines) × (firstNo (over (machineFields case (offset)) 0 machines) ≡ rest (machineFields case (offset)) m machines)
+Inv-loop case offset first machines m₀ m = Asking (machineFields case offset) (firstNo (over (machineFields case offset) 0 machines)) m machines
 
 abbrev μ-loop : tie.MeasureT-loop
 μ-loop case offset first machines m₀ m = machines - m
 
+asked : (b : tie.After-or-else Inv-loop μ-loop) → let h = b .before .before .before .before in
+    b .or-else .result ≡ firstNo (machineFields (now (h .before .args .case)) (h .before .args .offset) (h .loop .m))
+unfolding machineFields
+asked b =
+    let h = b .before .before .before .before in
+    rw (← machine-row _ (h .before .args .offset) (h .loop .m) (h .before .pre .1), firstNo-append)
+    (chain (b .or-else .ensures) (b .before .before .field .ensures) (b .before .field2 .ensures))
+
 loop-holds : tie.Need-loop-holds Inv-loop μ-loop
-loop-holds c = (omega arith, let e : c .args .machines - 0 ≡ c .args .machines = omega arith in rw e)
+loop-holds c = asking refl
 
 enum-told : tie.Need-enum-told Inv-loop μ-loop
 enum-told c = search needs
 
 returns : tie.Need-returns Inv-loop μ-loop
-unfolding machineFields
-returns c = let b = c .before .before in
+returns c =
+    let b = c .before .before in
     let t = b .before .before .before in
-    let h = t .before in
-    let s = h .before in
-    let a = s .args in
-    let l = now (a .case) in
-    let q : b .or-else .result ≡ firstNo (machineFields l (a .offset) (h .loop .m)) = rw (← machine-row l (a .offset) (h .loop .m) (s .pre .1), firstNo-append) (chain (b .or-else .ensures) (b .before .before .field .ensures) (b .before .field2 .ensures)) in
-    sym (rest-no (machineFields l (a .offset)) (h .loop .m) (a .machines) (h .loop .inv .1) (t .loop-test .taken) q (c .enum-told2 .given .1))
+    asking-no (t .before .loop .inv) (t .loop-test .taken) (asked b) (c .enum-told2 .given .1)
 
 loop-again : tie.Need-loop-again Inv-loop μ-loop
-unfolding machineFields
-loop-again c = let b = c .before .before in
+loop-again c =
+    let b = c .before .before in
     let t = b .before .before .before in
-    let h = t .before in
-    let s = h .before in
-    let a = s .args in
-    let l = now (a .case) in
-    let q : b .or-else .result ≡ firstNo (machineFields l (a .offset) (h .loop .m)) = rw (← machine-row l (a .offset) (h .loop .m) (s .pre .1), firstNo-append) (chain (b .or-else .ensures) (b .before .before .field .ensures) (b .before .field2 .ensures)) in
-    (omega arith, rest-on (machineFields l (a .offset)) (h .loop .m) (a .machines) (h .loop .inv .1) (t .loop-test .taken) q (c .enum-told .given .1))
+    asking-on (t .before .loop .inv) (t .loop-test .taken) (asked b) (c .enum-told .given .1)
 
 returns-2 : tie.Need-returns-2 Inv-loop μ-loop
-returns-2 c = let h = c .before in
-    let a = h .before .args in
-    let l = now (a .case) in
-    sym (rest-end (machineFields l (a .offset)) (h .loop .m) (a .machines) (h .loop .inv .1) (c .loop-test .left))
+returns-2 c = asking-end (c .before .loop .inv) (c .loop-test .left)
 
 pub machine-rows-spec : {M : Type 1} → statement M
 machine-rows-spec = tie.close (tie.spec

@@ -1,91 +1,46 @@
-use mathlib.Core.Path.{_≡_}
+-- The counts that were read are the station's and in range (`StationRead`); the answers of the three groups are put together.
 use native.Mathlib.Omega.{arith}
 use borrow.Author.Needs.{needs}
 use denote.Ref.{now}
 use Rattle.numbers.specs.inside.QuestionLaws.{firstNo-append}
-use Rattle.case.specs.law.Layout.{directionCount, stateCount, machineCount, directionAt, stateAt, machineAt}
+use Rattle.case.specs.law.Layout.{directionAt, stateAt, machineAt}
 use Rattle.case.specs.law.StationFields.{partFields}
 use Rattle.case.proofs.Asked.{chain}
-use Rattle.case.proofs.Counting.{first-is}
+use Rattle.case.proofs.Counting.{StationRead, station-read}
 use Rattle.case.proofs.stations.part_rows.Statement.{statement}
 use Rattle.case.proofs.stations.part_rows.Tie as tie
 
+-- the counts that were read
+read : (c : tie.After-count3) → let d = c .before .before in
+    StationRead (now (d .before .args .case)) (d .before .args .offset) (d .count .result) (c .before .count2 .result) (c .count3 .result)
+read c = let d = c .before .before in station-read (d .before .pre .1) (d .count .ensures) (c .before .count2 .ensures) (c .count3 .ensures)
+
 direction-rows-requires : tie.Need-direction-rows-requires
-direction-rows-requires c κs = let s = c .before .before .before in
-    let p = s .pre .1 in
-    let l = now (s .args .case) in
-    let offset = s .args .offset in
-    let d : c .before .before .count .result ≡ directionCount l offset = first-is offset (c .before .before .count .ensures) in
-    let z : c .before .count2 .result ≡ stateCount l offset = c .before .count2 .ensures .value in
-    let m : c .count3 .result ≡ machineCount l offset = c .count3 .ensures .value in
-    (s .pre .0, omega arith)
+direction-rows-requires c κs = (c .before .before .before .pre .0, omega (arith, read c))
 
 state-rows-requires : tie.Need-state-rows-requires
-state-rows-requires c κs = let s = c .before .before .before .before in
-    let p = s .pre .1 in
-    let l = now (s .args .case) in
-    let offset = s .args .offset in
-    let d : c .before .before .before .count .result ≡ directionCount l offset = first-is offset (c .before .before .before .count .ensures) in
-    let z : c .before .before .count2 .result ≡ stateCount l offset = c .before .before .count2 .ensures .value in
-    let m : c .before .count3 .result ≡ machineCount l offset = c .before .count3 .ensures .value in
-    (s .pre .0, omega arith, d, omega arith)
-
-mul-machine-rows : tie.Need-mul-machine-rows
-mul-machine-rows c = let s = c .before .before .before .before .before in
-    let p = s .pre .1 in
-    let l = now (s .args .case) in
-    let offset = s .args .offset in
-    let d : c .before .before .before .before .count .result ≡ directionCount l offset = first-is offset (c .before .before .before .before .count .ensures) in
-    let z : c .before .before .before .count2 .result ≡ stateCount l offset = c .before .before .before .count2 .ensures .value in
-    let m : c .before .before .count3 .result ≡ machineCount l offset = c .before .before .count3 .ensures .value in
-    omega arith
-
-add-machine-rows-2 : tie.Need-add-machine-rows-2
-add-machine-rows-2 c = let s = c .before .before .before .before .before in
-    let p = s .pre .1 in
-    let l = now (s .args .case) in
-    let offset = s .args .offset in
-    let d : c .before .before .before .before .count .result ≡ directionCount l offset = first-is offset (c .before .before .before .before .count .ensures) in
-    let z : c .before .before .before .count2 .result ≡ stateCount l offset = c .before .before .before .count2 .ensures .value in
-    let m : c .before .before .count3 .result ≡ machineCount l offset = c .before .before .count3 .ensures .value in
-    omega arith
-
-add-machine-rows-3 : tie.Need-add-machine-rows-3
-add-machine-rows-3 c = let s = c .before .before .before .before .before in
-    let p = s .pre .1 in
-    let l = now (s .args .case) in
-    let offset = s .args .offset in
-    let d : c .before .before .before .before .count .result ≡ directionCount l offset = first-is offset (c .before .before .before .before .count .ensures) in
-    let z : c .before .before .before .count2 .result ≡ stateCount l offset = c .before .before .before .count2 .ensures .value in
-    let m : c .before .before .count3 .result ≡ machineCount l offset = c .before .before .count3 .ensures .value in
-    omega arith
+state-rows-requires c κs =
+    let r = read (c .before) in
+    (c .before .before .before .before .pre .0, omega arith, r .directions, omega arith)
 
 machine-rows-requires : tie.Need-machine-rows-requires
 unfolding machineAt stateAt directionAt
-machine-rows-requires c κs = let s = c .before .before .before .before .before in
-    let p = s .pre .1 in
-    let l = now (s .args .case) in
-    let offset = s .args .offset in
-    let d : c .before .before .before .before .count .result ≡ directionCount l offset = first-is offset (c .before .before .before .before .count .ensures) in
-    let z : c .before .before .before .count2 .result ≡ stateCount l offset = c .before .before .before .count2 .ensures .value in
-    let m : c .before .before .count3 .result ≡ machineCount l offset = c .before .before .count3 .ensures .value in
-    (omega arith, omega arith, omega arith)
+machine-rows-requires c κs = let r = read (c .before .before) in (omega arith, omega arith, omega arith)
 
 returns : tie.Need-returns
 unfolding partFields
-returns c = let s = c .before .before .before .before .before .before .before .before in
-    let p = s .pre .1 in
-    let l = now (s .args .case) in
-    let offset = s .args .offset in
-    let d : c .before .before .before .before .before .before .before .count .result ≡ directionCount l offset = first-is offset (c .before .before .before .before .before .before .before .count .ensures) in
-    let z : c .before .before .before .before .before .before .count2 .result ≡ stateCount l offset = c .before .before .before .before .before .before .count2 .ensures .value in
-    let m : c .before .before .before .before .before .count3 .result ≡ machineCount l offset = c .before .before .before .before .before .count3 .ensures .value in
+returns c =
+    let m = c .before .before in
+    let z = m .before in
+    let d = z .before in
+    let r = read (d .before) in
     simp firstNo-append
-    (chain (c .or-else2 .ensures) (simp d at (c .before .before .before .before .direction-rows .ensures))
-    (chain (c .before .or-else .ensures) (simp z at (c .before .before .before .state-rows .ensures)) (simp m at (c .before .before .machine-rows .ensures))))
+    (chain (c .or-else2 .ensures) (simp (r .directions) at (d .direction-rows .ensures))
+    (chain (c .before .or-else .ensures) (simp (r .states) at (z .state-rows .ensures)) (simp (r .machines) at (m .machine-rows .ensures))))
 
 pub part-rows-spec : {M : Type 1} → statement M
 part-rows-spec = tie.close (tie.spec
     (λ c κs. search needs) (λ c κs. search needs) (λ c κs. search needs) direction-rows-requires state-rows-requires
-    (λ c. search needs) mul-machine-rows add-machine-rows-2 (λ c. search needs) add-machine-rows-3 machine-rows-requires
+    (λ c. search needs) (λ c. omega (arith, read (c .before .before))) (λ c. omega (arith, read (c .before .before)))
+    (λ c. search needs) (λ c. omega (arith, read (c .before .before))) machine-rows-requires
     (λ c κs. search needs) (λ c κs. search needs) returns)

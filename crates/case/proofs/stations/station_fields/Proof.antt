@@ -1,6 +1,6 @@
+-- The parts are read where no field of the station's first row is refused, so that its counts are in range.
 use mathlib.Core.Path.{sym, _∙_}
 use borrow.Author.Needs.{needs}
-use denote.Ref.{now}
 use Rattle.case.specs.inside.CountsInRange.{station-counted}
 use Rattle.case.specs.law.StationFields.{stationHead, partFields, rowFields}
 use Rattle.case.proofs.Asked.{stopped, went}
@@ -11,21 +11,19 @@ enum-told : tie.Need-enum-told
 enum-told c = search needs
 
 part-rows-requires : tie.Need-part-rows-requires
-part-rows-requires c κs = let s = c .before .before .before in (s .pre, station-counted (now (s .args .case)) (s .args .offset) (sym (c .before .before .station-head .ensures) ∙ c .enum-told .given .1))
+part-rows-requires c κs = (c .before .before .before .pre, station-counted _ _ (sym (c .before .before .station-head .ensures) ∙ c .enum-told .given .1))
 
 returns : tie.Need-returns
 unfolding rowFields
-returns c = let h = c .before .before .before in
-    let l = now (h .before .args .case) in
-    let offset = h .before .args .offset in
-    went (stationHead l offset) (partFields l offset) (h .station-head .ensures) (c .before .enum-told .given .1) (c .part-rows .ensures)
+returns c =
+    let h = c .before .before .before in
+    went (stationHead _ _) (partFields _ (h .before .args .offset)) (h .station-head .ensures) (c .before .enum-told .given .1) (c .part-rows .ensures)
 
 returns-2 : tie.Need-returns-2
 unfolding rowFields
-returns-2 c = let h = c .before .before in
-    let l = now (h .before .args .case) in
-    let offset = h .before .args .offset in
-    stopped (stationHead l offset) (partFields l offset) (h .station-head .ensures) (c .enum-told2 .given .1)
+returns-2 c =
+    let h = c .before .before in
+    stopped (stationHead _ _) (partFields _ (h .before .args .offset)) (h .station-head .ensures) (c .enum-told2 .given .1)
 
 pub station-fields-spec : {M : Type 1} → statement M
 station-fields-spec = tie.close (tie.spec

@@ -1,31 +1,32 @@
-use mathlib.Core.Path.{_≡_, ap, _∙_}
+-- The last direction and the last state go by the counts that were read; the answers of the five fields are put together.
+use mathlib.Core.Path.{ap, _∙_}
 use borrow.Author.Needs.{needs}
-use denote.Ref.{now}
-use mir.Syntax.{w64}
-use mir.Val.{toZ, ofZ}
 use Rattle.numbers.specs.inside.QuestionLaws.{firstNo-append}
 use Rattle.case.specs.law.Field.{lastOf}
-use Rattle.case.specs.law.Layout.{directionCount, stateCount}
 use Rattle.case.specs.law.StationFields.{stationHead}
 use Rattle.case.proofs.Asked.{chain}
 use Rattle.case.proofs.Counting.{first-is}
-use Rattle.numbers.specs.inside.SignedLocals.{kept}
+use Rattle.numbers.specs.inside.SignedLocals.{kept-is}
 use Rattle.case.proofs.stations.station_head.Statement.{statement}
 use Rattle.case.proofs.stations.station_head.Tie as tie
 
 returns : tie.Need-returns
 unfolding stationHead
-returns c = let u = c .before .before .before .before .before .before .before .before .before in
+returns c =
+    let f5 = c .before .before .before .before in
+    let f4 = f5 .before in
+    let f3 = f4 .before in
+    let f2 = f3 .before in
+    let f1 = f2 .before in
+    let u = f1 .before in
     let t = u .before .before in
-    let s = t .before .before in
-    let e : toZ w64 (ofZ w64 (t .last .result)) ≡ lastOf (directionCount (now (s .args .case)) (s .args .offset)) = kept _ (t .last .ok) ∙ t .last .ensures ∙ ap lastOf (first-is (s .args .offset) (t .before .count .ensures)) in
-    let d : toZ w64 (ofZ w64 (u .last2 .result)) ≡ lastOf (stateCount (now (s .args .case)) (s .args .offset)) = kept _ (u .last2 .ok) ∙ u .last2 .ensures ∙ ap lastOf (u .before .count2 .ensures .value) in
+    let e = kept-is (t .last .ok) (t .last .ensures) ∙ ap lastOf (first-is (t .before .before .args .offset) (t .before .count .ensures)) in
+    let d = kept-is (u .last2 .ok) (u .last2 .ensures) ∙ ap lastOf (u .before .count2 .ensures .value) in
     simp firstNo-append
-    (chain (c .or-else4 .ensures) (c .before .before .before .before .before .before .before .before .field .ensures)
-    (chain (c .before .or-else3 .ensures) (c .before .before .before .before .before .before .before .field2 .ensures)
-    (chain (c .before .before .or-else2 .ensures) (c .before .before .before .before .before .before .field3 .ensures)
-    (chain (c .before .before .before .or-else .ensures) (simp e at (c .before .before .before .before .before .field4 .ensures))
-    (simp d at (c .before .before .before .before .field5 .ensures))))))
+    (chain (c .or-else4 .ensures) (f1 .field .ensures)
+    (chain (c .before .or-else3 .ensures) (f2 .field2 .ensures)
+    (chain (c .before .before .or-else2 .ensures) (f3 .field3 .ensures)
+    (chain (c .before .before .before .or-else .ensures) (simp e at (f4 .field4 .ensures)) (simp d at (f5 .field5 .ensures))))))
 
 pub station-head-spec : {M : Type 1} → statement M
 station-head-spec = tie.close (tie.spec
