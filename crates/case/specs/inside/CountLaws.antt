@@ -54,6 +54,27 @@ count-same f g (suc n) h =
     let d = h n (omega arith) in
     rw (e, d)
 
+-- the invariant of a loop that counts: k of the first i, of n
+pub record Tally (w : ℕ → Bool) (k i n : ℕ) : Type 0 where
+  pub upto : i ≤ n
+  pub is : k ≡ count i w
+
+pub tally : {w : ℕ → Bool} {n : ℕ} → Tally w 0 0 n
+tally {w} = record { upto = omega arith; is = sym (count-none w) }
+
+module _ {w : ℕ → Bool} {k i n : ℕ} (t : Tally w k i n) where
+  pub tally-yes : {next : ℕ} → i < n → next ≡ k + 1 → w i ≡ true → Tally w next (i + 1) n
+  tally-yes p e h = record { upto = omega arith; is = omega (arith, e, t .is, count-yes w i h) }
+
+  pub tally-no : {next : ℕ} → i < n → next ≡ k → w i ≡ false → Tally w next (i + 1) n
+  tally-no p e h = record { upto = omega arith; is = omega (arith, e, t .is, count-no w i h) }
+
+  pub tally-le : k ≤ i
+  tally-le = omega (arith, t .is, count-le w i)
+
+  pub tally-end : n ≤ i → k ≡ count n w
+  tally-end p = let e : i ≡ n = omega (arith, t .upto) in rw e at (t .is)
+
 -- ---- a station's arcs
 
 module _ (case : List ℤ) (s : ℕ) where

@@ -19,12 +19,14 @@ abbrev μ-loop : tie.MeasureT-loop
 μ-loop case first arcs e₀ e = arcs - e
 
 -- the answers of the two groups of a row together
-asked : (b : tie.After-or-else Inv-loop μ-loop) → let h = b .before .before .before .before in b .or-else .result ≡ firstNo (arcFields (now (h .before .args .case)) (h .loop .e))
+asked : (b : tie.After-or-else Inv-loop μ-loop) → let h = b .before .before .before .before in
+    b .or-else .result ≡ firstNo (arcFields (now (h .before .args .case)) (h .loop .e))
 asked b =
     let h = b .before .before .before .before in
     let e = h .loop .e in
     let g = b .before in
-    arc-asked _ e (h .before .args .first + e * 11) (arc-row _ e (h .before .pre .2)) (b .or-else .ensures) (g .before .end-fields .ensures) (g .kind-fields .ensures)
+    let row = arc-row _ e (h .before .pre .2) in
+    arc-asked _ e (h .before .args .first + e * 11) row (b .or-else .ensures) (g .before .end-fields .ensures) (g .kind-fields .ensures)
 
 loop-holds : tie.Need-loop-holds Inv-loop μ-loop
 loop-holds c = asking refl

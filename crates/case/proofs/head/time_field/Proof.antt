@@ -11,7 +11,8 @@ use Rattle.case.proofs.head.time_field.Statement.{statement}
 use Rattle.case.proofs.head.time_field.Tie as tie
 
 -- what the local of the time before holds
-time-is : (t : tie.After-time-before) → Held (toZ w64 (ofZ w64 (t .time-before .result))) (timeBefore (now (t .before .args .case)) (t .before .args .i)) 4147200
+time-is : (t : tie.After-time-before)
+    → Held (toZ w64 (ofZ w64 (t .time-before .result))) (timeBefore (now (t .before .args .case)) (t .before .args .i)) 4147200
 time-is t = held (record { val = t .time-before .ensures; bound = t .before .pre .1 .bound }) tt
 
 returns : tie.Need-returns

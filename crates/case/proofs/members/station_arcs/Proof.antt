@@ -1,42 +1,38 @@
+-- `own` counts the station's arcs so far (`Tally`).
 use mathlib.Core.Logic.{⊎-elim}
-use mathlib.Core.Path.{_≡_, sym, ap, _∙_}
-use Prim.Native.Nat.{ℕ, _≤_, _-_, _+_}
+use mathlib.Core.Path.{sym, _∙_}
+use Prim.Native.Nat.{_-_}
 use native.Mathlib.Omega.{arith}
 use borrow.Author.Needs.{needs}
-use denote.Ref.{now}
-use Rattle.case.specs.inside.CountLaws.{before-none, before-le, before-yes, before-no}
-use Rattle.case.specs.law.StationArcs.{arcsBefore}
+use Rattle.case.specs.inside.CountLaws.{Tally, tally, tally-yes, tally-no, tally-le, tally-end}
+use Rattle.case.specs.law.StationArcs.{belongs, arcsBefore}
 use Rattle.case.proofs.members.station_arcs.Statement.{statement}
 use Rattle.case.proofs.members.station_arcs.Tie as tie
 
 abbrev Inv-loop : tie.InvT-loop
-Inv-loop case s arcs own₀ e₀ own e = (e ≤ arcs) × (own ≡ arcsBefore case s e)
+Inv-loop case s arcs own₀ e₀ own e = Tally (belongs case s) own e arcs
 
 abbrev μ-loop : tie.MeasureT-loop
 μ-loop case s arcs own₀ e₀ own e = arcs - e
 
 loop-holds : tie.Need-loop-holds Inv-loop μ-loop
-loop-holds c = (omega arith, sym (before-none (now (c .args .case)) (c .args .s)))
-
-add-own : tie.Need-add-own Inv-loop μ-loop
-add-own c = let h = c .before .before .before in omega (arith, before-le (now (h .before .args .case)) (h .before .args .s) (h .loop .e))
+loop-holds c = tally
 
 loop-again : tie.Need-loop-again Inv-loop μ-loop
-loop-again c = let b = c .before in
-    let h = b .before .before in
-    let a = h .before .args in
-    let l = now (a .case) in
-    let i = h .loop .e in (
-      omega arith,
-      ⊎-elim
-          (λ w. w .1 ∙ ap (λ (x : ℕ). x + 1) (h .loop .inv .1) ∙ sym (before-yes l (a .s) i (sym (b .belongs .ensures) ∙ w .0 .taken)))
-          (λ w. w .1 ∙ h .loop .inv .1 ∙ sym (before-no l (a .s) i (sym (b .belongs .ensures) ∙ w .0 .left)))
-          (c .if1 .came),
-    )
+loop-again c =
+    let b = c .before in
+    let t = b .before in
+    let f = sym (b .belongs .ensures) in
+    ⊎-elim
+    (λ x. tally-yes (t .before .loop .inv) (t .loop-test .taken) (x .1) (f ∙ x .0 .taken))
+    (λ x. tally-no (t .before .loop .inv) (t .loop-test .taken) (x .1) (f ∙ x .0 .left))
+    (c .if1 .came)
 
 returns : tie.Need-returns Inv-loop μ-loop
-returns c = let e : c .before .loop .e ≡ c .before .before .args .arcs = omega arith in rw e at (c .before .loop .inv .1)
+unfolding arcsBefore
+returns c = tally-end (c .before .loop .inv) (c .loop-test .left)
 
 pub station-arcs-spec : {M : Type 1} → statement M
 station-arcs-spec = tie.close (tie.spec
-    Inv-loop μ-loop loop-holds (λ c κs. search needs) add-own (λ c. omega arith) (λ c. omega arith) loop-again returns)
+    Inv-loop μ-loop loop-holds (λ c κs. search needs)
+    (λ c. omega (arith, tally-le (c .before .before .before .loop .inv))) (λ c. omega arith) (λ c. omega arith) loop-again returns)

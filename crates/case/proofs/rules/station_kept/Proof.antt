@@ -29,7 +29,8 @@ start-set-requires : tie.Need-start-set-requires
 start-set-requires c κs = let s = c .before .before .before .before in rw (s .pre .1) (s .pre .2)
 
 -- the station's arcs, its machines, and its arcs that are active at step 0
-arcs-are : (c : tie.After-first-items) → let a = c .before .before .args in toZ w64 (ofZ w64 (c .first-items .result)) ≡ firstItems (stationArcs (now (a .case)) (a .s))
+arcs-are : (c : tie.After-first-items) → let a = c .before .before .args in
+    toZ w64 (ofZ w64 (c .first-items .result)) ≡ firstItems (stationArcs (now (a .case)) (a .s))
 arcs-are c =
     let s = c .before .before in
     let e = c .before .station-arcs .ensures ∙ ap (arcsBefore (now (s .args .case)) (s .args .s)) (s .pre .1) in
@@ -43,7 +44,8 @@ machines-are c =
     let e = ap (λ (x : Station). x .machines) (n .station .ensures) ∙ ap (λ (r : ℕ). stationRow (now (s .args .case)) r .machines) (s .pre .0) in
     kept-is (c .first-items2 .ok) (c .first-items2 .ensures) ∙ ap firstItems e
 
-active-are : (c : tie.After-start-set) → let a = c .before .before .before .before .before .args in toZ w64 (ofZ w64 (c .start-set .result)) ≡ startSet (now (a .case)) (a .s)
+active-are : (c : tie.After-start-set) → let a = c .before .before .before .before .before .args in
+    toZ w64 (ofZ w64 (c .start-set .result)) ≡ startSet (now (a .case)) (a .s)
 active-are c =
     let s = c .before .before .before .before .before in
     let l = now (s .args .case) in

@@ -17,7 +17,8 @@ use Rattle.case.proofs.stations.station_rows.Statement.{statement}
 use Rattle.case.proofs.stations.station_rows.Tie as tie
 
 abbrev Inv-loop : tie.InvT-loop
-Inv-loop case first stations row₀ s₀ offset s = (offset ≡ stationAt case s) × (offset ≤ 5000 + 117 * s) × Asking (stationFields case) (firstNo (allStationFields case)) s stations
+Inv-loop case first stations row₀ s₀ offset s =
+    (offset ≡ stationAt case s) × (offset ≤ 5000 + 117 * s) × Asking (stationFields case) (firstNo (allStationFields case)) s stations
 
 abbrev μ-loop : tie.MeasureT-loop
 μ-loop case first stations row₀ s₀ offset s = stations - s
