@@ -1,4 +1,4 @@
--- Answers to questions that are asked one group after the other.
+-- Questions that are asked one group after the other: the first group that has a "no" answers for all.
 -- Assumes nothing.
 use mathlib.Core.Path.{_≡_, sym, ap, ap₂, _∙_}
 use mathlib.Core.List.{List, _++_}

@@ -1,4 +1,4 @@
--- One item of a rule: what its question is answered, by what was found of the item.
+-- One item of a rule has one question, which is answered by what was found of the item; the layout says of it what the case does.
 -- Assumes nothing.
 use mathlib.Core.Path.{_≡_, refl, sym, ap, _∙_}
 use mathlib.Core.Bool.{Bool, true, false}

@@ -1,4 +1,4 @@
--- Counts, a station's arcs and the sets gathered from arcs, one item further; what every of some items says of one.
+-- Counts, a station's arcs and the sets gathered from arcs, one item further, by whether the item is named; what every of some items says of one.
 -- Assumes nothing.
 use mathlib.Core.Path.{_≡_, refl, sym, ap, _∙_}
 use mathlib.Core.Bool.{Bool, true, false, and-false}
@@ -90,10 +90,6 @@ module _ (case : List ℤ) (s : ℕ) where
   unfolding arcsBefore
   before-no e = count-no (belongs case s) e
 
-  pub before-le : (e : ℕ) → arcsBefore case s e ≤ e
-  unfolding arcsBefore
-  before-le e = count-le (belongs case s) e
-
   pub before-mono : (e n : ℕ) → e ≤ n → arcsBefore case s e ≤ arcsBefore case s n
   unfolding arcsBefore
   before-mono e n h = let z : e + (n - e) ≡ n = omega arith in rw z at (count-grows (belongs case s) e (n - e))
@@ -119,13 +115,13 @@ module _ (case : List ℤ) (s : ℕ) where
     arcs-lt zero = rw before-none (omega arith)
     arcs-lt (suc e) = go (arcs-lt e) (belongs case s e) refl (w e) refl
       where
-        go : arcSet case s w e < 2 ^ arcsBefore case s e → (b : Bool) → belongs case s e ≡ b → (v : Bool) → w e ≡ v → arcSet case s w (suc e) < 2 ^ arcsBefore case s (suc e)
-        go k true p true q =
-            let n : arcsBefore case s (suc e) ≡ suc (arcsBefore case s e) = rw (add-one e, add-one (arcsBefore case s e)) at (before-yes e p) in
-            rw (p, q, n, pow-suc 2 (arcsBefore case s e)) (omega (arith, k))
-        go k true p false q =
-            let n : arcsBefore case s (suc e) ≡ suc (arcsBefore case s e) = rw (add-one e, add-one (arcsBefore case s e)) at (before-yes e p) in
-            rw (p, q, n, pow-suc 2 (arcsBefore case s e)) (omega (arith, k))
+        more : belongs case s e ≡ true → arcsBefore case s (suc e) ≡ suc (arcsBefore case s e)
+        more p = rw (add-one e, add-one (arcsBefore case s e)) at (before-yes e p)
+
+        go : arcSet case s w e < 2 ^ arcsBefore case s e → (b : Bool) → belongs case s e ≡ b → (v : Bool) → w e ≡ v
+            → arcSet case s w (suc e) < 2 ^ arcsBefore case s (suc e)
+        go k true p true q = rw (p, q, more p, pow-suc 2 (arcsBefore case s e)) (omega (arith, k))
+        go k true p false q = rw (p, q, more p, pow-suc 2 (arcsBefore case s e)) (omega (arith, k))
         go k false p v q =
             let n : arcsBefore case s (suc e) ≡ arcsBefore case s e = rw (add-one e) at (before-no e p) in
             rw (p, n) (omega (arith, k))

@@ -1,4 +1,4 @@
--- What the counts are known to be once their questions have let them pass, and what that says of offsets.
+-- What the counts are known to be once their questions have let them pass, and so that rows begin early: offsets are sums and products of them.
 -- Assumes nothing.
 use mathlib.Core.Path.{_≡_}
 use mathlib.Core.List.{List, _++_}
@@ -11,7 +11,7 @@ use lib.IntN.{ℤ, pos}
 use Rattle.numbers.specs.law.Question.{firstNo}
 use Rattle.numbers.specs.inside.QuestionLaws.{all-yes}
 use Rattle.numbers.specs.declared.answer.Answer.the-variants.{Yes}
-use Rattle.case.specs.law.Layout.{stationsOf, stepsOf, nodeAt, arcAt, directionAt, stateAt, machineAt, stationEnd, stationAt}
+use Rattle.case.specs.law.Layout.{nodesOf, arcsOf, stationsOf, stepsOf, nodeAt, arcAt, directionAt, stateAt, machineAt, stationEnd, stationAt}
 use Rattle.case.specs.law.HeadFields.{countFields, toleranceFields, headFields}
 use Rattle.case.specs.law.TimeFields.{timeFields}
 use Rattle.case.specs.law.NodeFields.{allNodeFields}
@@ -122,15 +122,19 @@ module _ (case : List ℤ) where
   unfolding machineAt stateAt directionAt
   end-least offset = omega arith
 
-  -- the first arc's row, and the first station's
+  -- a node's row and an arc's begin early, and so the first arc's and the first station's
+  pub node-early : Counted case → (v : ℕ) → v ≤ 60 → nodeAt case v ≤ 3295
+  unfolding nodeAt
+  node-early c v h = let k : 6 + stepsOf case ≤ 54 = omega (arith, c .steps) in omega (arith, mul-le-mul h k, c .steps)
+
+  pub arc-early : Counted case → (e : ℕ) → e ≤ 120 → arcAt case e ≤ 4615
+  unfolding arcAt
+  arc-early c e h = omega (arith, node-early c (nodesOf case) (c .nodes))
+
   pub arcs-begin : Counted case → arcAt case 0 ≤ 3295
-  unfolding arcAt nodeAt
-  arcs-begin c =
-      let k : 6 + stepsOf case ≤ 54 = omega (arith, c .steps) in
-      omega (arith, mul-le-mul (c .nodes) k, c .steps)
+  unfolding arcAt
+  arcs-begin c = omega (arith, node-early c (nodesOf case) (c .nodes))
 
   pub stations-begin : Counted case → stationAt case 0 ≤ 4615
-  unfolding stationAt arcAt nodeAt
-  stations-begin c =
-      let k : 6 + stepsOf case ≤ 54 = omega (arith, c .steps) in
-      omega (arith, mul-le-mul (c .nodes) k, c .steps, c .arcs)
+  unfolding stationAt
+  stations-begin c = arc-early c (arcsOf case) (c .arcs)

@@ -23,7 +23,7 @@ use Rattle.case.specs.law.Field.{asks, field, fields, nextField}
 use Rattle.case.specs.law.Layout.{numberAt}
 use Rattle.case.specs.claims.Says.{Says, Between}
 use Rattle.case.specs.inside.SaysLaws.{within-says, same-says}
-use Rattle.case.specs.inside.FieldLaws.{first-yes, second-yes, item-yes}
+use Rattle.case.specs.inside.FieldLaws.{first-yes, second-yes, zero-add, item-yes}
 
 -- ---- questions
 
@@ -36,9 +36,6 @@ append-iff X Y f g = (
   λ y. let a = f .0 (first-yes X Y y) in (a, g a .0 (second-yes X Y y)),
   λ r. rw (firstNo-append, f .1 (r .0)) (g (r .0) .1 (r .1)),
 )
-
-zero-add : (n : ℕ) → 0 + n ≡ n
-zero-add n = omega arith
 
 pub over-iff : (f : ℕ → List Question) (n : ℕ) {A : ℕ → Type 0} → ((j : ℕ) → j < n → firstNo (f j) ≡ Yes ↔ A j)
     → firstNo (over f 0 n) ≡ Yes ↔ ((j : ℕ) → j < n → A j)

@@ -1,7 +1,7 @@
--- What a field is known to be once 10 and 11 have let it pass.
+-- What a field is known to be once 10 and 11 have let it pass: no "no" of a list is no "no" of any part of it.
 -- Assumes nothing.
 use mathlib.Core.Path.{_≡_, refl, sym, _∙_}
-use mathlib.Core.Bool.{Bool, true, false, _&&_}
+use mathlib.Core.Bool.{Bool, true, false, false≢true, _&&_}
 use mathlib.Core.List.{List, _++_}
 use Prim.Native.Nat.{ℕ, _+_, _<_, _≤_}
 use native.Mathlib.Omega.{arith}
@@ -29,7 +29,7 @@ and-first false b e = e
 
 pub and-second : (a b : Bool) → (a && b) ≡ true → b ≡ true
 and-second true b e = e
-and-second false b e = let z : _≡_ {A = Bool} false true = e in let y : _≡_ {A = ℕ} 0 1 = cc in let f : ⊥ = omega arith in absurd f
+and-second false b e = absurd (false≢true e)
 
 -- two groups of which no question is answered no
 pub first-yes : (X Y : List Question) → firstNo (X ++ Y) ≡ Yes → firstNo X ≡ Yes
@@ -38,7 +38,7 @@ first-yes X Y e = orElse-first (firstNo X) (firstNo Y) (sym (firstNo-append X Y)
 pub second-yes : (X Y : List Question) → firstNo (X ++ Y) ≡ Yes → firstNo Y ≡ Yes
 second-yes X Y e = orElse-second (firstNo X) (firstNo Y) (sym (firstNo-append X Y) ∙ e)
 
-zero-add : (n : ℕ) → 0 + n ≡ n
+pub zero-add : (n : ℕ) → 0 + n ≡ n
 zero-add n = omega arith
 
 -- item j of n items of which no question is answered no
@@ -56,7 +56,8 @@ field-yes case i low high e =
     }
 
 -- a field before other questions: what is known of it, and that none of the others is answered no
-pub field-then : (case : List ℤ) (i : ℕ) (low high : ℤ) (Y : List Question) → firstNo (field case i low high ++ Y) ≡ Yes → InRange case i low high × (firstNo Y ≡ Yes)
+pub field-then : (case : List ℤ) (i : ℕ) (low high : ℤ) (Y : List Question) → firstNo (field case i low high ++ Y) ≡ Yes
+    → InRange case i low high × (firstNo Y ≡ Yes)
 field-then case i low high Y e = (field-yes case i low high (first-yes (field case i low high) Y e), second-yes (field case i low high) Y e)
 
 -- a count from m to n

@@ -1,4 +1,4 @@
--- Arrays that hold the first values of something, and nothing past them.
+-- Arrays that hold the first values of something, and nothing past them: a store changes one place and leaves the others.
 -- Assumes nothing.
 use mathlib.Core.Path.{_≡_, refl, _∙_}
 use mathlib.Core.List.{List}

@@ -81,7 +81,9 @@ module _ (case : List ℤ) (w : ℕ → Bool) where
   ends-keeps n v = go (w n) refl
     where
       go : (b : Bool) → w n ≡ b → bit (endsOf case w n) v ≤ bit (endsOf case w (suc n)) v
-      go true e = rw e (omega (arith, node-keeps (endsOf case w n) (arcOf case n .from) v, node-keeps (withNode (endsOf case w n) (arcOf case n .from)) (arcOf case n .to) v))
+      go true e =
+          let from = arcOf case n .from in
+          rw e (omega (arith, node-keeps (endsOf case w n) from v, node-keeps (withNode (endsOf case w n) from) (arcOf case n .to) v))
       go false e = rw e (omega arith)
 
   pub ends-in : (n e v : ℕ) → e < n → w e ≡ true → v < 60 → (arcOf case e .from ≡ v) ⊎ (arcOf case e .to ≡ v) → bit (endsOf case w n) v ≡ 1
@@ -119,14 +121,15 @@ module _ (case : List ℤ) (w : ℕ → Bool) where
       go r true k =
           ⊎-elim
           (λ (y : bit (withNode (endsOf case w n) (arcOf case n .from)) v ≡ 1).
-          ⊎-elim (λ (x : bit (endsOf case w n) v ≡ 1). r x) (λ (x : arcOf case n .from ≡ v). this k (inl x)) (node-only (endsOf case w n) (arcOf case n .from) v y))
+          ⊎-elim r (λ (x : arcOf case n .from ≡ v). this k (inl x)) (node-only (endsOf case w n) (arcOf case n .from) v y))
           (λ (y : arcOf case n .to ≡ v). this k (inr y))
           (node-only (withNode (endsOf case w n) (arcOf case n .from)) (arcOf case n .to) v (rw k at h))
       go r false k = r (rw k at h)
 
 -- "A station's nodes are the ends of its artificial arcs."
 module _ (case : List ℤ) (v : ℕ) where
-  pub end-in-station : (s e : ℕ) → e < arcsOf case → belongs case s e ≡ true → v < 60 → (arcOf case e .from ≡ v) ⊎ (arcOf case e .to ≡ v) → memberOf (stationNodes case s) v ≡ true
+  pub end-in-station : (s e : ℕ) → e < arcsOf case → belongs case s e ≡ true → v < 60 → (arcOf case e .from ≡ v) ⊎ (arcOf case e .to ≡ v)
+      → memberOf (stationNodes case s) v ≡ true
   unfolding stationNodes
   end-in-station s e p h l d = eq-eqb _ _ (ends-in case (belongs case s) (arcsOf case) e v p h l d)
 
@@ -135,7 +138,8 @@ module _ (case : List ℤ) (v : ℕ) where
   station-end-of s h = in-ends case (belongs case s) (arcsOf case) v (eqb-true _ _ h)
 
   -- the same of the arcs of kind 0 to 2
-  pub end-in-plain : (e : ℕ) → e < arcsOf case → plain case e ≡ true → v < 60 → (arcOf case e .from ≡ v) ⊎ (arcOf case e .to ≡ v) → memberOf (plainNodes case) v ≡ true
+  pub end-in-plain : (e : ℕ) → e < arcsOf case → plain case e ≡ true → v < 60 → (arcOf case e .from ≡ v) ⊎ (arcOf case e .to ≡ v)
+      → memberOf (plainNodes case) v ≡ true
   unfolding plainNodes
   end-in-plain e p h l d = eq-eqb _ _ (ends-in case (plain case) (arcsOf case) e v p h l d)
 
@@ -146,10 +150,6 @@ module _ (case : List ℤ) (v : ℕ) where
 -- ---- arc sets: the station's j-th arc is item j, and is in the set where w names it
 
 module _ (case : List ℤ) (s : ℕ) (w : ℕ → Bool) where
-  one-item : (b : Bool) → onlyN b 1 ≤ 1
-  one-item true = omega arith
-  one-item false = omega arith
-
   pub arc-in : (n e : ℕ) → e < n → belongs case s e ≡ true → bit (arcSet case s w n) (arcsBefore case s e) ≡ onlyN (w e) 1
   unfolding arcSet sumN
   arc-in zero e p h = let f : ⊥ = omega arith in absurd f
@@ -175,7 +175,8 @@ module _ (case : List ℤ) (s : ℕ) (w : ℕ → Bool) where
           let o : sumN n (arcBit case s w) + 0 ≡ sumN n (arcBit case s w) = omega arith in
           rw (y, z, o) (bit-high (arcsBefore case s n) (arcSet case s w n) (arcsBefore case s n) (arcs-lt case s w n) (omega arith))
 
-      go : (e < n → bit (arcSet case s w n) (arcsBefore case s e) ≡ onlyN (w e) 1) → (b : Bool) → ltb e n ≡ b → bit (arcSet case s w (suc n)) (arcsBefore case s e) ≡ onlyN (w e) 1
+      go : (e < n → bit (arcSet case s w n) (arcsBefore case s e) ≡ onlyN (w e) 1) → (b : Bool) → ltb e n ≡ b
+          → bit (arcSet case s w (suc n)) (arcsBefore case s e) ≡ onlyN (w e) 1
       go r true q = let l = ltb-true e n q in others l (belongs case s n) (w n) refl refl (r l)
       go r false q = let z : e ≡ n = omega (arith, ltb-false e n q) in rw z (own (w n) (rw z at h) refl)
 

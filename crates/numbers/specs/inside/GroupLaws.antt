@@ -1,4 +1,4 @@
--- Laws of the groups of seven bits, and of what is told of a writing.
+-- Groups of seven bits, by whether the number is below 128; and what is told of a writing, by whether it fits.
 -- Assumes nothing.
 use mathlib.Core.Path.{_≡_, refl, ap}
 use mathlib.Core.Bool.{Bool, true, false, cond}

@@ -1,4 +1,4 @@
--- Laws for a loop over items that are each asked the same questions.
+-- A loop over items that are each asked the same questions: what all answer together is what those that are left answer.
 -- Assumes nothing.
 use mathlib.Core.Path.{_≡_, refl, ap, sym, _∙_}
 use mathlib.Core.List.{List}

@@ -1,4 +1,4 @@
--- Items stored one after the other in a list.
+-- Items stored one after the other in a list: storing two lists in turn is storing them joined.
 -- Assumes nothing.
 use mathlib.Core.Path.{_≡_, _∙_}
 use mathlib.Core.List.{List, [], _∷_, _++_}

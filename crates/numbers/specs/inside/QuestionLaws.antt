@@ -1,4 +1,4 @@
--- Laws of the first "no": of two lists, of every question, of what is told.
+-- The first "no" of two lists is that of the first, or else of the second; so of every question, and of what is told.
 -- Assumes nothing.
 use mathlib.Core.Path.{_≡_, refl, ap, sym, _∙_}
 use mathlib.Core.Bool.{Bool, true, false}

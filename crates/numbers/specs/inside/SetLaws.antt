@@ -1,4 +1,4 @@
--- The tests on sets, by their items.
+-- The tests on sets, by their items: a number is its bits, and a bit of a conjunction is the lesser of the two.
 -- Assumes nothing.
 use mathlib.Core.Path.{_≡_, refl, sym, ap, _∙_}
 use Prim.Native.Nat.{ℕ, zero, suc, _+_, _/_, _%_, _^_, _<_, _≤_, min}

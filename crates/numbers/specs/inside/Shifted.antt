@@ -1,4 +1,4 @@
--- A number whose first groups have been read: laws for the loop over its bytes.
+-- A number whose first groups have been read: what follows is added at the scale that they leave.
 -- Assumes nothing.
 use mathlib.Core.Path.{_≡_, refl, ap₂}
 use Prim.Native.Nat.{ℕ, _+_, _*_}

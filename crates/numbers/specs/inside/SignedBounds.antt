@@ -1,4 +1,4 @@
--- Sizes of signed numbers: |z| ≤ n.
+-- Sizes of signed numbers, |z| ≤ n, by their positive and negative parts.
 -- Assumes nothing.
 use mathlib.Core.Path.{_≡_, refl}
 use mathlib.Core.Bool.{true, false}

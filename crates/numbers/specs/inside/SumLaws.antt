@@ -1,4 +1,4 @@
--- Laws of sums and counts.
+-- Sums and counts, by induction on how many parts there are; a part that one index alone has counts once.
 -- Assumes nothing.
 use mathlib.Core.Path.{_≡_, refl, sym, ap, ap₂, _∙_, subst}
 use Prim.Native.Nat.{ℕ, zero, suc, _+_, _*_, _≤_, _<_}

@@ -67,4 +67,5 @@ returns-2 c = asking-end (c .before .loop .inv) (c .loop-test .left)
 pub direction-sets-spec : {M : Type 1} → statement M
 direction-sets-spec = tie.close (tie.spec
     Inv-loop μ-loop loop-holds (λ c. omega (arith, few c)) (λ c. omega (arith, few c))
-    (λ c. omega (arith, few (c .before))) (λ c. omega (arith, few (c .before))) directions-kept-requires returns (λ c. omega arith) (λ c. omega arith) loop-again returns-2)
+    (λ c. omega (arith, few (c .before))) (λ c. omega (arith, few (c .before))) directions-kept-requires
+    returns (λ c. omega arith) (λ c. omega arith) loop-again returns-2)
