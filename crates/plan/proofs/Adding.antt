@@ -1,18 +1,17 @@
--- A loop that adds up f 0 .. f (n - 1), none above x in size: what it keeps, and the laws of its start, one turn and its end.
--- Assumes nothing.
+-- A loop that adds up f 0 .. f (n - 1), none above x in size, keeps the sum so far and its bound; one turn adds a part, and so the sum always fits.
 use mathlib.Core.Path.{_≡_, refl, sym, ap, _∙_}
 use Prim.Native.Nat.{ℕ, _+_, _*_, _^_, _<_, _≤_}
 use native.Mathlib.Nat.{mul-le-mul-right}
+use native.Mathlib.Numerals.{add-one}
 use native.Mathlib.Omega.{arith}
 use mathlib.Core.Bool.{Bool, true, false}
 use lib.Dec.{T, ltb}
 use lib.IntN.{ℤ, pos, natAbs, _+ℤ_}
 use mir.Syntax.{w64}
-use mir.Val.{SFits, toZ, ofZ}
+use mir.Val.{SFits, Fits, toZ, ofZ}
 use Rattle.numbers.specs.inside.SignedLocals.{Held, held, renamed, held<, held-fits<, _+ʳ_}
 use Rattle.numbers.specs.inside.SignedBounds.{Bounded}
 use Rattle.numbers.specs.law.Sums.{sum, sumN, only, onlyN}
-use Rattle.plan.proofs.Sums.{sum-more, sumN-more}
 
 -- ---- signed
 
@@ -20,6 +19,10 @@ pub record Adding (r : ℤ) (f : ℕ → ℤ) (x n i : ℕ) : Type 0 where
   pub at : i ≤ n
   pub is : r ≡ sum i f
   pub small : natAbs (sum i f) ≤ i * x
+
+sum-more : (f : ℕ → ℤ) (e : ℕ) → sum (e + 1) f ≡ sum e f +ℤ f e
+unfolding sum
+sum-more f e = rw (add-one e)
 
 more-room : (i n x : ℕ) → i < n → i * x + x ≤ n * x
 more-room i n x p = omega (arith, mul-le-mul-right {m = i + 1} {n = n} x (omega arith))
@@ -52,6 +55,30 @@ module _ {r : ℤ} {f : ℕ → ℤ} {x n i : ℕ} (h : Adding r f x n i) where
 pub got : {r z : ℤ} {n : ℕ} → r ≡ z → Bounded z n → T (ltb n (2 ^ 63)) → Held (toZ w64 (ofZ w64 r)) z n
 got e b t = held (record { val = e; bound = b .bound }) t
 
+-- the bound of every part, known before the loop; each part is then read back from a local
+pub record Summing (r : ℤ) (f : ℕ → ℤ) (x n i : ℕ) : Type 0 where
+  pub each : (j : ℕ) → j < n → natAbs (f j) ≤ x
+  pub room : n * x < 2 ^ 63
+  pub adding : Adding r f x n i
+
+pub begun : {f : ℕ → ℤ} {x n : ℕ} → ((j : ℕ) → j < n → natAbs (f j) ≤ x) → n * x < 2 ^ 63 → Summing (pos 0) f x n 0
+begun h k = record { each = h; room = k; adding = start }
+
+module _ {r : ℤ} {f : ℕ → ℤ} {x n i : ℕ} (h : Summing r f x n i) where
+  part : {p : ℤ} → p ≡ f i → i < n → Held (toZ w64 (ofZ w64 p)) (f i) x
+  part e l = let m = more-room i n x l in held< (record { val = e; bound = h .each i l }) (omega (arith, h .room))
+
+  pub one-fits : {p : ℤ} → p ≡ f i → i < n → SFits w64 (toZ w64 (ofZ w64 r) +ℤ toZ w64 (ofZ w64 p))
+  one-fits e l = fits (h .adding) (part e l) l (h .room)
+
+  pub one-more : {p : ℤ} → p ≡ f i → i < n → Summing (toZ w64 (ofZ w64 (toZ w64 (ofZ w64 r) +ℤ toZ w64 (ofZ w64 p)))) f x n (i + 1)
+  one-more e l = record { each = h .each; room = h .room; adding = turn (h .adding) refl (part e l) l (h .room) }
+
+  pub whole : n ≤ i → toZ w64 (ofZ w64 r) ≡ sum n f
+  whole l =
+      let e : i ≡ n = omega (arith, h .adding .at) in
+      held< (record { val = h .adding .is ∙ ap (λ (j : ℕ). sum j f) e; bound = rw e at (h .adding .small) }) (h .room) .val
+
 -- a part that counts only where a test is true, by the code's answer to it
 pub taken-part : (z : ℤ) {b w : Bool} → b ≡ w → b ≡ true → z ≡ only w z
 taken-part z e t = ap (λ (y : Bool). only y z) (sym t ∙ e)
@@ -66,6 +93,10 @@ pub record Counting (r : ℕ) (f : ℕ → ℕ) (x n i : ℕ) : Type 0 where
   pub is : r ≡ sumN i f
   pub small : r ≤ i * x
 
+sumN-more : (f : ℕ → ℕ) (e : ℕ) → sumN (e + 1) f ≡ sumN e f + f e
+unfolding sumN
+sumN-more f e = rw (add-one e)
+
 pub startN : {f : ℕ → ℕ} {x n : ℕ} → Counting 0 f x n 0
 unfolding sumN
 startN = record { at = omega arith; is = refl; small = omega arith }
@@ -76,6 +107,25 @@ module _ {r : ℕ} {f : ℕ → ℕ} {x n i : ℕ} (h : Counting r f x n i) wher
 
   pub endN : n ≤ i → r ≡ sumN n f
   endN p = let e : i ≡ n = omega arith in h .is ∙ ap (λ (j : ℕ). sumN j f) e
+
+-- the bound of every part, known before the loop
+pub record Tallying (r : ℕ) (f : ℕ → ℕ) (x n i : ℕ) : Type 0 where
+  pub each : (j : ℕ) → j < n → f j ≤ x
+  pub room : n * x < 2 ^ 63
+  pub counting : Counting r f x n i
+
+pub begunN : {f : ℕ → ℕ} {x n : ℕ} → ((j : ℕ) → j < n → f j ≤ x) → n * x < 2 ^ 63 → Tallying 0 f x n 0
+begunN h k = record { each = h; room = k; counting = startN }
+
+module _ {r : ℕ} {f : ℕ → ℕ} {x n i : ℕ} (h : Tallying r f x n i) where
+  pub one-fitsN : {p : ℕ} → p ≡ f i → i < n → Fits w64 (r + p)
+  one-fitsN e l = record { fits = omega (arith, h .counting .small, more-room i n x l, h .each i l, h .room) }
+
+  pub one-moreN : {p : ℕ} → p ≡ f i → i < n → Tallying (r + p) f x n (i + 1)
+  one-moreN e l = record { each = h .each; room = h .room; counting = turnN (h .counting) e (omega (arith, h .each i l)) l }
+
+  pub wholeN : n ≤ i → r ≡ sumN n f
+  wholeN l = endN (h .counting) l
 
 -- a part that counts only where a test is true
 pub takenN : {b : Bool} (x : ℕ) → b ≡ true → x ≡ onlyN b x

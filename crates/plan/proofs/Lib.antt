@@ -1,4 +1,3 @@
-pub mod Sums
 pub mod Filled
 pub mod Adding
 pub mod ArcLaws
@@ -11,5 +10,4 @@ pub mod StationPasses
 pub mod StepAlike
 pub mod StepsLoop
 pub mod StepGroups
-pub mod RegionSums
 pub mod RegionTests

@@ -1,4 +1,4 @@
-use mathlib.Core.Path.{ap, _∙_, subst}
+use mathlib.Core.Path.{refl, ap, _∙_, subst}
 use native.Mathlib.Omega.{arith}
 use borrow.Author.Needs.{needs}
 use mir.Facts.{toZ-ofZ}
@@ -11,7 +11,7 @@ use Rattle.plan.specs.law.Region.{innerPipes, regionGas}
 use Rattle.plan.specs.inside.RegionLoop.{Gathering, pressures-held, gas-held}
 use Rattle.plan.specs.inside.LedgerAnswer.{figures-are}
 use Rattle.numbers.specs.inside.SignedLocals.{kept}
-use Rattle.plan.proofs.RegionSums.{read-back}
+use Rattle.plan.proofs.Adding.{got}
 use Rattle.plan.proofs.ledger.figures.Statement.{statement}
 use Rattle.plan.proofs.ledger.figures.Tie as tie
 
@@ -47,7 +47,7 @@ returns c =
     ∙ ap (λ (y : ℤ). regionGas (now (s .args .case)) y (numberAt (c .before .before .before .before .before .before .gather .result .pressures))) (toZ-ofZ z)
     ∙ gas-held r (s .args .set) (s .args .t) (g .held))
     g
-    (read-back _ 100000000000000000 (omega (arith, g .brought-few, s .pre .last, k .steps)) (omega arith))
+    (got {n = 100000000000000000} refl (record { bound = omega (arith, g .brought-few, s .pre .last, k .steps) }) tt .val)
 
 pub figures-spec : {M : Type 1} → statement M
 figures-spec = tie.close (tie.spec

@@ -1,33 +1,45 @@
-use mathlib.Core.Path.{sym, ap₂, _∙_, subst}
+-- Both flows of the arc are read back as the law has them, and the inward flow of the same two answers and flows is the same.
+use mathlib.Core.Path.{ap₂, _∙_}
 use mir.Facts.{toZ-ofZ}
+use mir.Syntax.{w64}
+use mir.Val.{toZ, ofZ}
+use denote.Ref.{now}
 use borrow.Author.Needs.{needs}
 use lib.IntN.{ℤ}
 use Rattle.case.specs.declared.records.Arc.{Arc}
 use Rattle.numbers.specs.law.Sets.{memberOf}
-use Rattle.numbers.specs.inside.SignedBounds.{Bounded}
-use Rattle.plan.specs.law.Region.{edgeFlow, inward}
+use Rattle.numbers.specs.inside.SignedLocals.{Held}
+use Rattle.plan.specs.law.Balance.{flowAtFrom, flowAtTo}
+use Rattle.plan.specs.law.Region.{edgeFlow}
 use Rattle.plan.specs.inside.RegionSizes.{from-sized, to-sized, edge-small}
 use Rattle.plan.proofs.RegionTests.{inward-same}
-use Rattle.plan.proofs.RegionSums.{read-sized}
+use Rattle.plan.proofs.Adding.{got}
+use Rattle.plan.proofs.ArcLaws.{read-bounded}
 use Rattle.plan.proofs.region.edge_flow.Statement.{statement}
 use Rattle.plan.proofs.region.edge_flow.Tie as tie
 
+-- the arc's two flows, as they are read
+from-read : (f : tie.After-end-flows) → let s = f .before .before in
+    Held (toZ w64 (ofZ w64 (f .end-flows .result .from))) (flowAtFrom (now (s .args .case)) (now (s .args .rows)) (s .args .e)) 20000000
+from-read f = let p = f .before .before .pre in got (f .end-flows .ensures .0) (from-sized (p .0) _ (p .1)) tt
+
+to-read : (f : tie.After-end-flows) → let s = f .before .before in
+    Held (toZ w64 (ofZ w64 (f .end-flows .result .to))) (flowAtTo (now (s .args .case)) (now (s .args .rows)) (s .args .e)) 20000000
+to-read f = let p = f .before .before .pre in got (f .end-flows .ensures .1) (to-sized (p .0) _ (p .1)) tt
+
 inward-requires : tie.Need-inward-requires
-inward-requires c κs =
-    let f = c .before .before .before .before in
-    let s = f .before .before in
-    subst (λ (z : ℤ). Bounded z 20000000) (sym (read-sized (from-sized (s .pre .0) (s .args .e) (s .pre .1)) (f .end-flows .ensures .0) tt)) (from-sized (s .pre .0) (s .args .e) (s .pre .1))
+inward-requires c κs = read-bounded (from-read (c .before .before .before .before))
 
 returns : tie.Need-returns
 unfolding edgeFlow
 returns c =
-    let f = c .before .before .before .before .before in
+    let m = c .before .before .before in
+    let f = m .before .before in
     let s = f .before .before in
-    let x = read-sized (from-sized (s .pre .0) (s .args .e) (s .pre .1)) (f .end-flows .ensures .0) tt in
-    let y = read-sized (to-sized (s .pre .0) (s .args .e) (s .pre .1)) (f .end-flows .ensures .1) tt in
-    let b = c .before .before .before .before .member .ensures ∙ ap₂ (λ (z : ℤ) (a : Arc). memberOf z (a .from)) (toZ-ofZ (s .fits .set)) (f .before .arc .ensures) in
-    let d = c .before .before .before .member2 .ensures ∙ ap₂ (λ (z : ℤ) (a : Arc). memberOf z (a .to)) (toZ-ofZ (s .fits .set)) (f .before .arc .ensures) in
-    read-sized {x = 20000000} (record { bound = edge-small (s .pre .0) (s .args .set) (s .args .e) (s .pre .1) }) (c .inward .ensures ∙ inward-same b d x y) tt
+    let b = m .before .member .ensures ∙ ap₂ (λ (z : ℤ) (a : Arc). memberOf z (a .from)) (toZ-ofZ (s .fits .set)) (f .before .arc .ensures) in
+    let d = m .member2 .ensures ∙ ap₂ (λ (z : ℤ) (a : Arc). memberOf z (a .to)) (toZ-ofZ (s .fits .set)) (f .before .arc .ensures) in
+    got {n = 20000000} (c .inward .ensures ∙ inward-same b d (from-read f .val) (to-read f .val))
+    (record { bound = edge-small (s .pre .0) (s .args .set) (s .args .e) (s .pre .1) }) tt .val
 
 pub edge-flow-spec : {M : Type 1} → statement M
 edge-flow-spec = tie.close (tie.spec

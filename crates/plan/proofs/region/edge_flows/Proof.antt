@@ -1,61 +1,44 @@
-use mathlib.Core.Path.{_≡_, sym, ap, _∙_}
-use Prim.Native.Nat.{_-_, _≤_}
+-- The sum so far is that of the arcs passed, and no arc brings more than a bound by which the whole sum fits.
+use mathlib.Core.Path.{ap, _∙_}
+use Prim.Native.Nat.{_-_}
 use native.Mathlib.Omega.{arith}
 use mir.Facts.{toZ-ofZ}
 use mir.Syntax.{w64}
-use mir.Val.{toZ, ofZ}
+use mir.Val.{toZ}
 use lib.IntN.{ℤ}
 use denote.Ref.{now}
-use native.Mathlib.Nat.{mul-le-mul-right}
-use Rattle.numbers.specs.law.Sums.{sum as total}
 use Rattle.case.specs.law.Layout.{arcsOf}
 use Rattle.plan.specs.law.Region.{edgeFlow, edgeFlows}
 use Rattle.plan.specs.inside.CaseSizes.{counted}
 use Rattle.plan.specs.inside.RegionSizes.{edge-small}
-use Rattle.plan.proofs.Sums.{sum-none}
-use Rattle.plan.proofs.RegionSums.{add-fits, add-is, all-is}
+use Rattle.plan.proofs.Adding.{Summing, begun, one-fits, one-more, whole}
 use Rattle.plan.proofs.region.edge_flows.Statement.{statement}
 use Rattle.plan.proofs.region.edge_flows.Tie as tie
 
 abbrev Inv-loop : tie.InvT-loop
-Inv-loop case set rows arcs sum₀ e₀ sum e = (e ≤ arcs) × (sum .value ≡ total e (edgeFlow case (toZ w64 set) rows))
+Inv-loop case set rows arcs sum₀ e₀ sum e = Summing (sum .value) (edgeFlow case (toZ w64 set) rows) 20000000 (arcsOf case) e
 
 abbrev μ-loop : tie.MeasureT-loop
 μ-loop case set rows arcs sum₀ e₀ sum e = arcs - e
 
 loop-holds : tie.Need-loop-holds Inv-loop μ-loop
-loop-holds c = (omega arith, sym (sum-none _))
+loop-holds c = begun (edge-small (c .pre .0) _) (omega (arith, counted (c .pre .0 .accepted) .arcs))
 
 edge-flow-requires : tie.Need-edge-flow-requires Inv-loop μ-loop
 edge-flow-requires c κs = let s = c .before .before in (s .pre .0, omega (arith, s .pre .1, c .loop-test .taken))
 
 add-sum : tie.Need-add-sum Inv-loop μ-loop
-add-sum c =
-    let l = c .before .before .before .before in
-    let s = l .before in
-    let z = toZ w64 (ofZ w64 (s .args .set)) in
-    add-fits (edgeFlow (now (s .args .case)) z (now (s .args .rows))) (arcsOf (now (s .args .case))) 20000000 (edge-small (s .pre .0) z)
-    (omega (arith, mul-le-mul-right 20000000 (counted (s .pre .0 .accepted) .arcs))) (l .loop .e) (omega arith) (l .loop .inv .1) (c .before .before .edge-flow .ensures)
+add-sum c = one-fits (c .before .before .before .before .loop .inv) (c .before .before .edge-flow .ensures) (omega arith)
 
 loop-again : tie.Need-loop-again Inv-loop μ-loop
-loop-again c =
-    let l = c .before .before .before .before in
-    let s = l .before in
-    let z = toZ w64 (ofZ w64 (s .args .set)) in (
-      omega arith,
-      add-is (edgeFlow (now (s .args .case)) z (now (s .args .rows))) (arcsOf (now (s .args .case))) 20000000 (edge-small (s .pre .0) z)
-          (omega (arith, mul-le-mul-right 20000000 (counted (s .pre .0 .accepted) .arcs))) (l .loop .e) (omega arith) (l .loop .inv .1) (c .before .before .edge-flow .ensures),
-    )
+loop-again c = one-more (c .before .before .before .before .loop .inv) (c .before .before .edge-flow .ensures) (omega arith)
 
 returns : tie.Need-returns Inv-loop μ-loop
 unfolding edgeFlows
 returns c =
     let l = c .before .before in
-    let s = l .before in
-    let z = toZ w64 (ofZ w64 (s .args .set)) in
-    all-is (edgeFlow (now (s .args .case)) z (now (s .args .rows))) (arcsOf (now (s .args .case))) 20000000 (edge-small (s .pre .0) z)
-    (omega (arith, mul-le-mul-right 20000000 (counted (s .pre .0 .accepted) .arcs))) (l .loop .e) (omega arith) (l .loop .inv .1)
-    ∙ ap (λ (y : ℤ). edgeFlows (now (s .args .case)) y (now (s .args .rows))) (toZ-ofZ (s .fits .set))
+    let a = l .before .args in
+    whole (l .loop .inv) (omega arith) ∙ ap (λ (y : ℤ). edgeFlows (now (a .case)) y (now (a .rows))) (toZ-ofZ (l .before .fits .set))
 
 pub edge-flows-spec : {M : Type 1} → statement M
 edge-flows-spec = tie.close (tie.spec

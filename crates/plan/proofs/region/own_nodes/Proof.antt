@@ -1,46 +1,36 @@
-use mathlib.Core.Path.{_≡_, sym, ap, ap₂, _∙_}
-use Prim.Native.Nat.{ℕ, _+_, _-_, _≤_}
+-- The sum so far is that of the nodes passed; each node's net flow is read from the array that was filled first, and leaves no more than the tolerance.
+use mathlib.Core.Path.{ap, _∙_}
+use Prim.Native.Nat.{_-_, _≤_}
 use native.Mathlib.Omega.{arith}
 use mir.Facts.{toZ-ofZ}
 use mir.Syntax.{w64}
-use mir.Val.{toZ, ofZ}
+use mir.Val.{toZ}
 use lib.IntN.{ℤ, pos}
 use denote.Ref.{now}
 use lib.ListN.{getD}
-use native.Mathlib.Nat.{mul-le-mul-right}
-use Rattle.numbers.specs.law.Sums.{sumN}
 use Rattle.case.specs.law.Layout.{nodesOf}
 use Rattle.plan.specs.law.RegionResidual.{ownNode, ownNodes}
 use Rattle.plan.specs.inside.CaseSizes.{counted}
 use Rattle.plan.specs.inside.RegionSizes.{own-node-small}
-use Rattle.plan.proofs.Sums.{sumN-none, sumN-more}
-use Rattle.plan.proofs.RegionSums.{addN-fits}
+use Rattle.plan.proofs.Adding.{Tallying, begunN, one-fitsN, one-moreN, wholeN}
 use Rattle.plan.proofs.region.own_nodes.Statement.{statement}
 use Rattle.plan.proofs.region.own_nodes.Tie as tie
 
 abbrev Inv-loop : tie.InvT-loop
-Inv-loop case set old rows nodes arcs i net sum₀ v₀ sum v = (v ≤ nodes) × (sum ≡ sumN v (ownNode case (toZ w64 set) rows i))
+Inv-loop case set old rows nodes arcs i net sum₀ v₀ sum v = (nodesOf case ≤ 60) × Tallying sum (ownNode case (toZ w64 set) rows i) 1000000 (nodesOf case) v
 
 abbrev μ-loop : tie.MeasureT-loop
 μ-loop case set old rows nodes arcs i net sum₀ v₀ sum v = nodes - v
 
-net-flows-requires : tie.Need-net-flows-requires Inv-loop μ-loop
-net-flows-requires c κs = let h = c .pre .2 in (h .accepted, c .pre .1, h .kept .flows)
-
 loop-holds : tie.Need-loop-holds Inv-loop μ-loop
-loop-holds c = (omega arith, sym (sumN-none _))
-
-mul-own-node : tie.Need-mul-own-node Inv-loop μ-loop
-mul-own-node c = let s = c .before .before .before in let r = counted (s .pre .2 .accepted) in omega arith
-
-array-copy-out-own-node : tie.Need-array-copy-out-own-node Inv-loop μ-loop
-array-copy-out-own-node c = let s = c .before .before .before in let r = counted (s .pre .2 .accepted) in omega arith
+loop-holds c =
+    let h = c .before .pre .2 in
+    (counted (h .accepted) .nodes, begunN (own-node-small h _) (omega (arith, counted (h .accepted) .nodes)))
 
 own-node-requires : tie.Need-own-node-requires Inv-loop μ-loop
 own-node-requires c κs =
     let l = c .before .before in
-    let s = l .before .before in
-    let h = s .pre .2 in
+    let h = l .before .before .pre .2 in
     record {
       accepted = h .accepted;
       step = h .step;
@@ -53,31 +43,19 @@ own-node-requires c κs =
     }
 
 add-sum : tie.Need-add-sum Inv-loop μ-loop
-add-sum c =
-    let l = c .before .before .before in
-    let s = l .before .before in
-    let z = toZ w64 (ofZ w64 (s .args .set)) in
-    addN-fits (ownNode (now (s .args .case)) z (now (s .args .rows)) (s .args .i)) (nodesOf (now (s .args .case))) 1000000 (own-node-small (s .pre .2) z)
-    (omega (arith, mul-le-mul-right 1000000 (counted (s .pre .2 .accepted) .nodes))) (l .loop .v) (omega arith) (l .loop .inv .1) (c .own-node .ensures)
+add-sum c = one-fitsN (c .before .before .before .loop .inv .1) (c .own-node .ensures) (omega arith)
 
 loop-again : tie.Need-loop-again Inv-loop μ-loop
-loop-again c =
-    let l = c .before .before .before in
-    let s = l .before .before in
-    let z = toZ w64 (ofZ w64 (s .args .set)) in
-    (omega arith, ap₂ _+_ (l .loop .inv .1) (c .own-node .ensures) ∙ sym (sumN-more (ownNode (now (s .args .case)) z (now (s .args .rows)) (s .args .i)) (l .loop .v)))
+loop-again c = let h = c .before .before .before .loop .inv in (h .0, one-moreN (h .1) (c .own-node .ensures) (omega arith))
 
 returns : tie.Need-returns Inv-loop μ-loop
 unfolding ownNodes
 returns c =
-    let l = c .before in
-    let s = l .before .before in
-    let z = toZ w64 (ofZ w64 (s .args .set)) in
-    let e : l .loop .v ≡ nodesOf (now (s .args .case)) = omega arith in
-    l .loop .inv .1 ∙ ap (λ (k : ℕ). sumN k (ownNode (now (s .args .case)) z (now (s .args .rows)) (s .args .i))) e
-    ∙ ap (λ (y : ℤ). ownNodes (now (s .args .case)) y (now (s .args .rows)) (s .args .i)) (toZ-ofZ (s .fits .set))
+    let s = c .before .before .before in
+    let a = s .args in
+    wholeN (c .before .loop .inv .1) (omega arith) ∙ ap (λ (y : ℤ). ownNodes (now (a .case)) y (now (a .rows)) (a .i)) (toZ-ofZ (s .fits .set))
 
 pub own-nodes-spec : {M : Type 1} → statement M
 own-nodes-spec = tie.close (tie.spec
-    Inv-loop μ-loop net-flows-requires loop-holds mul-own-node array-copy-out-own-node own-node-requires add-sum
-    (λ c. omega arith) (λ c. omega arith) loop-again returns)
+    Inv-loop μ-loop (λ c κs. (c .pre .2 .accepted, c .pre .1, c .pre .2 .kept .flows)) loop-holds (λ c. omega arith)
+    (λ c. omega arith) own-node-requires add-sum (λ c. omega arith) (λ c. omega arith) loop-again returns)

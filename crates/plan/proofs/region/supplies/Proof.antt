@@ -1,57 +1,40 @@
-use mathlib.Core.Path.{_≡_, sym, ap, _∙_}
-use Prim.Native.Nat.{_-_, _≤_}
+-- The sum so far is that of the nodes passed, and no node supplies more than a bound by which the whole sum fits.
+use mathlib.Core.Path.{ap, _∙_}
+use Prim.Native.Nat.{_-_}
 use native.Mathlib.Omega.{arith}
 use mir.Facts.{toZ-ofZ}
 use mir.Syntax.{w64}
-use mir.Val.{toZ, ofZ}
+use mir.Val.{toZ}
 use lib.IntN.{ℤ}
 use denote.Ref.{now}
-use native.Mathlib.Nat.{mul-le-mul-right}
-use Rattle.numbers.specs.law.Sums.{sum as total}
 use Rattle.case.specs.law.Layout.{nodesOf}
 use Rattle.plan.specs.law.Region.{regionSupply, suppliesIn}
 use Rattle.plan.specs.inside.RegionSizes.{supply-small}
-use Rattle.plan.proofs.Sums.{sum-none}
-use Rattle.plan.proofs.RegionSums.{add-fits, add-is, all-is}
+use Rattle.plan.proofs.Adding.{Summing, begun, one-fits, one-more, whole}
 use Rattle.plan.proofs.region.supplies.Statement.{statement}
 use Rattle.plan.proofs.region.supplies.Tie as tie
 
 abbrev Inv-loop : tie.InvT-loop
-Inv-loop case set rows nodes sum₀ v₀ sum v = (v ≤ nodes) × (sum .value ≡ total v (regionSupply (toZ w64 set) rows))
+Inv-loop case set rows nodes sum₀ v₀ sum v = Summing (sum .value) (regionSupply (toZ w64 set) rows) 10000000 (nodesOf case) v
 
 abbrev μ-loop : tie.MeasureT-loop
 μ-loop case set rows nodes sum₀ v₀ sum v = nodes - v
 
 loop-holds : tie.Need-loop-holds Inv-loop μ-loop
-loop-holds c = (omega arith, sym (sum-none _))
+loop-holds c = begun (supply-small (c .pre .2) _) (omega arith)
 
 add-sum : tie.Need-add-sum Inv-loop μ-loop
-add-sum c =
-    let l = c .before .before .before .before in
-    let s = l .before in
-    let z = toZ w64 (ofZ w64 (s .args .set)) in
-    add-fits (regionSupply z (now (s .args .rows))) (nodesOf (now (s .args .case))) 10000000 (supply-small (s .pre .2) z)
-    (omega (arith, mul-le-mul-right {m = nodesOf (now (s .args .case))} {n = 60} 10000000 (omega arith))) (l .loop .v) (omega arith) (l .loop .inv .1) (c .before .before .supply .ensures)
+add-sum c = one-fits (c .before .before .before .before .loop .inv) (c .before .before .supply .ensures) (omega arith)
 
 loop-again : tie.Need-loop-again Inv-loop μ-loop
-loop-again c =
-    let l = c .before .before .before .before in
-    let s = l .before in
-    let z = toZ w64 (ofZ w64 (s .args .set)) in (
-      omega arith,
-      add-is (regionSupply z (now (s .args .rows))) (nodesOf (now (s .args .case))) 10000000 (supply-small (s .pre .2) z)
-          (omega (arith, mul-le-mul-right {m = nodesOf (now (s .args .case))} {n = 60} 10000000 (omega arith))) (l .loop .v) (omega arith) (l .loop .inv .1) (c .before .before .supply .ensures),
-    )
+loop-again c = one-more (c .before .before .before .before .loop .inv) (c .before .before .supply .ensures) (omega arith)
 
 returns : tie.Need-returns Inv-loop μ-loop
 unfolding suppliesIn
 returns c =
     let l = c .before .before in
-    let s = l .before in
-    let z = toZ w64 (ofZ w64 (s .args .set)) in
-    all-is (regionSupply z (now (s .args .rows))) (nodesOf (now (s .args .case))) 10000000 (supply-small (s .pre .2) z)
-    (omega (arith, mul-le-mul-right {m = nodesOf (now (s .args .case))} {n = 60} 10000000 (omega arith))) (l .loop .v) (omega arith) (l .loop .inv .1)
-    ∙ ap (λ (y : ℤ). suppliesIn (now (s .args .case)) y (now (s .args .rows))) (toZ-ofZ (s .fits .set))
+    let a = l .before .args in
+    whole (l .loop .inv) (omega arith) ∙ ap (λ (y : ℤ). suppliesIn (now (a .case)) y (now (a .rows))) (toZ-ofZ (l .before .fits .set))
 
 pub supplies-spec : {M : Type 1} → statement M
 supplies-spec = tie.close (tie.spec
