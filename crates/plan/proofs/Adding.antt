@@ -74,10 +74,11 @@ module _ {r : ℤ} {f : ℕ → ℤ} {x n i : ℕ} (h : Summing r f x n i) where
   pub one-more : {p : ℤ} → p ≡ f i → i < n → Summing (toZ w64 (ofZ w64 (toZ w64 (ofZ w64 r) +ℤ toZ w64 (ofZ w64 p)))) f x n (i + 1)
   one-more e l = record { each = h .each; room = h .room; adding = turn (h .adding) refl (part e l) l (h .room) }
 
+  pub total : n ≤ i → r ≡ sum n f
+  total l = end (h .adding) l
+
   pub whole : n ≤ i → toZ w64 (ofZ w64 r) ≡ sum n f
-  whole l =
-      let e : i ≡ n = omega (arith, h .adding .at) in
-      held< (record { val = h .adding .is ∙ ap (λ (j : ℕ). sum j f) e; bound = rw e at (h .adding .small) }) (h .room) .val
+  whole l = let e : i ≡ n = omega (arith, h .adding .at) in held< (record { val = total l; bound = rw e at (h .adding .small) }) (h .room) .val
 
 -- a part that counts only where a test is true, by the code's answer to it
 pub taken-part : (z : ℤ) {b w : Bool} → b ≡ w → b ≡ true → z ≡ only w z

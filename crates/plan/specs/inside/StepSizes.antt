@@ -7,7 +7,7 @@ use Prim.Native.Nat.{ℕ, _+_, _*_, _<_, _≤_}
 use native.Mathlib.Omega.{arith}
 use borrow.Author.Tests.{leb-true, eqb-true, eq-eqb, ne-eqb}
 use lib.Dec.{eqb, leb}
-use lib.IntN.{ℤ, _+ℤ_, _*ℤ_}
+use lib.IntN.{ℤ, natAbs, _+ℤ_, _*ℤ_}
 use Rattle.numbers.specs.inside.SignedBounds.{Bounded}
 use Rattle.numbers.specs.inside.SignedLocals.{Held, plain, _+ʳ_, _*ʳ_}
 use Rattle.numbers.specs.law.Sums.{only, onlyN}
@@ -81,24 +81,25 @@ module _ {case : List ℤ} (c : AcceptedCase case) where
     unfolding stateCost
     state-le was = only-le (not (eqb (stateIn case rows s) was)) (stateOf case s (stateIn case rows s) .weight) (state-weight c s q (stateIn case rows s) (h .state s q))
 
+module _ {case rows : List ℤ} (h : NodesSized case rows) (v : ℕ) (q : v < nodesOf case) where
+  pub pressure-slack-le : natAbs (pressureSlackAt rows v) ≤ 800000
+  unfolding pressureSlackAt
+  pressure-slack-le = let r = h .each v q in (sized (r .uplus) +ʳ sized (r .uminus)) .bound
+
+  pub demand-slack-le : natAbs (demandSlackAt rows v) ≤ 20000000
+  unfolding demandSlackAt
+  demand-slack-le = let r = h .each v q in (sized (r .splus) +ʳ sized (r .sminus)) .bound
+
 -- ---- the sums of a step
 
 module _ {case : List ℤ} (rows : List ℤ) (c : AcceptedCase case) where
   pub pressure-slack-sized : NodesSized case rows → Bounded (pressureSlackIn case rows) 48000000
-  unfolding pressureSlackIn pressureSlackAt
-  pressure-slack-sized h = record {
-    bound =
-        let b = abs-sum-le (nodesOf case) 800000 (pressureSlackAt rows) (λ v q. let r = h .each v q in (sized (r .uplus) +ʳ sized (r .uminus)) .bound) in
-        omega (arith, b, counted c .nodes);
-  }
+  unfolding pressureSlackIn
+  pressure-slack-sized h = record { bound = omega (arith, abs-sum-le (nodesOf case) 800000 (pressureSlackAt rows) (pressure-slack-le h), counted c .nodes) }
 
   pub demand-slack-sized : NodesSized case rows → Bounded (demandSlackIn case rows) 1200000000
-  unfolding demandSlackIn demandSlackAt
-  demand-slack-sized h = record {
-    bound =
-        let b = abs-sum-le (nodesOf case) 20000000 (demandSlackAt rows) (λ v q. let r = h .each v q in (sized (r .splus) +ʳ sized (r .sminus)) .bound) in
-        omega (arith, b, counted c .nodes);
-  }
+  unfolding demandSlackIn
+  demand-slack-sized h = record { bound = omega (arith, abs-sum-le (nodesOf case) 20000000 (demandSlackAt rows) (demand-slack-le h), counted c .nodes) }
 
   pub choice-costs-le : ChoicesKept case rows → (f z : ℕ → ℕ) → choiceCosts case f z rows ≤ 16000000
   unfolding choiceCosts choiceCost
