@@ -1,5 +1,4 @@
--- Tests and what they leave, one after the other; what is read back; the search for an item of a set.
--- Assumes nothing.
+-- A test that passed or failed fixes what the law's conjunction, selection or search leaves.
 use mathlib.Core.Path.{_≡_, refl, ap₂}
 use mathlib.Core.Bool.{Bool, true, false, cond, _&&_}
 use mathlib.Core.List.{List}
@@ -7,10 +6,8 @@ use lib.IntN.{ℤ, pos}
 use Prim.Native.Nat.{ℕ, suc, _+_, _-_, _<_, _≤_}
 use native.Mathlib.Numerals.{add-one}
 use Rattle.numbers.specs.law.Sets.{memberOf}
-use Rattle.numbers.specs.law.Signed.{posPart}
-use Rattle.numbers.specs.law.Question.{firstNo}
 use Rattle.plan.specs.law.RegionFigures.{figuresOf}
-use Rattle.plan.specs.law.Ledger.{lowestOf, regionQuestions, ledgerBy}
+use Rattle.plan.specs.law.Ledger.{lowestOf}
 use native.Mathlib.Omega.{arith}
 use Rattle.numbers.specs.law.Sums.{only, onlyN}
 use Rattle.plan.specs.law.Region.{inward}
@@ -54,8 +51,6 @@ cond-yes m n e = rw e
 pub cond-no : {b : Bool} (m n : ℕ) → b ≡ false → n ≡ cond b m n
 cond-no m n e = rw e
 
--- ---- the sets of the first n nodes
-
 -- ---- a search for the lowest item of a set
 
 count-down : (v : ℕ) → v < 60 → 60 - v ≡ suc (60 - (v + 1))
@@ -70,14 +65,6 @@ lowest-on set v l e = rw (count-down v l, e, ← add-one v)
 pub lowest-none : (set : ℤ) (v : ℕ) → 60 ≤ v → 0 ≡ lowestOf set v (60 - v)
 lowest-none set v l = let e : 60 - v ≡ 0 = omega arith in rw e
 
--- ---- the same set and times, read back
-
-pub same-questions : (case : List ℤ) {x y a b u w : ℤ} → x ≡ y → a ≡ b → u ≡ w → firstNo (regionQuestions case x a u) ≡ firstNo (regionQuestions case y b w)
-same-questions case p q r = rw (p, q, r)
-
+-- the same figures, by what is read back
 pub same-figures : (case plan : List ℤ) {x y : ℤ} {a b u w : ℕ} → x ≡ y → a ≡ b → u ≡ w → figuresOf case plan x a u ≡ figuresOf case plan y b w
 same-figures case plan p q r = rw (p, q, r)
-
-pub same-answer : (case plan : List ℤ) {x y a b u w : ℤ} → x ≡ y → a ≡ b → u ≡ w
-    → ledgerBy (firstNo (regionQuestions case x a u)) (figuresOf case plan x (posPart a) (posPart u)) ≡ ledgerBy (firstNo (regionQuestions case y b w)) (figuresOf case plan y (posPart b) (posPart w))
-same-answer case plan p q r = rw (p, q, r)

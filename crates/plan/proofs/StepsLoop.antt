@@ -3,7 +3,7 @@
 use mathlib.Core.Path.{_≡_, refl, sym, ap, ap₂, _∙_}
 use mathlib.Core.List.{List}
 use Prim.Native.Nat.{ℕ, suc, _+_, _*_, _-_, _<_, _≤_}
-use native.Mathlib.Nat.{mul-le-mul-right}
+use native.Mathlib.Nat.{mul-le-mul}
 use native.Mathlib.Numerals.{add-one}
 use native.Mathlib.Omega.{arith}
 use lib.IntN.{ℤ, pos, natAbs, _+ℤ_}
@@ -67,9 +67,19 @@ held-sized h s = record { each = λ v l. record { bound = rw (h .each v l) (s .e
 pub start-sized : {case : List ℤ} → AcceptedCase case → PressuresSized (startPressure case) (nodesOf case)
 start-sized a = record { each = λ v l. node-sized a v l 0 (counted a .some-step) .p0 }
 
--- the step's part of the plan lies within it
-pub part-within : (i k w : ℕ) → i < k → 2 + i * w + w ≤ 2 + k * w
-part-within i k w p = let e : i * w + w ≡ suc i * w = omega arith in omega (arith, e, mul-le-mul-right w p)
+-- the layout's counts are those of an accepted case, and the plan's length by them is small
+pub record Small (l : Layout) : Type 0 where
+  pub few : (l .nodes ≤ 60) × (l .arcs ≤ 120) × (l .stations ≤ 8)
+  pub steps : l .steps ≤ 48
+  pub width : l .nodes * 6 + l .arcs * 4 + l .stations * 2 ≤ 856
+  pub all : l .steps * (l .nodes * 6 + l .arcs * 4 + l .stations * 2) ≤ 41088
+
+pub small : {case : List ℤ} {l : Layout} → AcceptedCase case → LayoutOf case l → Small l
+small {l = l} a d =
+    let k = counted a in
+    let s : l .steps ≤ 48 = omega (arith, d .steps, k .steps) in
+    let w : l .nodes * 6 + l .arcs * 4 + l .stations * 2 ≤ 856 = omega (arith, d .nodes, k .nodes, d .arcs, k .arcs, d .stations, k .stations) in
+    record { few = (omega (arith, d .nodes), omega (arith, d .arcs), omega (arith, d .stations)); steps = s; width = w; all = mul-le-mul s w }
 
 pub part-is : (case plan : List ℤ) (i w : ℕ) {rows : List ℤ} → w ≡ stepWidth case → rows ≡ take w (drop (2 + i * w) plan) → rows ≡ stepRows case plan i
 unfolding stepRows stepAt

@@ -1,31 +1,26 @@
 -- The loop over the steps: what is gathered before the step with index i, and one turn.
 -- Assumes nothing.
 use mathlib.Core.Path.{_≡_, sym, ap, ap₂, _∙_, subst}
-use mathlib.Core.Bool.{_&&_}
 use mathlib.Core.List.{List}
 use Prim.Native.Nat.{ℕ, zero, suc, _+_, _*_, _-_, _<_, _≤_}
 use native.Mathlib.Nat.{mul-le-mul, mul-le-mul-right, add-sub-cancel-left}
 use native.Mathlib.Omega.{arith}
-use borrow.Author.Tests.{eqb-true}
 use lib.IntN.{ℤ, pos, natAbs, _+ℤ_}
-use lib.Dec.{eqb}
 use lib.ListN.{length, take, drop}
 use Rattle.numbers.specs.law.Question.{firstNo}
 use Rattle.numbers.specs.declared.answer.Answer.the-variants.{Yes}
 use Rattle.numbers.specs.inside.SignedBounds.{Bounded, abs-add}
 use Rattle.numbers.specs.law.Sums.{sum, sumN}
 use Rattle.case.specs.law.Layout.{numberAt, nodesOf, stepsOf}
-use Rattle.case.specs.inside.FieldLaws.{and-second}
 use Rattle.case.specs.law.LayoutOf.{Holds}
 use Rattle.plan.specs.declared.region.Gathered.{Gathered}
 use Rattle.plan.specs.law.PlanLayout.{stepWidth, stepAt, stepRows}
 use Rattle.plan.specs.law.PlanRecords.{pressureIn}
 use Rattle.plan.specs.law.BeforeStep.{startPressure, pressureAt}
-use Rattle.plan.specs.law.Compared.{same}
-use Rattle.plan.specs.law.PlanHead.{headKept}
 use Rattle.plan.specs.law.Step.{stepQuestions}
 use Rattle.plan.specs.inside.Sizes.{NodesSized}
-use Rattle.plan.specs.inside.Preconditions.{AcceptedCase}
+use Rattle.plan.specs.inside.Preconditions.{AcceptedCase, PlanLaid}
+use Rattle.plan.specs.inside.VerdictLaws.{plan-laid}
 use Rattle.plan.specs.inside.CaseSizes.{counted, node-sized}
 use Rattle.plan.specs.inside.AnsweredSizes.{nodes-sized, flows-sized, choices-kept, pipe-small, node-small, nodes-yes, arcs-yes, stations-yes, balances-yes}
 use Rattle.plan.specs.claims.Acceptance.{PlanRules, rules-step}
@@ -140,24 +135,18 @@ pub record StepWithin (plan : List ℤ) (i width : ℕ) : Type 0 where
   pub inside : 2 + i * width + width ≤ length plan
   pub near : 2 + i * width + width ≤ 50000
 
+pub part-within : {case plan : List ℤ} {width : ℕ} → AcceptedCase case → PlanLaid case plan → width ≡ stepWidth case → (i : ℕ) → i < stepsOf case → StepWithin plan i width
+unfolding stepWidth stepAt
+part-within {case} {width = width} c p wide i l =
+    let n = counted c in
+    let a : suc i * width ≤ stepsOf case * width = mul-le-mul-right width l in
+    let w : width ≤ 856 = omega (arith, n .nodes, n .arcs, n .stations) in
+    let b : stepsOf case * width ≤ 48 * 856 = mul-le-mul (n .steps) w in
+    record { inside = omega (arith, p .long ∙ ap (λ (w : ℕ). 2 + stepsOf case * w) (sym wide)); near = omega arith }
+
 module _ {case plan : List ℤ} {width : ℕ} (r : PlanRules case plan) (wide : width ≡ stepWidth case) where
-  narrow : width ≤ 856
-  unfolding stepWidth
-  narrow = let n = counted (accepted-case r) in omega (arith, wide, n .nodes, n .arcs, n .stations)
-
-  long : length plan ≡ 2 + stepsOf case * width
-  unfolding headKept stepAt
-  long =
-      let h = and-second (same (numberAt plan 0) (pos 1)) (same (numberAt plan 1) (pos (stepsOf case)) && eqb (length plan) (stepAt case (stepsOf case))) (r .rule20) in
-      let e = eqb-true (length plan) (stepAt case (stepsOf case)) (and-second (same (numberAt plan 1) (pos (stepsOf case))) _ h) in
-      e ∙ ap (λ (w : ℕ). 2 + stepsOf case * w) (sym wide)
-
   pub step-within : (i : ℕ) → i < stepsOf case → StepWithin plan i width
-  step-within i l =
-      let n = counted (accepted-case r) in
-      let a : suc i * width ≤ stepsOf case * width = mul-le-mul-right width l in
-      let b : stepsOf case * width ≤ 48 * 856 = mul-le-mul (n .steps) narrow in
-      record { inside = omega (arith, long); near = omega arith }
+  step-within = part-within (accepted-case r) (plan-laid case plan (r .rule20)) wide
 
   pub row-is : (i : ℕ) → take (2 + i * width + width - (2 + i * width)) (drop (2 + i * width) plan) ≡ stepRows case plan i
   unfolding stepRows stepAt

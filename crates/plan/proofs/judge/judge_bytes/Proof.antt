@@ -1,30 +1,35 @@
-use mathlib.Core.Path.{ap, sym, _∙_}
+-- The reading's end decides: all was read, and the list's front is judged with the plan's bytes; or a refusal, and the plan's list stays.
+use mathlib.Core.Path.{_≡_, ap, sym, _∙_}
+use mathlib.Core.List.{[], _∷_}
 use Prim.Native.Nat.{_≤_}
 use native.Mathlib.Omega.{arith}
 use borrow.Author.Needs.{needs}
 use denote.Ref.{now}
 use lib.ListN.{length}
 use lib.Seq.{length-take-le}
+use lib.IntN.{pos}
+use Rattle.numbers.specs.law.Told.{gives}
+use Rattle.numbers.specs.law.Reading.{readOf, readTold}
 use Rattle.numbers.specs.law.CodecTold.{readingTold}
 use Rattle.numbers.specs.inside.ReadingBounds.{count-within}
 use Rattle.plan.specs.inside.VerdictLaws.{ReadAll, read-all, read-no, read-front, case-read, list-of, case-unread, case-list}
 use Rattle.plan.proofs.judge.judge_bytes.Statement.{statement}
 use Rattle.plan.proofs.judge.judge_bytes.Tie as tie
 
+abbrev begin : tie.After-read → tie.Start
+begin d = d .before .before .before .before
+
 -- the case bytes were read to the end
-front : (g : tie.After-got) → let d = g .before .before .before in let s = d .before .before .before .before in
-    ReadAll (now (s .args .casebytes)) (length (now (s .args .caselist))) (g .got .given .0 .0)
-front g =
-    let d = g .before .before .before in
-    let s = d .before .before .before .before in
-    read-all (now (s .args .casebytes)) (length (now (s .args .caselist))) (ap readingTold (sym (g .got .given .1)) ∙ d .read .ensures .0)
+told : (g : tie.After-got) → let a = begin (g .before .before .before) .args in
+    gives (pos (g .got .given .0 .0) ∷ []) ≡ readTold (readOf (now (a .casebytes)) (length (now (a .caselist))))
+told g = ap readingTold (sym (g .got .given .1)) ∙ g .before .before .before .read .ensures .0
+
+front : (g : tie.After-got) → let a = begin (g .before .before .before) .args in
+    ReadAll (now (a .casebytes)) (length (now (a .caselist))) (g .got .given .0 .0)
+front g = read-all _ _ (told g)
 
 within : (g : tie.After-got) → g .got .given .0 .0 ≤ length (g .before .before .before .read .last .1 .0)
-within g =
-    let d = g .before .before .before in
-    let s = d .before .before .before .before in
-    let h = count-within (now (s .args .casebytes)) (length (now (s .args .caselist))) (g .got .given .0 .0) (ap readingTold (sym (g .got .given .1)) ∙ d .read .ensures .0) in
-    omega (arith, h, d .read .kept .1 .0)
+within g = omega (arith, count-within _ _ _ (told g), g .before .before .before .read .kept .1 .0)
 
 slice-aggregate-judge-case-list : tie.Need-slice-aggregate-judge-case-list
 slice-aggregate-judge-case-list c = sym (length-take-le _ _ (within (c .before .before)))
@@ -32,29 +37,20 @@ slice-aggregate-judge-case-list c = sym (length-take-le _ _ (within (c .before .
 returns : tie.Need-returns
 returns c =
     let b = c .before in
-    let g = c .before .before .before .before .before in
+    let g = b .before .before .before .before in
     let d = g .before .before .before in
-    let a = d .before .before .before .before .args in
-    let bytes = now (a .casebytes) in
-    let room = length (now (a .caselist)) in
-    let f = read-front bytes room (now (a .caselist)) (d .read .last .1 .0) (front g) (d .read .ensures .1) in (
-      case-read bytes (now (a .planbytes)) (now (a .caselist)) (now (a .planlist)) (front g .ended) f (b .judge-case-list .ensures .0),
-      (
-        case-list bytes (now (a .planbytes)) (now (a .caselist)) (now (a .planlist)) (d .read .ensures .1),
-        list-of bytes (now (a .planbytes)) (now (a .caselist)) (now (a .planlist)) (front g .ended) f (b .judge-case-list .ensures .1),
-      ),
+    let e = d .read .ensures .1 in
+    let f = read-front _ _ _ (d .read .last .1 .0) (front g) e in (
+      case-read _ _ _ _ (front g .ended) f (b .judge-case-list .ensures .0),
+      (case-list _ _ _ _ e, list-of _ _ _ _ (front g .ended) f (b .judge-case-list .ensures .1)),
     )
 
 returns-2 : tie.Need-returns-2
 returns-2 c =
     let g = c .before in
     let d = g .before .before .before in
-    let a = d .before .before .before .before .args in
-    let bytes = now (a .casebytes) in
-    let room = length (now (a .caselist)) in
-    let w = read-no bytes room (ap readingTold (sym (g .got2 .given .1)) ∙ d .read .ensures .0) in
-    let u = case-unread bytes (now (a .planbytes)) (now (a .caselist)) (now (a .planlist)) w in
-    (u .0, (case-list bytes (now (a .planbytes)) (now (a .caselist)) (now (a .planlist)) (d .read .ensures .1), u .1))
+    let u = case-unread _ _ _ _ (read-no _ _ (ap readingTold (sym (g .got2 .given .1)) ∙ d .read .ensures .0)) in
+    (u .0, (case-list _ _ _ _ (d .read .ensures .1), u .1))
 
 pub judge-bytes-spec : {M : Type 1} → statement M
 judge-bytes-spec = tie.close (tie.spec

@@ -1,5 +1,8 @@
-use mathlib.Core.Path.{_∙_}
+-- The plan's bytes are reached only past an accepted case; otherwise the case's refusal is told and the plan's list stays.
+use mathlib.Core.Path.{_≡_, _∙_}
 use borrow.Author.Needs.{needs}
+use Rattle.numbers.specs.law.Question.{firstNo}
+use Rattle.case.specs.law.Judged.{caseQuestions}
 use denote.Ref.{now}
 use Rattle.plan.specs.inside.Preconditions.{AcceptedCase}
 use Rattle.plan.specs.inside.CaseSizes.{list-yes}
@@ -7,34 +10,27 @@ use Rattle.plan.specs.inside.VerdictLaws.{case-answer, case-passed, list
 use Rattle.plan.proofs.judge.judge_case_list.Statement.{statement}
 use Rattle.plan.proofs.judge.judge_case_list.Tie as tie
 
-enum-told : tie.Need-enum-told
-enum-told c = search needs
+-- the answer on the case is that of its questions
+asked : (j : tie.After-judge-and-lay) → firstNo (caseQuestions (now (j .before .before .args .case))) ≡ j .judge-and-lay .result .answer
+asked j = case-answer _ _ (j .judge-and-lay .ensures .told-is)
 
 judge-plan-bytes-requires : tie.Need-judge-plan-bytes-requires
 judge-plan-bytes-requires c κs =
-    let e = c .before in
-    let j = e .before .before in
-    let k : AcceptedCase (now (j .before .before .args .case)) = record { yes = case-answer (now (j .before .before .args .case)) (j .judge-and-lay .result .answer) (j .judge-and-lay .ensures .told-is) ∙ e .enum-told .given .1 } in
+    let j = c .before .before .before in
+    let k : AcceptedCase (now (j .before .before .args .case)) = record { yes = asked j ∙ c .before .enum-told .given .1 } in
     (k, j .judge-and-lay .ensures .passed (list-yes k))
 
 returns : tie.Need-returns
 returns c =
     let b = c .before in
     let e = b .before .before in
-    let j = e .before .before in
-    let a = j .before .before .args in
-    let y = case-answer (now (a .case)) (j .judge-and-lay .result .answer) (j .judge-and-lay .ensures .told-is) ∙ e .enum-told .given .1 in (
-      case-passed (now (a .case)) (now (a .planbytes)) (now (a .planlist)) y (b .judge-plan-bytes .ensures .0),
-      list-reached (now (a .case)) (now (a .planbytes)) (now (a .planlist)) y (b .judge-plan-bytes .ensures .1),
-    )
+    let a = e .before .before .before .before .args in
+    let y = asked (e .before .before) ∙ e .enum-told .given .1 in
+    (case-passed (now (a .case)) (now (a .planbytes)) (now (a .planlist)) y (b .judge-plan-bytes .ensures .0), list-reached _ _ _ y (b .judge-plan-bytes .ensures .1))
 
 returns-2 : tie.Need-returns-2
-returns-2 c =
-    let k = c .before in
-    let j = k .before .before in
-    let a = j .before .before .args in
-    case-stopped (now (a .case)) (now (a .planbytes)) (now (a .planlist)) (case-answer (now (a .case)) (j .judge-and-lay .result .answer) (j .judge-and-lay .ensures .told-is) ∙ k .a .given .1)
+returns-2 c = case-stopped _ _ _ (asked (c .before .before .before) ∙ c .before .a .given .1)
 
 pub judge-case-list-spec : {M : Type 1} → statement M
 judge-case-list-spec = tie.close (tie.spec
-    (λ c κs. search needs) enum-told judge-plan-bytes-requires (λ c. search needs) (λ c. search needs) returns returns-2)
+    (λ c κs. search needs) (λ c. search needs) judge-plan-bytes-requires (λ c. search needs) (λ c. search needs) returns returns-2)

@@ -1,13 +1,10 @@
-use mathlib.Core.Path.{refl, ap, _∙_, subst}
+-- The gas at both times goes by pressures that an array holds, and the two sums are those gathered for the set.
+use mathlib.Core.Path.{refl, _∙_}
 use native.Mathlib.Omega.{arith}
 use borrow.Author.Needs.{needs}
 use mir.Facts.{toZ-ofZ}
-use lib.IntN.{ℤ}
 use denote.Ref.{now}
-use Rattle.case.specs.law.Layout.{numberAt}
-use Rattle.numbers.specs.law.Sets.{countOf}
 use Rattle.plan.specs.inside.CaseSizes.{counted}
-use Rattle.plan.specs.law.Region.{innerPipes, regionGas}
 use Rattle.plan.specs.inside.RegionLoop.{Gathering, pressures-held, gas-held}
 use Rattle.plan.specs.inside.LedgerAnswer.{figures-are}
 use Rattle.numbers.specs.inside.SignedLocals.{kept}
@@ -15,39 +12,44 @@ use Rattle.plan.proofs.Adding.{got}
 use Rattle.plan.proofs.ledger.figures.Statement.{statement}
 use Rattle.plan.proofs.ledger.figures.Tie as tie
 
+abbrev begin : tie.After-gather → tie.Start
+begin g = g .before .before .before .before
+
 -- what is gathered, for the set itself
-gathered : (c : tie.After-gather) → Gathering (now (c .before .before .before .before .args .case)) (now (c .before .before .before .before .args .plan)) (c .before .before .before .before .args .set) (c .before .before .before .before .args .s) (c .before .before .before .before .args .t) (c .gather .result)
-gathered c =
-    let s = c .before .before .before .before in
-    subst (λ (z : ℤ). Gathering (now (s .args .case)) (now (s .args .plan)) z (s .args .s) (s .args .t) (c .gather .result)) (toZ-ofZ (s .fits .set)) (c .gather .ensures)
+gathered : (g : tie.After-gather) → let a = begin g .args in Gathering (now (a .case)) (now (a .plan)) (a .set) (a .s) (a .t) (g .gather .result)
+gathered g = rw (toZ-ofZ (begin g .fits .set)) at (g .gather .ensures)
 
 region-gas-requires : tie.Need-region-gas-requires
-region-gas-requires c κs = let s = c .before .before in (pressures-held (s .pre .laid .rules) (s .args .s) (omega (arith, s .pre .order, s .pre .last)) (c .before .pressures-at .ensures), s .pre .counted)
+region-gas-requires c κs =
+    let y = c .before .before .pre in
+    (pressures-held (y .laid .rules) _ (omega (arith, y .order, y .last)) (c .before .pressures-at .ensures), y .counted)
 
 region-gas-requires-2 : tie.Need-region-gas-requires-2
-region-gas-requires-2 c κs = let s = c .before .before .before .before .before .before in (pressures-held (s .pre .laid .rules) (s .args .t) (s .pre .last) (gathered (c .before .before) .held), s .pre .counted)
+region-gas-requires-2 c κs =
+    let g = c .before .before in
+    let y = begin g .pre in
+    (pressures-held (y .laid .rules) _ (y .last) (gathered g .held), y .counted)
 
 inner-pipes-requires : tie.Need-inner-pipes-requires
-inner-pipes-requires c κs = let s = c .before .before .before .before .before .before .before .before in (record { yes = s .pre .laid .rules .case-yes }, s .pre .counted)
+inner-pipes-requires c κs = let y = begin (c .before .before .before .before) .pre in (record { yes = y .laid .rules .case-yes }, y .counted)
 
 returns : tie.Need-returns
 returns c =
-    let o = c .before .before .before .before .before .before .before in
-    let p = o .before .before in
-    let s = p .before in
+    let d = c .before .before .before in
+    let g = d .before .before .before in
+    let o = g .before in
+    let s = begin g in
+    let a = s .args in
     let r = s .pre .laid .rules in
-    let z = s .fits .set in
-    let g = gathered (c .before .before .before .before .before .before) in
-    let k = counted (record { yes = r .case-yes }) in
-    figures-are (now (s .args .case)) (now (s .args .plan)) (s .args .set) (s .args .s) (s .args .t)
-    (c .before .before .count .ensures ∙ ap countOf (toZ-ofZ z))
-    (c .before .inner-pipes .ensures ∙ ap (innerPipes (now (s .args .case))) (toZ-ofZ z))
-    (kept _ (o .region-gas .ok) ∙ o .region-gas .ensures ∙ ap (λ (y : ℤ). regionGas (now (s .args .case)) y (numberAt (p .pressures-at .result))) (toZ-ofZ z) ∙ gas-held r (s .args .set) (s .args .s) (p .pressures-at .ensures))
-    (kept _ (c .before .before .before .region-gas2 .ok) ∙ c .before .before .before .region-gas2 .ensures
-    ∙ ap (λ (y : ℤ). regionGas (now (s .args .case)) y (numberAt (c .before .before .before .before .before .before .gather .result .pressures))) (toZ-ofZ z)
-    ∙ gas-held r (s .args .set) (s .args .t) (g .held))
-    g
-    (got {n = 100000000000000000} refl (record { bound = omega (arith, g .brought-few, s .pre .last, k .steps) }) tt .val)
+    let z = toZ-ofZ (s .fits .set) in
+    let h = gathered g in
+    let k = counted (record { yes = r .case-yes }) .steps in
+    figures-are (now (a .case)) (now (a .plan)) (a .set) (a .s) (a .t)
+    (rw z at (c .before .before .count .ensures))
+    (rw z at (c .before .inner-pipes .ensures))
+    (kept _ (o .region-gas .ok) ∙ (rw z at (o .region-gas .ensures)) ∙ gas-held r (a .set) (a .s) (o .before .before .pressures-at .ensures))
+    (kept _ (d .region-gas2 .ok) ∙ (rw z at (d .region-gas2 .ensures)) ∙ gas-held r (a .set) (a .t) (h .held))
+    h (got {n = 100000000000000000} refl (record { bound = omega (arith, h .brought-few, s .pre .last) }) tt .val)
 
 pub figures-spec : {M : Type 1} → statement M
 figures-spec = tie.close (tie.spec

@@ -1,14 +1,12 @@
-use mathlib.Core.Path.{_≡_, sym, ap, ap₂, _∙_}
-use Prim.Native.Nat.{ℕ, _-_}
+-- A set of nodes and more has a lowest item past the case's nodes, which is looked for from there on; any other set has place 0.
+use mathlib.Core.Path.{_≡_, sym, ap, _∙_}
 use native.Mathlib.Omega.{arith}
 use borrow.Author.Needs.{needs}
 use mir.Facts.{toZ-ofZ}
-use lib.IntN.{ℤ, pos}
 use denote.Ref.{now}
 use Rattle.case.specs.law.Layout.{nodesOf}
 use Rattle.numbers.specs.law.Signed.{posPart}
-use Rattle.plan.specs.law.Compared.{within}
-use Rattle.plan.specs.law.Ledger.{lowestOf, foreignNode}
+use Rattle.plan.specs.law.Ledger.{isNodeSet, foreignNode}
 use Rattle.numbers.specs.inside.SignedLocals.{kept}
 use Rattle.plan.proofs.RegionTests.{cond-yes, cond-no}
 use Rattle.plan.proofs.ledger.foreign_node.Statement.{statement}
@@ -18,6 +16,9 @@ use Rattle.plan.proofs.ledger.foreign_node.Tie as tie
 nodes-is : (c : tie.After-index) → c .index .result ≡ nodesOf (now (c .before .before .before .before .before .args .case))
 nodes-is c = c .index .ensures ∙ ap posPart (kept _ (c .before .at .ok) ∙ c .before .at .ensures)
 
+in-range : (w : tie.After-within) → w .within .result ≡ isNodeSet (w .before .before .args .set)
+in-range w = let f = w .before .first-nodes in rw (toZ-ofZ (w .before .before .fits .set), kept _ (f .ok) ∙ f .ensures) at (w .within .ensures)
+
 lowest-requires : tie.Need-lowest-requires
 lowest-requires c κs = omega (arith, nodes-is c, c .before .before .before .before .before .pre)
 
@@ -25,17 +26,11 @@ returns : tie.Need-returns
 unfolding foreignNode
 returns c =
     let w = c .before .before .before .before in
-    let s = w .before .before in
-    let a = w .within .ensures ∙ ap₂ (λ (x y : ℤ). within (pos 0) x y) (toZ-ofZ (s .fits .set)) (kept _ (w .before .first-nodes .ok) ∙ w .before .first-nodes .ensures) in
-    c .lowest .ensures ∙ ap₂ (λ (x : ℤ) (n : ℕ). lowestOf x n (60 - n)) (toZ-ofZ (s .fits .set)) (nodes-is (c .before)) ∙ cond-yes _ 0 (sym a ∙ c .before .before .before .if1 .taken)
+    (rw (toZ-ofZ (w .before .before .fits .set), nodes-is (c .before)) at (c .lowest .ensures)) ∙ cond-yes _ 0 (sym (in-range w) ∙ c .before .before .before .if1 .taken)
 
 returns-2 : tie.Need-returns-2
 unfolding foreignNode
-returns-2 c =
-    let w = c .before in
-    let s = w .before .before in
-    let a = w .within .ensures ∙ ap₂ (λ (x y : ℤ). within (pos 0) x y) (toZ-ofZ (s .fits .set)) (kept _ (w .before .first-nodes .ok) ∙ w .before .first-nodes .ensures) in
-    cond-no _ 0 (sym a ∙ c .if1 .left)
+returns-2 c = cond-no _ 0 (sym (in-range (c .before)) ∙ c .if1 .left)
 
 pub foreign-node-spec : {M : Type 1} → statement M
 foreign-node-spec = tie.close (tie.spec

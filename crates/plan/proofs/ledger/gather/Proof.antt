@@ -1,4 +1,5 @@
-use mathlib.Core.Path.{_≡_, sym, subst}
+-- What is gathered before step i is that of the steps from s on; each turn adds the step's rows, which lie in the plan's list.
+use mathlib.Core.Path.{_≡_, subst}
 use Prim.Native.Nat.{ℕ, _-_, _≤_, _<_}
 use native.Mathlib.Omega.{arith}
 use mir.Facts.{toZ-ofZ}
@@ -6,10 +7,8 @@ use mir.Syntax.{w64}
 use mir.Val.{toZ}
 use lib.IntN.{ℤ}
 use denote.Ref.{now}
-use mathlib.Core.List.{List}
 use Rattle.case.specs.law.Layout.{stepsOf}
-use Rattle.plan.specs.inside.RegionPreconditions.{RegionStep}
-use Rattle.plan.specs.inside.RegionLoop.{Gathering, gathering, step-handed, room, turn, step-within, row-is}
+use Rattle.plan.specs.inside.RegionLoop.{Gathering, StepWithin, gathering, step-handed, room, turn, step-within, row-is}
 use Rattle.plan.proofs.ledger.gather.Statement.{statement}
 use Rattle.plan.proofs.ledger.gather.Tie as tie
 
@@ -25,59 +24,30 @@ pressures-at-requires c κs = (c .pre .laid, omega (arith, c .pre .order, c .pre
 loop-holds : tie.Need-loop-holds Inv-loop μ-loop
 loop-holds c = (c .before .pre .order, gathering (c .pressures-at .ensures))
 
-mul-offset : tie.Need-mul-offset Inv-loop μ-loop
-mul-offset c =
-    let l = c .before in
-    let s = l .before .before in
-    let w = step-within (s .pre .laid .rules) (s .pre .laid .wide) (l .loop .i) (omega (arith, s .pre .last, c .loop-test .taken)) in
-    omega arith
+inside : (c : tie.In-loop Inv-loop μ-loop) → c .before .loop .i < stepsOf (now (c .before .before .before .args .case))
+inside c = omega (arith, c .before .before .before .pre .last, c .loop-test .taken)
 
-add-offset : tie.Need-add-offset Inv-loop μ-loop
-add-offset c =
-    let l = c .before in
-    let s = l .before .before in
-    let w = step-within (s .pre .laid .rules) (s .pre .laid .wide) (l .loop .i) (omega (arith, s .pre .last, c .loop-test .taken)) in
-    omega arith
-
-add-rows : tie.Need-add-rows Inv-loop μ-loop
-add-rows c =
-    let l = c .before in
-    let s = l .before .before in
-    let w = step-within (s .pre .laid .rules) (s .pre .laid .wide) (l .loop .i) (omega (arith, s .pre .last, c .loop-test .taken)) in
-    omega arith
-
-mul-rows : tie.Need-mul-rows Inv-loop μ-loop
-mul-rows c =
-    let l = c .before in
-    let s = l .before .before in
-    let w = step-within (s .pre .laid .rules) (s .pre .laid .wide) (l .loop .i) (omega (arith, s .pre .last, c .loop-test .taken)) in
-    omega arith
-
-part-rows-end : tie.Need-part-rows-end Inv-loop μ-loop
-part-rows-end c =
-    let l = c .before in
-    let s = l .before .before in
-    let w = step-within (s .pre .laid .rules) (s .pre .laid .wide) (l .loop .i) (omega (arith, s .pre .last, c .loop-test .taken)) in
-    omega arith
+-- the step's part lies in the plan's list, and not far in
+within : (c : tie.In-loop Inv-loop μ-loop) → let s = c .before .before .before in StepWithin (now (s .args .plan)) (c .before .loop .i) (s .args .width)
+within c = let l = c .before .before .before .pre .laid in step-within (l .rules) (l .wide) _ (inside c)
 
 with-step-requires : tie.Need-with-step-requires Inv-loop μ-loop
 with-step-requires c κs =
     let l = c .before .before in
-    let s = l .before .before in
-    let r = s .pre .laid .rules in
-    let b : l .loop .i < stepsOf (now (s .args .case)) = omega (arith, s .pre .last, c .before .loop-test .taken) in (
-      s .pre .laid .counted,
-      s .pre .counted,
-      subst (λ (x : List ℤ). RegionStep (now (s .args .case)) (l .loop .g .pressures) x (l .loop .i)) (sym (row-is r (s .pre .laid .wide) (l .loop .i))) (step-handed r (l .loop .i) b (l .loop .inv .1 .held)),
-      room r (l .loop .inv .1) b,
+    let y = l .before .before .pre in
+    let h = l .loop .inv .1 in
+    let r = y .laid .rules in (
+      y .laid .counted,
+      y .counted,
+      rw (row-is r (y .laid .wide) (l .loop .i)) (step-handed r (l .loop .i) (inside (c .before)) (h .held)),
+      room r h (inside (c .before)),
     )
 
 loop-again : tie.Need-loop-again Inv-loop μ-loop
 loop-again c =
     let l = c .before .before .before in
-    let s = l .before .before in
-    let r = s .pre .laid .rules in
-    (omega arith, turn r (l .loop .inv .1) (omega (arith, s .pre .last, c .before .before .loop-test .taken)) (row-is r (s .pre .laid .wide) (l .loop .i)) (c .with-step .ensures))
+    let y = l .before .before .pre .laid in
+    (omega arith, turn (y .rules) (l .loop .inv .1) (inside (c .before .before)) (row-is (y .rules) (y .wide) (l .loop .i)) (c .with-step .ensures))
 
 returns : tie.Need-returns Inv-loop μ-loop
 returns c =
@@ -89,5 +59,5 @@ returns c =
 
 pub gather-spec : {M : Type 1} → statement M
 gather-spec = tie.close (tie.spec
-    Inv-loop μ-loop pressures-at-requires loop-holds mul-offset add-offset add-rows mul-rows (λ c. omega arith)
-    (λ c. omega arith) part-rows-end with-step-requires (λ c. omega arith) (λ c. omega arith) loop-again returns)
+    Inv-loop μ-loop pressures-at-requires loop-holds (λ c. omega (arith, within c)) (λ c. omega (arith, within c)) (λ c. omega (arith, within c)) (λ c. omega (arith, within c)) (λ c. omega arith)
+    (λ c. omega arith) (λ c. omega (arith, within c)) with-step-requires (λ c. omega arith) (λ c. omega arith) loop-again returns)

@@ -1,42 +1,30 @@
-use Prim.Native.Nat.{_-_}
+-- At time 0 they are the case's, and at a later time those in the rows of the step before, which lie in the plan's list.
+use Prim.Native.Nat.{_-_, _≤_}
 use native.Mathlib.Omega.{arith}
 use borrow.Author.Needs.{needs}
 use denote.Ref.{now}
 use Rattle.plan.specs.inside.CaseSizes.{counted}
-use Rattle.plan.specs.inside.RegionLoop.{step-within, row-is, pressures-first, pressures-after}
+use Rattle.plan.specs.inside.RegionLoop.{StepWithin, step-within, row-is, pressures-first, pressures-after}
 use Rattle.plan.proofs.ledger.pressures_at.Statement.{statement}
 use Rattle.plan.proofs.ledger.pressures_at.Tie as tie
 
-start-pressures-requires : tie.Need-start-pressures-requires
-start-pressures-requires c κs = let s = c .before in let k = counted (record { yes = s .pre .0 .rules .case-yes }) in omega (arith, k .nodes, s .pre .0 .counted)
+few : (s : tie.Start) → s .args .nodes ≤ 60
+few s = omega (arith, counted (record { yes = s .pre .0 .rules .case-yes }) .nodes, s .pre .0 .counted)
+
+-- the rows of the step before lie in the plan's list, and not far in
+within : (c : tie.Else1) → let a = c .before .args in StepWithin (now (a .plan)) (a .time - 1) (a .width)
+within c = let l = c .before .pre .0 in step-within (l .rules) (l .wide) _ (omega arith)
 
 returns : tie.Need-returns
-returns c = let s = c .before .before in pressures-first (now (s .args .case)) (now (s .args .plan)) (s .pre .0 .counted) (c .before .if1 .taken) (c .start-pressures .ensures)
-
-mul-offset : tie.Need-mul-offset
-mul-offset c = let s = c .before in let w = step-within (s .pre .0 .rules) (s .pre .0 .wide) (s .args .time - 1) (omega arith) in omega arith
-
-add-offset : tie.Need-add-offset
-add-offset c = let s = c .before in let w = step-within (s .pre .0 .rules) (s .pre .0 .wide) (s .args .time - 1) (omega arith) in omega arith
-
-add-rows : tie.Need-add-rows
-add-rows c = let s = c .before in let w = step-within (s .pre .0 .rules) (s .pre .0 .wide) (s .args .time - 1) (omega arith) in omega arith
-
-mul-rows : tie.Need-mul-rows
-mul-rows c = let s = c .before in let w = step-within (s .pre .0 .rules) (s .pre .0 .wide) (s .args .time - 1) (omega arith) in omega arith
-
-part-rows-end : tie.Need-part-rows-end
-part-rows-end c = let s = c .before in let w = step-within (s .pre .0 .rules) (s .pre .0 .wide) (s .args .time - 1) (omega arith) in omega arith
-
-row-pressures-requires : tie.Need-row-pressures-requires
-row-pressures-requires c κs = let s = c .before .before in let k = counted (record { yes = s .pre .0 .rules .case-yes }) in omega (arith, k .nodes, s .pre .0 .counted)
+returns c = pressures-first _ _ (c .before .before .pre .0 .counted) (c .before .if1 .taken) (c .start-pressures .ensures)
 
 returns-2 : tie.Need-returns-2
 returns-2 c =
     let s = c .before .before .before in
-    pressures-after (now (s .args .case)) (now (s .args .plan)) (s .pre .0 .counted) (omega arith) (row-is (s .pre .0 .rules) (s .pre .0 .wide) (s .args .time - 1)) (c .row-pressures .ensures)
+    let l = s .pre .0 in
+    pressures-after _ _ (l .counted) (omega arith) (row-is (l .rules) (l .wide) (s .args .time - 1)) (c .row-pressures .ensures)
 
 pub pressures-at-spec : {M : Type 1} → statement M
 pressures-at-spec = tie.close (tie.spec
-    start-pressures-requires returns (λ c. omega arith) mul-offset add-offset add-rows mul-rows (λ c. search needs)
-    (λ c. search needs) part-rows-end row-pressures-requires returns-2)
+    (λ c κs. few (c .before)) returns (λ c. omega arith) (λ c. omega (arith, within c)) (λ c. omega (arith, within c)) (λ c. omega (arith, within c)) (λ c. omega (arith, within c)) (λ c. search needs)
+    (λ c. search needs) (λ c. omega (arith, within c)) (λ c κs. few (c .before .before)) returns-2)

@@ -1,10 +1,12 @@
-use mathlib.Core.Path.{_≡_, ap, _∙_}
+-- One term follows the code's sum and product, and says both that they fit and what they are.
 use native.Mathlib.Omega.{arith}
 use borrow.Author.Needs.{needs}
 use mir.Facts.{toZ-ofZ}
-use lib.IntN.{ℤ}
+use mir.Syntax.{w64}
+use mir.Val.{toZ, ofZ}
+use lib.IntN.{_+ℤ_, _*ℤ_}
 use denote.Ref.{now}
-use Rattle.numbers.specs.inside.SignedLocals.{held, held-fits, _+ʳ_, _*ʳ_}
+use Rattle.numbers.specs.inside.SignedLocals.{Held, held, held-fits, _+ʳ_, _*ʳ_}
 use Rattle.plan.specs.law.Region.{suppliesIn, edgeFlows, broughtIn}
 use Rattle.plan.specs.inside.CaseSizes.{counted, duration-sized}
 use Rattle.plan.specs.inside.RegionSizes.{supplies-small, edges-small, step-flows}
@@ -17,44 +19,34 @@ supplies-requires c κs = let r = counted (c .pre .2 .accepted) in (c .pre .0, o
 edge-flows-requires : tie.Need-edge-flows-requires
 edge-flows-requires c κs = let s = c .before in (step-flows (s .pre .2), s .pre .1)
 
-add-result : tie.Need-add-result
-add-result c =
-    let s = c .before .before .before in
+-- what the nodes supply and the edge brings, added
+inflow : (d : tie.After-duration) → let a = d .before .before .before .args in
+    Held (toZ w64 (ofZ w64 (d .before .before .supplies .result)) +ℤ toZ w64 (ofZ w64 (d .before .edge-flows .result)))
+    (suppliesIn (now (a .case)) (a .set) (now (a .rows)) +ℤ edgeFlows (now (a .case)) (a .set) (now (a .rows))) 3000000000
+inflow d =
+    let s = d .before .before .before in
     let h = s .pre .2 in
-    let r = counted (h .accepted) in
-    let z = s .args .set in
-    let a : c .before .before .supplies .result ≡ suppliesIn (now (s .args .case)) z (now (s .args .rows)) = c .before .before .supplies .ensures ∙ ap (λ (y : ℤ). suppliesIn (now (s .args .case)) y (now (s .args .rows))) (toZ-ofZ (s .fits .set)) in
-    let b : c .before .edge-flows .result ≡ edgeFlows (now (s .args .case)) z (now (s .args .rows)) = c .before .edge-flows .ensures ∙ ap (λ (y : ℤ). edgeFlows (now (s .args .case)) y (now (s .args .rows))) (toZ-ofZ (s .fits .set)) in
-    let x = held (record { val = a; bound = supplies-small (h .kept .node-rows) (r .nodes) z }) tt in
-    let y = held (record { val = b; bound = edges-small (step-flows h) z }) tt in
-    held-fits (x +ʳ y) tt
+    let k = toZ-ofZ (s .fits .set) in
+    held (record { val = rw k at (d .before .before .supplies .ensures); bound = supplies-small (h .kept .node-rows) (counted (h .accepted) .nodes) _ }) tt
+    +ʳ held (record { val = rw k at (d .before .edge-flows .ensures); bound = edges-small (step-flows h) _ }) tt
+
+-- over the time of the step
+brought : (d : tie.After-duration) → let a = d .before .before .before .args in
+    Held (toZ w64 (ofZ w64 (d .duration .result)) *ℤ toZ w64 (ofZ w64 (toZ w64 (ofZ w64 (d .before .before .supplies .result)) +ℤ toZ w64 (ofZ w64 (d .before .edge-flows .result)))))
+    (broughtIn (now (a .case)) (a .set) (now (a .rows)) (a .i)) 259200000000000
+unfolding broughtIn
+brought d =
+    let h = d .before .before .before .pre .2 in
+    held (record { val = d .duration .ensures; bound = duration-sized (h .accepted) _ (h .step) .bound }) tt *ʳ held (inflow d) tt
+
+add-result : tie.Need-add-result
+add-result c = held-fits (inflow c) tt
 
 mul-result : tie.Need-mul-result
-mul-result c =
-    let s = c .before .before .before in
-    let h = s .pre .2 in
-    let r = counted (h .accepted) in
-    let z = s .args .set in
-    let a : c .before .before .supplies .result ≡ suppliesIn (now (s .args .case)) z (now (s .args .rows)) = c .before .before .supplies .ensures ∙ ap (λ (y : ℤ). suppliesIn (now (s .args .case)) y (now (s .args .rows))) (toZ-ofZ (s .fits .set)) in
-    let b : c .before .edge-flows .result ≡ edgeFlows (now (s .args .case)) z (now (s .args .rows)) = c .before .edge-flows .ensures ∙ ap (λ (y : ℤ). edgeFlows (now (s .args .case)) y (now (s .args .rows))) (toZ-ofZ (s .fits .set)) in
-    let x = held (record { val = a; bound = supplies-small (h .kept .node-rows) (r .nodes) z }) tt in
-    let y = held (record { val = b; bound = edges-small (step-flows h) z }) tt in
-    let d = held (record { val = c .duration .ensures; bound = duration-sized (h .accepted) (s .args .i) (h .step) .bound }) tt in
-    held-fits (d *ʳ held (x +ʳ y) tt) tt
+mul-result c = held-fits (brought c) tt
 
 returns : tie.Need-returns
-unfolding broughtIn
-returns c =
-    let s = c .before .before .before in
-    let h = s .pre .2 in
-    let r = counted (h .accepted) in
-    let z = s .args .set in
-    let a : c .before .before .supplies .result ≡ suppliesIn (now (s .args .case)) z (now (s .args .rows)) = c .before .before .supplies .ensures ∙ ap (λ (y : ℤ). suppliesIn (now (s .args .case)) y (now (s .args .rows))) (toZ-ofZ (s .fits .set)) in
-    let b : c .before .edge-flows .result ≡ edgeFlows (now (s .args .case)) z (now (s .args .rows)) = c .before .edge-flows .ensures ∙ ap (λ (y : ℤ). edgeFlows (now (s .args .case)) y (now (s .args .rows))) (toZ-ofZ (s .fits .set)) in
-    let x = held (record { val = a; bound = supplies-small (h .kept .node-rows) (r .nodes) z }) tt in
-    let y = held (record { val = b; bound = edges-small (step-flows h) z }) tt in
-    let d = held (record { val = c .duration .ensures; bound = duration-sized (h .accepted) (s .args .i) (h .step) .bound }) tt in
-    held (d *ʳ held (x +ʳ y) tt) tt .val
+returns c = held (brought c) tt .val
 
 pub brought-in-spec : {M : Type 1} → statement M
 brought-in-spec = tie.close (tie.spec

@@ -1,75 +1,68 @@
-use mathlib.Core.Path.{ap, ap₂, _∙_, subst}
+-- Each figure is the old one with the step's: what a kept step brings and leaves is small, and so neither sum is too large.
+use mathlib.Core.Path.{_≡_, ap, ap₂, _∙_, subst}
 use Prim.Native.Nat.{ℕ, _+_}
 use native.Mathlib.Omega.{arith}
 use borrow.Author.Needs.{needs}
 use mir.Facts.{toZ-ofZ}
-use lib.IntN.{ℤ, pos}
+use mir.Syntax.{w64}
+use mir.Val.{toZ, ofZ}
+use lib.IntN.{pos, _+ℤ_}
 use denote.Ref.{now}
 use Rattle.case.specs.law.Layout.{numberAt}
 use Rattle.case.specs.law.LayoutOf.{Holds}
-use Rattle.numbers.specs.inside.SignedLocals.{plain, held, held-fits, _+ʳ_}
+use Rattle.numbers.specs.inside.SignedLocals.{Held, plain, held, held-fits, _+ʳ_}
 use Rattle.plan.specs.law.PlanRecords.{pressureIn}
 use Rattle.plan.specs.inside.CaseSizes.{counted}
 use Rattle.plan.specs.law.Region.{broughtIn}
-use Rattle.plan.specs.law.RegionResidual.{ownNodes, ownPipes, regionResidual}
+use Rattle.plan.specs.law.RegionResidual.{regionResidual}
 use Rattle.plan.specs.inside.RegionSizes.{brought-small, residual-small}
 use Rattle.plan.proofs.region.with_step.Statement.{statement}
 use Rattle.plan.proofs.region.with_step.Tie as tie
 
-together-requires : tie.Need-together-requires
+abbrev begin : tie.After-own-pipes → tie.Start
+begin o = o .before .before .before .before .before .before .before
+
+-- the gas brought in before, and in this step
+brought : (o : tie.After-own-pipes) → let a = begin o .args in
+    Held (toZ w64 (ofZ w64 (a .g .brought)) +ℤ toZ w64 (ofZ w64 (o .before .before .before .before .brought-in .result)))
+    (a .g .brought +ℤ broughtIn (now (a .case)) (a .set) (now (a .rows)) (a .i)) 1000259200000000000
+brought o =
+    let s = begin o in
+    let e = rw (toZ-ofZ (s .fits .set)) at (o .before .before .before .before .brought-in .ensures) in
+    held (plain {z = s .args .g .brought} (s .pre .3 .brought .bound)) tt +ʳ held (record { val = e; bound = brought-small (s .pre .2) _ }) tt
+
+-- what the region's nodes and pipes leave over in this step
+left : (o : tie.After-own-pipes) → let a = begin o .args in
+    o .before .before .own-nodes .result + o .own-pipes .result ≡ regionResidual (now (a .case)) (a .set) (numberAt (a .g .pressures)) (now (a .rows)) (a .i)
 unfolding regionResidual
-together-requires c κs =
-    let o = c in
-    let s = o .before .before .before .before .before .before .before in
-    let h = s .pre .2 in
-    let q = residual-small h (s .args .set) in
-    let a = o .before .before .own-nodes .ensures ∙ ap (λ (y : ℤ). ownNodes (now (s .args .case)) y (now (s .args .rows)) (s .args .i)) (toZ-ofZ (s .fits .set)) in
-    let b = o .own-pipes .ensures ∙ ap (λ (y : ℤ). ownPipes (now (s .args .case)) y (numberAt (s .args .g .pressures)) (now (s .args .rows)) (s .args .i)) (toZ-ofZ (s .fits .set)) in
-    omega (arith, a, b, q)
+left o =
+    let k = toZ-ofZ (begin o .fits .set) in
+    ap₂ _+_ (rw k at (o .before .before .own-nodes .ensures)) (rw k at (o .own-pipes .ensures))
+
+together-requires : tie.Need-together-requires
+together-requires c κs = omega (arith, left c, residual-small (begin c .pre .2) (begin c .args .set))
 
 row-pressures-requires : tie.Need-row-pressures-requires
-row-pressures-requires c κs =
-    let s = c .before .before .before .before .before .before .before .before .before in
-    let r = counted (s .pre .2 .accepted) in
-    omega (arith, s .pre .0, r .nodes)
+row-pressures-requires c κs = let s = begin (c .before .before) in omega (arith, s .pre .0, counted (s .pre .2 .accepted) .nodes)
 
 add-t21 : tie.Need-add-t21
-add-t21 c =
-    let o = c .before .before .before .before .before in
-    let s = o .before .before .before .before .before .before .before in
-    let h = s .pre .2 in
-    let e = o .before .before .before .before .brought-in .ensures ∙ ap (λ (y : ℤ). broughtIn (now (s .args .case)) y (now (s .args .rows)) (s .args .i)) (toZ-ofZ (s .fits .set)) in
-    let x = held (plain {z = s .args .g .brought} (s .pre .3 .brought .bound)) tt in
-    let y = held (record { val = e; bound = brought-small h (s .args .set) }) tt in
-    held-fits (x +ʳ y) tt
+add-t21 c = held-fits (brought (c .before .before .before .before .before)) tt
 
 add-t22 : tie.Need-add-t22
-unfolding regionResidual
 add-t22 c =
-    let o = c .before .before .before .before .before .before in
-    let s = o .before .before .before .before .before .before .before in
-    let h = s .pre .2 in
-    let q = residual-small h (s .args .set) in
-    let a = o .before .before .own-nodes .ensures ∙ ap (λ (y : ℤ). ownNodes (now (s .args .case)) y (now (s .args .rows)) (s .args .i)) (toZ-ofZ (s .fits .set)) in
-    let b = o .own-pipes .ensures ∙ ap (λ (y : ℤ). ownPipes (now (s .args .case)) y (numberAt (s .args .g .pressures)) (now (s .args .rows)) (s .args .i)) (toZ-ofZ (s .fits .set)) in
-    record { fits = omega (arith, a, b, q, c .before .before .before .before .before .together .ensures, s .pre .3 .residual) }
+    let t = c .before .before .before .before .before in
+    let s = begin (t .before) in
+    record { fits = omega (arith, left (t .before), residual-small (s .pre .2) (s .args .set), t .together .ensures, s .pre .3 .residual) }
 
 returns : tie.Need-returns
-unfolding regionResidual
 returns c =
-    let o = c .before .before .before .before .before .before in
-    let s = o .before .before .before .before .before .before .before in
-    let h = s .pre .2 in
-    let e = o .before .before .before .before .brought-in .ensures ∙ ap (λ (y : ℤ). broughtIn (now (s .args .case)) y (now (s .args .rows)) (s .args .i)) (toZ-ofZ (s .fits .set)) in
-    let x = held (plain {z = s .args .g .brought} (s .pre .3 .brought .bound)) tt in
-    let y = held (record { val = e; bound = brought-small h (s .args .set) }) tt in
-    let q = residual-small h (s .args .set) in
-    let a = o .before .before .own-nodes .ensures ∙ ap (λ (y : ℤ). ownNodes (now (s .args .case)) y (now (s .args .rows)) (s .args .i)) (toZ-ofZ (s .fits .set)) in
-    let b = o .own-pipes .ensures ∙ ap (λ (y : ℤ). ownPipes (now (s .args .case)) y (numberAt (s .args .g .pressures)) (now (s .args .rows)) (s .args .i)) (toZ-ofZ (s .fits .set)) in
+    let t = c .before .before .before .before .before in
+    let a = begin (t .before) .args in
+    let r = c .before .before .before .row-pressures in
     record {
-      pressures = subst (λ (n : ℕ). Holds (pos 0) (c .before .before .before .row-pressures .result) (pressureIn (now (s .args .rows))) n) (s .pre .0) (c .before .before .before .row-pressures .ensures);
-      brought = held (x +ʳ y) tt .val;
-      residual = ap (λ (n : ℕ). s .args .g .residual + n) (c .before .before .before .before .before .together .ensures ∙ ap₂ _+_ a b);
+      pressures = subst (λ (n : ℕ). Holds (pos 0) (r .result) (pressureIn (now (a .rows))) n) (begin (t .before) .pre .0) (r .ensures);
+      brought = held (brought (t .before)) tt .val;
+      residual = ap (λ (n : ℕ). a .g .residual + n) (t .together .ensures ∙ left (t .before));
     }
 
 pub with-step-spec : {M : Type 1} → statement M

@@ -1,5 +1,6 @@
+-- Each number is read where the law places it: the count of nodes is the case's, and no offset is large.
 use mathlib.Core.Path.{_≡_, ap, _∙_}
-use Prim.Native.Nat.{_-_}
+use Prim.Native.Nat.{_<_, _≤_}
 use native.Mathlib.Omega.{arith}
 use denote.Ref.{now}
 use Rattle.numbers.specs.inside.SignedLocals.{kept}
@@ -9,27 +10,12 @@ use Rattle.numbers.specs.law.Signed.{posPart}
 use Rattle.plan.proofs.rows.arc_row.Statement.{statement}
 use Rattle.plan.proofs.rows.arc_row.Tie as tie
 
--- [pre]
--- the case's count of nodes
+-- the case's count of nodes, which is small, as is the arc
 nodes-is : (c : tie.After-index) → c .index .result ≡ nodesOf (now (c .before .before .args .case))
 nodes-is c = c .index .ensures ∙ ap posPart (kept _ (c .before .at .ok) ∙ c .before .at .ensures)
 
--- [/pre]
-
-mul-offset : tie.Need-mul-offset
-mul-offset c = let n = nodes-is c in omega (arith, n, c .before .before .pre .0 .nodes)
-
-add-offset : tie.Need-add-offset
-add-offset c = let n = nodes-is c in omega (arith, n, c .before .before .pre .0 .nodes, c .before .before .pre .0 .arcs, c .before .before .pre .1)
-
-add-at : tie.Need-add-at
-add-at c = let n = nodes-is (c .before) in omega (arith, n, c .before .before .before .pre .0 .nodes, c .before .before .before .pre .0 .arcs, c .before .before .before .pre .1)
-
-add-at-2 : tie.Need-add-at-2
-add-at-2 c = let n = nodes-is (c .before .before) in omega (arith, n, c .before .before .before .before .pre .0 .nodes, c .before .before .before .before .pre .0 .arcs, c .before .before .before .before .pre .1)
-
-add-at-3 : tie.Need-add-at-3
-add-at-3 c = let n = nodes-is (c .before .before .before) in omega (arith, n, c .before .before .before .before .before .pre .0 .nodes, c .before .before .before .before .before .pre .0 .arcs, c .before .before .before .before .before .pre .1)
+few : (c : tie.After-index) → (c .index .result ≤ 60) × (c .before .before .args .e < 120)
+few c = let p = c .before .before .pre in (omega (arith, nodes-is c, p .0 .nodes), omega (arith, p .0 .arcs, p .1))
 
 returns : tie.Need-returns
 returns c =
@@ -42,5 +28,5 @@ returns c =
 
 pub arc-row-spec : {M : Type 1} → statement M
 arc-row-spec = tie.close (tie.spec
-    (λ c κs. search needs) (λ c κs. search needs) mul-offset (λ c. search needs) add-offset (λ c κs. search needs)
-    add-at (λ c κs. search needs) add-at-2 (λ c κs. search needs) add-at-3 (λ c κs. search needs) returns)
+    (λ c κs. search needs) (λ c κs. search needs) (λ c. omega (arith, few c)) (λ c. search needs) (λ c. omega (arith, few c)) (λ c κs. search needs)
+    (λ c. omega (arith, few (c .before))) (λ c κs. search needs) (λ c. omega (arith, few (c .before .before))) (λ c κs. search needs) (λ c. omega (arith, few (c .before .before .before))) (λ c κs. search needs) returns)

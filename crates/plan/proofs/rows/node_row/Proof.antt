@@ -1,3 +1,4 @@
+-- Each number is read back as the list has it at the row's place; what is past the end reads as 0 on both sides.
 use mathlib.Core.Path.{_∙_}
 use Rattle.numbers.specs.inside.SignedLocals.{kept}
 use borrow.Author.Needs.{needs}
@@ -6,7 +7,6 @@ use Rattle.plan.proofs.rows.node_row.Tie as tie
 
 returns : tie.Need-returns
 returns c =
-    let a = c .before .before .before .before .before .before .args in
     let k0 = kept _ (c .before .before .before .before .before .at .ok) ∙ c .before .before .before .before .before .at .ensures in
     let k1 = kept _ (c .before .before .before .before .at2 .ok) ∙ c .before .before .before .before .at2 .ensures in
     let k2 = kept _ (c .before .before .before .at3 .ok) ∙ c .before .before .before .at3 .ensures in

@@ -1,7 +1,7 @@
--- The weight counts where both tests hold. Assumes nothing.
+-- The weight counts where both tests of the law hold: the code's two answers are those tests.
 use mathlib.Core.Path.{_≡_, sym, ap, _∙_}
-use Prim.Native.Nat.{_-_, _<_, _≤_}
-use native.Mathlib.Omega.{arith}
+use mathlib.Core.Bool.{true}
+use lib.Dec.{leb}
 use borrow.Author.Needs.{needs}
 use borrow.Author.Tests.{le-leb, lt-leb}
 use denote.Ref.{now}
@@ -9,7 +9,7 @@ use lib.IntN.{pos}
 use lib.Signed.{leZ}
 use Rattle.case.specs.declared.records.Arc.{Arc}
 use Rattle.case.specs.declared.records.Artificial.{Artificial}
-use Rattle.case.specs.law.Records.{arcOf, artificialOf}
+use Rattle.case.specs.law.Records.{arcOf}
 use Rattle.numbers.specs.inside.SignedLocals.{kept}
 use Rattle.plan.specs.declared.rows.ArcRow.{ArcRow}
 use Rattle.plan.specs.law.PlanRecords.{activeIn}
@@ -22,45 +22,30 @@ use Rattle.plan.proofs.totals.activity_cost.Tie as tie
 arc-row-requires : tie.Need-arc-row-requires
 arc-row-requires c κs = let s = c .before .before .before in (counted (s .pre .0), s .pre .1)
 
+-- the two tests of the code are those of the law
+artificial : (t : tie.Then1) → let s = t .before .before .before in leb 3 (arcOf (now (s .args .case)) (s .args .e) .kind) ≡ true
+artificial t = ap (λ (x : Arc). leb 3 (x .kind)) (sym (t .before .before .arc .ensures)) ∙ le-leb 3 _ (t .if1 .taken)
+
+switched : (d : tie.After-changed) → let a = d .before .before .before .before .before .before .before .args in
+    changed (a .was) (activeIn (now (a .case)) (now (a .rows)) (a .e)) ≡ d .changed .result
+switched d =
+    let m = d .before in
+    let r = kept _ (m .before .struct-told .given .1 .1 .0 .1) ∙ ap (λ (x : ArcRow). x .setting) (m .before .before .arc-row .ensures) in
+    sym (d .changed .ensures ∙ ap (changed (m .before .before .before .before .before .before .args .was)) (m .at-most .ensures ∙ ap (leZ (pos 1)) r))
+
 returns : tie.Need-returns
 unfolding activityCost
 returns c =
     let d = c .before .before in
-    let m = d .before in
-    let r = m .before .before in
-    let t = r .before in
-    let a = t .before .before in
-    let s = a .before in
-    let l = now (s .args .case) in
-    let x = activeIn l (now (s .args .rows)) (s .args .e) in
-    let w : m .at-most .result ≡ x = m .at-most .ensures ∙ ap (leZ (pos 1)) (kept _ (m .before .struct-told .given .1 .1 .0 .1) ∙ ap (λ (x : ArcRow). x .setting) (r .arc-row .ensures)) in
-    let k : 3 ≤ arcOf l (s .args .e) .kind = omega (arith, t .if1 .taken, ap (λ (x : Arc). x .kind) (a .arc .ensures)) in
-    ap (λ (x : Artificial). x .weight) (c .artificial .ensures)
-    ∙ both-yes (artificialOf l (s .args .e) .weight) (le-leb 3 _ k) (ap (changed (s .args .was)) (sym w) ∙ sym (d .changed .ensures) ∙ c .before .if2 .taken)
+    ap (λ (x : Artificial). x .weight) (c .artificial .ensures) ∙ both-yes _ (artificial (d .before .before .before .before)) (switched d ∙ c .before .if2 .taken)
 
 returns-2 : tie.Need-returns-2
 unfolding activityCost
-returns-2 c =
-    let d = c .before in
-    let m = d .before in
-    let r = m .before .before in
-    let t = r .before in
-    let a = t .before .before in
-    let s = a .before in
-    let l = now (s .args .case) in
-    let x = activeIn l (now (s .args .rows)) (s .args .e) in
-    let w : m .at-most .result ≡ x = m .at-most .ensures ∙ ap (leZ (pos 1)) (kept _ (m .before .struct-told .given .1 .1 .0 .1) ∙ ap (λ (x : ArcRow). x .setting) (r .arc-row .ensures)) in
-    let k : 3 ≤ arcOf l (s .args .e) .kind = omega (arith, t .if1 .taken, ap (λ (x : Arc). x .kind) (a .arc .ensures)) in
-    second-no (artificialOf l (s .args .e) .weight) (le-leb 3 _ k) (ap (changed (s .args .was)) (sym w) ∙ sym (d .changed .ensures) ∙ c .if2 .left)
+returns-2 c = second-no _ (artificial (c .before .before .before .before .before)) (switched (c .before) ∙ c .if2 .left)
 
 returns-3 : tie.Need-returns-3
 unfolding activityCost
-returns-3 c =
-    let a = c .before .before in
-    let s = a .before in
-    let l = now (s .args .case) in
-    let k : arcOf l (s .args .e) .kind < 3 = omega (arith, c .if1 .left, ap (λ (x : Arc). x .kind) (a .arc .ensures)) in
-    first-no (changed (s .args .was) (activeIn l (now (s .args .rows)) (s .args .e))) (artificialOf l (s .args .e) .weight) (lt-leb 3 _ k)
+returns-3 c = first-no _ _ (ap (λ (x : Arc). leb 3 (x .kind)) (sym (c .before .before .arc .ensures)) ∙ lt-leb 3 _ (c .if1 .left))
 
 pub activity-cost-spec : {M : Type 1} → statement M
 activity-cost-spec = tie.close (tie.spec

@@ -1,143 +1,93 @@
--- Each total with what the step adds, by the sizes of a step that was kept.
--- The pressures are an array of 60, as `good` of `previous` says. Assumes nothing.
-use mathlib.Core.Path.{refl, sym, ap, _∙_}
-use Prim.Native.Nat.{ℕ, _+_, _-_}
+-- Each total is the old one with what the step adds; what a kept step adds is small, and so no sum is too large.
+use mathlib.Core.Path.{refl, sym, ap₂}
+use Prim.Native.Nat.{ℕ, _+_, _≤_}
 use native.Mathlib.Omega.{arith}
 use borrow.Author.Needs.{needs}
 use denote.Ref.{now}
+use lib.IntN.{_+ℤ_}
 use lib.ListN.{length-map}
-use Rattle.numbers.specs.inside.SignedLocals.{held, held-fits, _+ʳ_, kept}
-use Rattle.case.specs.law.Layout.{numberAt}
+use mir.Syntax.{w64}
+use mir.Val.{toZ, ofZ}
+use Rattle.numbers.specs.inside.SignedLocals.{Held, held, held-fits, _+ʳ_, kept}
 use Rattle.plan.specs.inside.PreviousHolds.{activeOf, indexOf}
-use Rattle.plan.specs.law.Totals.{choiceCosts, pipeResiduals}
+use Rattle.plan.specs.law.Totals.{pressureSlackIn, demandSlackIn}
 use Rattle.plan.proofs.Adding.{got}
-use Rattle.plan.specs.inside.StepSizes.{pressure-slack-sized, demand-slack-sized, choice-costs-le, activity-costs-le, pipe-residuals-le, node-residuals-le}
+use Rattle.plan.specs.inside.StepSizes.{pressure-slack-sized, demand-slack-sized, choice-costs-le, activity-costs-le}
+use Rattle.plan.specs.inside.StepSizes.{pipe-residuals-le, node-residuals-le}
 use Rattle.plan.proofs.totals.added.Statement.{statement}
 use Rattle.plan.proofs.totals.added.Tie as tie
 
+abbrev slacks : tie.After-pipe-residuals → tie.After-slacks-of
+slacks p = p .before .before .before .before .before .before .before
+
+abbrev begin : tie.After-pipe-residuals → tie.Start
+begin p = slacks p .before .before
+
+-- the two slack totals with the step's slacks
+pressure : (p : tie.After-pipe-residuals) → let a = begin p .args in
+    Held (toZ w64 (ofZ w64 (a .totals .pressure)) +ℤ toZ w64 (ofZ w64 (slacks p .slacks-of .result .pressure)))
+    (a .totals .pressure +ℤ pressureSlackIn (now (a .case)) (now (a .rows))) 1000000048000000
+pressure p =
+    let y = begin p .pre in
+    got refl (y .2 .pressure) tt +ʳ got (slacks p .slacks-of .ensures .pressure) (pressure-slack-sized _ (y .0 .accepted) (y .1 .node-rows)) tt
+
+demand : (p : tie.After-pipe-residuals) → let a = begin p .args in
+    Held (toZ w64 (ofZ w64 (a .totals .demand)) +ℤ toZ w64 (ofZ w64 (slacks p .slacks-of .result .demand)))
+    (a .totals .demand +ℤ demandSlackIn (now (a .case)) (now (a .rows))) 1000001200000000
+demand p =
+    let y = begin p .pre in
+    got refl (y .2 .demand) tt +ʳ got (slacks p .slacks-of .ensures .demand) (demand-slack-sized _ (y .0 .accepted) (y .1 .node-rows)) tt
+
+-- the step's costs and residuals are small
+costs : (p : tie.After-pipe-residuals) → p .before .before .before .choice-costs .result + p .before .before .activity-costs .result ≤ 136000000
+costs p =
+    let s = begin p in
+    let x = s .args .previous in
+    let u = choice-costs-le (now (s .args .rows)) (s .pre .0 .accepted) (s .pre .1 .choices) (indexOf (x .directions)) (indexOf (x .states)) in
+    let v = activity-costs-le (now (s .args .rows)) (s .pre .0 .accepted) (activeOf (x .active)) in
+    omega (arith, p .before .before .before .choice-costs .ensures, p .before .before .activity-costs .ensures)
+
+residuals : (p : tie.After-pipe-residuals) → p .pipe-residuals .result + begin p .args .nodes ≤ 180000000
+residuals p =
+    let s = begin p in
+    let u = pipe-residuals-le (now (s .args .rows)) (s .pre .0 .accepted) (s .pre .1) in
+    let v = node-residuals-le (now (s .args .rows)) (s .pre .0 .accepted) (s .pre .1) in
+    omega (arith, p .pipe-residuals .ensures, s .pre .3)
+
+-- the pressures are an array of 60, as `good` of `previous` says
 slice-aggregate-pipe-residuals : tie.Need-slice-aggregate-pipe-residuals
-slice-aggregate-pipe-residuals c = let s = c .before .before .before .before .before .before .before .before in sym (simp length-map at (s .good .1 .1 .1 .0 .1 .1 .0 .1 .0 .1))
+slice-aggregate-pipe-residuals c =
+    let s = c .before .before .before .before .before .before .before .before in
+    sym (simp length-map at (s .good .1 .1 .1 .0 .1 .1 .0 .1 .0 .1))
 
 add-t18 : tie.Need-add-t18
-add-t18 c =
-    let p = c .before .before .before .before in
-    let a = p .before .before in
-    let d = a .before in
-    let g = d .before .before .before .before in
-    let s = g .before .before in
-    let l = now (s .args .case) in
-    let r = now (s .args .rows) in
-    let x = s .args .previous in
-    let t = s .args .totals in
-    let y = s .pre .0 .accepted in
-    let k = s .pre .1 in
-    let m = got refl (s .pre .2 .pressure) tt +ʳ got (g .slacks-of .ensures .pressure) (pressure-slack-sized r y (k .node-rows)) tt in
-    held-fits m tt
+add-t18 c = held-fits (pressure (c .before .before .before .before)) tt
 
 add-t19 : tie.Need-add-t19
-add-t19 c =
-    let p = c .before .before .before .before .before .before .before .before in
-    let a = p .before .before in
-    let d = a .before in
-    let g = d .before .before .before .before in
-    let s = g .before .before in
-    let l = now (s .args .case) in
-    let r = now (s .args .rows) in
-    let x = s .args .previous in
-    let t = s .args .totals in
-    let y = s .pre .0 .accepted in
-    let k = s .pre .1 in
-    let m = got refl (s .pre .2 .demand) tt +ʳ got (g .slacks-of .ensures .demand) (demand-slack-sized r y (k .node-rows)) tt in
-    held-fits m tt
+add-t19 c = held-fits (demand (c .before .before .before .before .before .before .before .before)) tt
 
 add-t20 : tie.Need-add-t20
-add-t20 c =
-    let p = c .before .before .before .before .before .before .before .before in
-    let a = p .before .before in
-    let d = a .before in
-    let g = d .before .before .before .before in
-    let s = g .before .before in
-    let l = now (s .args .case) in
-    let r = now (s .args .rows) in
-    let x = s .args .previous in
-    let t = s .args .totals in
-    let y = s .pre .0 .accepted in
-    let k = s .pre .1 in
-    let u = choice-costs-le r y (k .choices) (indexOf (x .directions)) (indexOf (x .states)) in
-    let v = activity-costs-le r y (activeOf (x .active)) in
-    omega (arith, d .choice-costs .ensures, a .activity-costs .ensures, u, v)
+add-t20 c = omega (arith, costs (c .before .before .before .before .before .before .before .before))
 
 add-t21 : tie.Need-add-t21
-add-t21 c =
-    let p = c .before .before .before .before .before .before .before .before .before in
-    let a = p .before .before in
-    let d = a .before in
-    let g = d .before .before .before .before in
-    let s = g .before .before in
-    let l = now (s .args .case) in
-    let r = now (s .args .rows) in
-    let x = s .args .previous in
-    let t = s .args .totals in
-    let y = s .pre .0 .accepted in
-    let k = s .pre .1 in
-    let u = choice-costs-le r y (k .choices) (indexOf (x .directions)) (indexOf (x .states)) in
-    let v = activity-costs-le r y (activeOf (x .active)) in
-    omega (arith, d .choice-costs .ensures, a .activity-costs .ensures, u, v, s .pre .2 .switching)
+add-t21 c = let p = c .before .before .before .before .before .before .before .before .before in omega (arith, costs p, begin p .pre .2 .switching)
 
 add-t22 : tie.Need-add-t22
-add-t22 c =
-    let p = c .before .before .before .before .before .before .before .before .before in
-    let a = p .before .before in
-    let d = a .before in
-    let g = d .before .before .before .before in
-    let s = g .before .before in
-    let l = now (s .args .case) in
-    let r = now (s .args .rows) in
-    let x = s .args .previous in
-    let t = s .args .totals in
-    let y = s .pre .0 .accepted in
-    let k = s .pre .1 in
-    let u = pipe-residuals-le r y k in
-    let v = node-residuals-le r y k in
-    omega (arith, p .pipe-residuals .ensures, s .pre .3, u, v)
+add-t22 c = omega (arith, residuals (c .before .before .before .before .before .before .before .before .before))
 
 add-t23 : tie.Need-add-t23
-add-t23 c =
-    let p = c .before .before .before .before .before .before .before .before .before .before in
-    let a = p .before .before in
-    let d = a .before in
-    let g = d .before .before .before .before in
-    let s = g .before .before in
-    let l = now (s .args .case) in
-    let r = now (s .args .rows) in
-    let x = s .args .previous in
-    let t = s .args .totals in
-    let y = s .pre .0 .accepted in
-    let k = s .pre .1 in
-    let u = pipe-residuals-le r y k in
-    let v = node-residuals-le r y k in
-    omega (arith, p .pipe-residuals .ensures, s .pre .3, u, v, s .pre .2 .residual)
+add-t23 c = let p = c .before .before .before .before .before .before .before .before .before .before in omega (arith, residuals p, begin p .pre .2 .residual)
 
 returns : tie.Need-returns
 returns c =
     let p = c .before .before .before .before .before .before .before .before .before .before .before in
+    let t = begin p .args .totals in
     let a = p .before .before in
-    let d = a .before in
-    let g = d .before .before .before .before in
-    let s = g .before .before in
-    let l = now (s .args .case) in
-    let r = now (s .args .rows) in
-    let x = s .args .previous in
-    let t = s .args .totals in
-    let y = s .pre .0 .accepted in
-    let k = s .pre .1 in
-    let m = got refl (s .pre .2 .pressure) tt +ʳ got (g .slacks-of .ensures .pressure) (pressure-slack-sized r y (k .node-rows)) tt in
-    let n = got refl (s .pre .2 .demand) tt +ʳ got (g .slacks-of .ensures .demand) (demand-slack-sized r y (k .node-rows)) tt in
     record {
-      pressure = held m tt .val;
-      demand = held n tt .val;
-      switching = ap (λ (z : ℕ). t .switching + (z + a .activity-costs .result)) (d .choice-costs .ensures) ∙ ap (λ (z : ℕ). t .switching + (choiceCosts l (indexOf (x .directions)) (indexOf (x .states)) r + z)) (a .activity-costs .ensures);
-      residual = ap (λ (z : ℕ). t .residual + (z + s .args .nodes)) (p .pipe-residuals .ensures) ∙ ap (λ (z : ℕ). t .residual + (pipeResiduals l (numberAt (x .pressures)) r (s .args .i) + z)) (s .pre .3);
+      pressure = held (pressure p) tt .val;
+      demand = held (demand p) tt .val;
+      switching = ap₂ (λ (x y : ℕ). t .switching + (x + y)) (a .before .choice-costs .ensures) (a .activity-costs .ensures);
+      residual = ap₂ (λ (x y : ℕ). t .residual + (x + y)) (p .pipe-residuals .ensures) (begin p .pre .3);
       opening = kept _ (c .struct-told5 .given .1 .1 .1 .1 .0 .1);
     }
 
