@@ -12,44 +12,12 @@ use native.Mathlib.Omega.{arith}
 use Rattle.numbers.specs.law.Sums.{only, onlyN}
 use Rattle.plan.specs.law.Region.{inward}
 
-pub all-three : {k f g r : Bool} → k ≡ true → f ≡ true → r ≡ g → r ≡ (k && (f && g))
-all-three p q e = rw (p, q) e
-
-pub not-first : {k : Bool} (x : Bool) → k ≡ false → false ≡ (k && x)
-not-first x p = rw p
-
-pub not-second : (k : Bool) {f : Bool} (g : Bool) → f ≡ false → false ≡ (k && (f && g))
-not-second true g p = rw p
-not-second false g p = refl
-
 pub inward-same : {f g h k : Bool} {x y u w : ℤ} → f ≡ h → g ≡ k → x ≡ u → y ≡ w → inward f g x y ≡ inward h k u w
 inward-same {h = h} {k} {x} {y} {u} {w} p q r s = rw (p, q) (ap₂ (inward h k) r s)
-
--- what a test leaves of a number
-pub only-yes : {b : Bool} (x : ℤ) → b ≡ true → x ≡ only b x
-only-yes x e = rw e
-
-pub only-no : {b : Bool} (x : ℤ) → b ≡ false → pos 0 ≡ only b x
-only-no x e = rw e
-
-pub onlyN-yes : {b : Bool} (n : ℕ) → b ≡ true → n ≡ onlyN b n
-onlyN-yes n e = rw e
-
-pub onlyN-no : {b : Bool} (n : ℕ) → b ≡ false → 0 ≡ onlyN b n
-onlyN-no n e = rw e
 
 pub onlyN-most : (b : Bool) → onlyN b 1 ≤ 1
 onlyN-most true = omega arith
 onlyN-most false = omega arith
-
-pub and-yes : {a b r : Bool} → a ≡ true → r ≡ b → r ≡ (a && b)
-and-yes p e = rw p e
-
-pub cond-yes : {b : Bool} (m n : ℕ) → b ≡ true → m ≡ cond b m n
-cond-yes m n e = rw e
-
-pub cond-no : {b : Bool} (m n : ℕ) → b ≡ false → n ≡ cond b m n
-cond-no m n e = rw e
 
 -- ---- a search for the lowest item of a set
 

@@ -12,11 +12,11 @@ use Rattle.numbers.specs.inside.SignedBounds.{Bounded}
 use Rattle.numbers.specs.inside.SignedLocals.{Held, plain, _+ʳ_, _*ʳ_}
 use Rattle.numbers.specs.law.Sums.{only, onlyN}
 use Rattle.numbers.specs.inside.SumLaws.{abs-sum-le, sumN-bound}
-use Rattle.case.specs.law.Layout.{numberAt, nodesOf, arcsOf, stationsOf}
+use Rattle.case.specs.law.Layout.{numberAt, nodesOf, arcsOf, stationsOf, stepsOf}
 use Rattle.case.specs.law.Records.{arcOf, pipeOf, artificialOf, directionOf, stateOf}
 use Rattle.plan.specs.law.PlanRecords.{directionIn, stateIn, activeIn}
 use Rattle.plan.specs.inside.Sizes.{NodesSized, PressuresSized}
-use Rattle.plan.specs.inside.Preconditions.{AcceptedCase, ChoicesKept, StepKept}
+use Rattle.plan.specs.inside.Preconditions.{AcceptedCase, AtPipe, ChoicesKept, StepKept}
 use Rattle.plan.specs.inside.CaseSizes.{counted, from-node, to-node, pipe-sized, weight-in, direction-weight, state-weight}
 use Rattle.plan.specs.law.Pipes.{isPipe}
 use Rattle.plan.specs.law.Balance.{nodeResidual}
@@ -89,6 +89,21 @@ module _ {case rows : List ℤ} (h : NodesSized case rows) (v : ℕ) (q : v < no
   pub demand-slack-le : natAbs (demandSlackAt rows v) ≤ 20000000
   unfolding demandSlackAt
   demand-slack-le = let r = h .each v q in (sized (r .splus) +ʳ sized (r .sminus)) .bound
+
+-- a pipe of a kept step
+pub at-pipe : {case old rows : List ℤ} {i e : ℕ} → AcceptedCase case → i < stepsOf case → StepKept case old rows i → e < arcsOf case → arcOf case e .kind ≡ 2
+    → AtPipe case old rows i e
+at-pipe {e = e} c s k q h = record {
+  at = record {
+    accepted = c;
+    step = s;
+    arc = q;
+    before = k .before;
+    pressures = record { each = λ v l. k .node-rows .each v l .p };
+    flows = k .flows .each e q;
+  };
+  pipe = h;
+}
 
 -- ---- the sums of a step
 

@@ -8,7 +8,6 @@ use Rattle.case.specs.law.Layout.{nodesOf}
 use Rattle.numbers.specs.law.Signed.{posPart}
 use Rattle.plan.specs.law.Ledger.{isNodeSet, foreignNode}
 use Rattle.numbers.specs.inside.SignedLocals.{kept}
-use Rattle.plan.proofs.RegionTests.{cond-yes, cond-no}
 use Rattle.plan.proofs.ledger.foreign_node.Statement.{statement}
 use Rattle.plan.proofs.ledger.foreign_node.Tie as tie
 
@@ -26,11 +25,11 @@ returns : tie.Need-returns
 unfolding foreignNode
 returns c =
     let w = c .before .before .before .before in
-    (rw (toZ-ofZ (w .before .before .fits .set), nodes-is (c .before)) at (c .lowest .ensures)) ∙ cond-yes _ 0 (sym (in-range w) ∙ c .before .before .before .if1 .taken)
+    rw (sym (in-range w) ∙ c .before .before .before .if1 .taken) (rw (toZ-ofZ (w .before .before .fits .set), nodes-is (c .before)) at (c .lowest .ensures))
 
 returns-2 : tie.Need-returns-2
 unfolding foreignNode
-returns-2 c = cond-no _ 0 (sym (in-range (c .before)) ∙ c .if1 .left)
+returns-2 c = rw (sym (in-range (c .before)) ∙ c .if1 .left)
 
 pub foreign-node-spec : {M : Type 1} → statement M
 foreign-node-spec = tie.close (tie.spec

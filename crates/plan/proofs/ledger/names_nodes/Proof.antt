@@ -10,7 +10,6 @@ use Rattle.numbers.specs.law.Signed.{posPart}
 use Rattle.case.specs.law.StationFields.{firstItems}
 use Rattle.plan.specs.law.Ledger.{isNodeSet, namesNodes}
 use Rattle.numbers.specs.inside.SignedLocals.{kept}
-use Rattle.plan.proofs.RegionTests.{and-yes, not-first}
 use Rattle.plan.proofs.ledger.names_nodes.Statement.{statement}
 use Rattle.plan.proofs.ledger.names_nodes.Tie as tie
 
@@ -30,11 +29,12 @@ returns c =
     let w = c .before .before .before in
     let f = c .before .first-nodes2 in
     let b = kept _ (f .ok) ∙ f .ensures ∙ ap firstItems (nodes-is (w .before .before)) in
-    and-yes (sym (in-range w) ∙ c .before .before .if1 .taken) (rw (toZ-ofZ (w .before .before .before .before .fits .set), b) at (c .subset .ensures))
+    let e = rw (toZ-ofZ (w .before .before .before .before .fits .set), b) at (c .subset .ensures) in
+    rw (sym (in-range w) ∙ c .before .before .if1 .taken) e
 
 returns-2 : tie.Need-returns-2
 unfolding namesNodes
-returns-2 c = not-first _ (sym (in-range (c .before)) ∙ c .if1 .left)
+returns-2 c = rw (sym (in-range (c .before)) ∙ c .if1 .left)
 
 pub names-nodes-spec : {M : Type 1} → statement M
 names-nodes-spec = tie.close (tie.spec

@@ -1,9 +1,10 @@
+-- The code asks the law's three comparisons in the law's order, and stops at the first no.
 use mathlib.Core.Path.{_≡_, sym, ap, ap₂, _∙_}
 use native.Mathlib.Omega.{arith}
 use borrow.Author.Needs.{needs}
 use mir.Facts.{toZ-ofZ}
 use mir.Syntax.{w64}
-use lib.IntN.{ℤ, pos}
+use lib.IntN.{pos}
 use denote.Ref.{now}
 use lib.Signed.{leZ}
 use mir.Facts.{toZ-pos}
@@ -11,7 +12,6 @@ use Rattle.case.specs.law.Layout.{stepsOf}
 use Rattle.numbers.specs.law.Signed.{posPart}
 use Rattle.plan.specs.law.Ledger.{timesOrdered}
 use Rattle.numbers.specs.inside.SignedLocals.{kept}
-use Rattle.plan.proofs.RegionTests.{all-three, not-first, not-second}
 use Rattle.plan.proofs.ledger.times_ordered.Statement.{statement}
 use Rattle.plan.proofs.ledger.times_ordered.Tie as tie
 
@@ -22,30 +22,30 @@ steps-is c = c .index .ensures ∙ ap posPart (kept _ (c .before .at .ok) ∙ c 
 cast-steps : tie.Need-cast-steps
 cast-steps c = record { sfits = omega (arith, steps-is c, c .before .before .pre) }
 
+first : (d : tie.After-at-most) → leZ (pos 0) (d .before .before .before .args .s) ≡ d .at-most .result
+first d = sym (rw (toZ-ofZ (d .before .before .before .fits .s)) at (d .at-most .ensures))
+
+order : (d : tie.After-at-most2) → let s = d .before .before .before .before .before in leZ (s .args .s) (s .args .t) ≡ d .at-most2 .result
+order d =
+    let f = d .before .before .before .before .before .fits in
+    sym (rw (toZ-ofZ (f .s), toZ-ofZ (f .t)) at (d .at-most2 .ensures))
+
 returns : tie.Need-returns
 unfolding timesOrdered
 returns c =
-    let i = c .before .before .before .before .before in
+    let d = c .before .before in
+    let i = d .before .before .before in
     let s = i .before .before in
-    let a = c .before .before .before .before .at-most .ensures ∙ ap (λ (x : ℤ). leZ (pos 0) x) (toZ-ofZ (s .fits .s)) in
-    let b = c .before .before .at-most2 .ensures ∙ ap₂ leZ (toZ-ofZ (s .fits .s)) (toZ-ofZ (s .fits .t)) in
     let k = toZ-pos w64 (omega (arith, steps-is i, s .pre)) ∙ ap pos (steps-is i) in
-    all-three (sym a ∙ c .before .before .before .if1 .taken) (sym b ∙ c .before .if2 .taken) (c .at-most3 .ensures ∙ ap₂ leZ (toZ-ofZ (s .fits .t)) k)
+    rw (first (d .before .before) ∙ d .before .if1 .taken, order d ∙ c .before .if2 .taken) (c .at-most3 .ensures ∙ ap₂ leZ (toZ-ofZ (s .fits .t)) k)
 
 returns-2 : tie.Need-returns-2
 unfolding timesOrdered
-returns-2 c =
-    let i = c .before .before .before .before in
-    let s = i .before .before in
-    let b = c .before .at-most2 .ensures ∙ ap₂ leZ (toZ-ofZ (s .fits .s)) (toZ-ofZ (s .fits .t)) in
-    not-second (leZ (pos 0) (s .args .s)) (leZ (s .args .t) (pos (stepsOf (now (s .args .case))))) (sym b ∙ c .if2 .left)
+returns-2 c = rw (first (c .before .before .before) ∙ c .before .before .if1 .taken, order (c .before) ∙ c .if2 .left)
 
 returns-3 : tie.Need-returns-3
 unfolding timesOrdered
-returns-3 c =
-    let s = c .before .before .before .before in
-    let a = c .before .at-most .ensures ∙ ap (λ (x : ℤ). leZ (pos 0) x) (toZ-ofZ (s .fits .s)) in
-    not-first _ (sym a ∙ c .if1 .left)
+returns-3 c = rw (first (c .before) ∙ c .if1 .left)
 
 pub times-ordered-spec : {M : Type 1} → statement M
 times-ordered-spec = tie.close (tie.spec

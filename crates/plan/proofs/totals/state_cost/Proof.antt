@@ -1,6 +1,6 @@
--- The weight counts where the state is another one. Assumes nothing.
+-- The weight counts where the state that the plan chooses is another one than before.
 use mathlib.Core.Path.{_≡_, sym, ap, _∙_}
-use Prim.Native.Nat.{ℕ, _-_}
+use Prim.Native.Nat.{ℕ}
 use borrow.Author.Needs.{needs}
 use denote.Ref.{now}
 use Rattle.numbers.specs.law.Signed.{posPart}
@@ -15,28 +15,24 @@ use Rattle.plan.specs.inside.StepSizes.{cost-same, cost-new}
 use Rattle.plan.proofs.totals.state_cost.Statement.{statement}
 use Rattle.plan.proofs.totals.state_cost.Tie as tie
 
+chosen : (b : tie.After-index) → let a = b .before .before .before .args in b .index .result ≡ stateIn (now (a .case)) (now (a .rows)) (a .s)
+chosen b =
+    b .index .ensures ∙ ap posPart (kept _ (b .before .struct-told .given .1 .0 .1) ∙ ap (λ (x : Choice). x .state) (b .before .before .choice-of .ensures))
+
 returns : tie.Need-returns
 unfolding stateCost
-returns c =
-    let b = c .before in
-    let d = b .before .before in
-    let s = d .before in
-    let e : b .index .result ≡ stateIn (now (s .args .case)) (now (s .args .rows)) (s .args .s) = b .index .ensures ∙ ap posPart (kept _ (b .before .struct-told .given .1 .0 .1) ∙ ap (λ (x : Choice). x .state) (d .choice-of .ensures)) in
-    cost-same _ (sym e ∙ c .if1 .taken)
+returns c = cost-same _ (sym (chosen (c .before)) ∙ c .if1 .taken)
 
 returns-2 : tie.Need-returns-2
 unfolding stateCost
 returns-2 c =
     let b = c .before .before in
-    let d = b .before .before in
-    let s = d .before in
+    let s = b .before .before .before in
     let l = now (s .args .case) in
-    let f = stateIn l (now (s .args .rows)) (s .args .s) in
-    let e : b .index .result ≡ f = b .index .ensures ∙ ap posPart (kept _ (b .before .struct-told .given .1 .0 .1) ∙ ap (λ (x : Choice). x .state) (d .choice-of .ensures)) in
     ap (λ (x : State). x .weight) (c .state .ensures)
     ∙ ap (λ (k : ℕ). stateRow l k (b .index .result) .weight) (s .pre .2)
-    ∙ ap (λ (k : ℕ). stateOf l (s .args .s) k .weight) e
-    ∙ cost-new (stateOf l (s .args .s) f .weight) (λ (q : f ≡ s .args .was). c .before .if1 .left (e ∙ q))
+    ∙ ap (λ (k : ℕ). stateOf l (s .args .s) k .weight) (chosen b)
+    ∙ cost-new _ (λ q. c .before .if1 .left (chosen b ∙ q))
 
 pub state-cost-spec : {M : Type 1} → statement M
 state-cost-spec = tie.close (tie.spec
