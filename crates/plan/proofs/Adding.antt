@@ -11,7 +11,7 @@ use mir.Syntax.{w64}
 use mir.Val.{SFits, Fits, toZ, ofZ}
 use Rattle.numbers.specs.inside.SignedLocals.{Held, held, renamed, held<, held-fits<, _+ʳ_}
 use Rattle.numbers.specs.inside.SignedBounds.{Bounded}
-use Rattle.numbers.specs.law.Sums.{sum, sumN, only, onlyN}
+use Rattle.numbers.specs.law.Sums.{sum, sumN, only}
 
 -- ---- signed
 
@@ -127,10 +127,3 @@ module _ {r : ℕ} {f : ℕ → ℕ} {x n i : ℕ} (h : Tallying r f x n i) wher
 
   pub wholeN : n ≤ i → r ≡ sumN n f
   wholeN l = endN (h .counting) l
-
--- a part that counts only where a test is true
-pub takenN : {b : Bool} (x : ℕ) → b ≡ true → x ≡ onlyN b x
-takenN x t = ap (λ (y : Bool). onlyN y x) (sym t)
-
-pub leftN : {b : Bool} (x : ℕ) → b ≡ false → onlyN b x ≡ 0
-leftN x t = ap (λ (y : Bool). onlyN y x) t

@@ -1,3 +1,4 @@
+-- The proofs of the plan's functions, each in its function's folder, and the laws that several of them cite.
 pub mod Filled
 pub mod Adding
 pub mod ArcLaws
@@ -7,7 +8,6 @@ pub mod FenceFlows
 pub mod StationParts
 pub mod MachinesTaken
 pub mod StationPasses
-pub mod StepAlike
 pub mod StepsLoop
 pub mod StepGroups
 pub mod RegionTests

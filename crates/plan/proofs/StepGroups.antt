@@ -1,5 +1,4 @@
--- The questions of one step, group after group, over plain lists.
--- Assumes nothing.
+-- The first no of a step's questions is that of the first group that has one: nodes, arcs, stations, balance.
 use mathlib.Core.Path.{_≡_, sym, _∙_}
 use mathlib.Core.List.{List, _++_}
 use Prim.Native.Nat.{ℕ}
@@ -18,7 +17,8 @@ use Rattle.plan.specs.inside.StepAnswer.{steppedBy}
 
 module _ (case : List ℤ) (old : ℕ → ℤ) (rows : List ℤ) (i : ℕ) where
   step-is : firstNo (stepQuestions case old rows i)
-      ≡ orElse (firstNo (allNodeQuestions case rows i)) (orElse (firstNo (allArcQuestions case old rows i)) (orElse (firstNo (allStationQuestions case rows i)) (firstNo (allBalanceQuestions case rows i))))
+      ≡ orElse (firstNo (allNodeQuestions case rows i)) (orElse (firstNo (allArcQuestions case old rows i))
+      (orElse (firstNo (allStationQuestions case rows i)) (firstNo (allBalanceQuestions case rows i))))
   unfolding stepQuestions
   step-is =
       let n = allNodeQuestions case rows i in
@@ -31,17 +31,19 @@ module _ (case : List ℤ) (old : ℕ → ℤ) (rows : List ℤ) (i : ℕ) where
     pub nodes-stop : x ≡ firstNo (allNodeQuestions case rows i) → r ≡ steppedBy (firstNo (stepQuestions case old rows i)) m
     nodes-stop e = k ∙ rw (h, step-is, sym e ∙ h)
 
-    pub arcs-stop : firstNo (allNodeQuestions case rows i) ≡ Yes → x ≡ firstNo (allArcQuestions case old rows i) → r ≡ steppedBy (firstNo (stepQuestions case old rows i)) m
+    pub arcs-stop : firstNo (allNodeQuestions case rows i) ≡ Yes → x ≡ firstNo (allArcQuestions case old rows i)
+        → r ≡ steppedBy (firstNo (stepQuestions case old rows i)) m
     arcs-stop y e = k ∙ rw (h, step-is, y, sym e ∙ h)
 
-  module _ (m : ℕ) {r : Stepped} where
-    pub arcs-passed : firstNo (allNodeQuestions case rows i) ≡ Yes → firstNo (allArcQuestions case old rows i) ≡ Yes
-        → r ≡ steppedBy (firstNo (allStationQuestions case rows i ++ allBalanceQuestions case rows i)) m → r ≡ steppedBy (firstNo (stepQuestions case old rows i)) m
-    arcs-passed n a e = e ∙ rw (step-is, n, a, firstNo-append (allStationQuestions case rows i) (allBalanceQuestions case rows i))
+  pub arcs-passed : (m : ℕ) {r : Stepped} → firstNo (allNodeQuestions case rows i) ≡ Yes → firstNo (allArcQuestions case old rows i) ≡ Yes
+      → r ≡ steppedBy (firstNo (allStationQuestions case rows i ++ allBalanceQuestions case rows i)) m
+      → r ≡ steppedBy (firstNo (stepQuestions case old rows i)) m
+  arcs-passed m n a e = e ∙ rw (step-is, n, a, firstNo-append (allStationQuestions case rows i) (allBalanceQuestions case rows i))
 
 -- the stations, and then the balance
 module _ (case rows : List ℤ) (i m : ℕ) {r : Stepped} where
-  pub stations-stop : {x : Answer} {n s p : ℕ} → x ≡ No n s p → r ≡ steppedBy x 0 → x ≡ firstNo (allStationQuestions case rows i) → r ≡ steppedBy (firstNo (allStationQuestions case rows i ++ allBalanceQuestions case rows i)) m
+  pub stations-stop : {x : Answer} {n s p : ℕ} → x ≡ No n s p → r ≡ steppedBy x 0 → x ≡ firstNo (allStationQuestions case rows i)
+      → r ≡ steppedBy (firstNo (allStationQuestions case rows i ++ allBalanceQuestions case rows i)) m
   stations-stop h k e = k ∙ rw (h, firstNo-append (allStationQuestions case rows i) (allBalanceQuestions case rows i), sym e ∙ h)
 
   pub stations-passed : firstNo (allStationQuestions case rows i) ≡ Yes → r ≡ steppedBy (firstNo (allBalanceQuestions case rows i)) m

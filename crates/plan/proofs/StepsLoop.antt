@@ -1,8 +1,7 @@
 -- The loop over the steps, over plain lists: what holds before the step with index i, one turn, and both ways out.
--- Assumes nothing.
 use mathlib.Core.Path.{_≡_, refl, sym, ap, ap₂, _∙_}
 use mathlib.Core.List.{List}
-use Prim.Native.Nat.{ℕ, suc, _+_, _*_, _-_, _<_, _≤_}
+use Prim.Native.Nat.{ℕ, _+_, _*_, _-_, _<_, _≤_}
 use native.Mathlib.Nat.{mul-le-mul}
 use native.Mathlib.Numerals.{add-one}
 use native.Mathlib.Omega.{arith}
@@ -24,7 +23,8 @@ use Rattle.plan.specs.declared.totals.Totals.{Totals}
 use Rattle.plan.specs.declared.verdict.Verdict.the-variants.{Accepted, Refused}
 use Rattle.plan.specs.law.PlanLayout.{stepAt, stepWidth, stepRows}
 use Rattle.plan.specs.law.PlanRecords.{pressureIn, activeIn, directionIn, stateIn}
-use Rattle.plan.specs.law.BeforeStep.{startPressure, startDirection, startState, pressureAt, activeAt, directionChosen, stateChosen}
+use Rattle.plan.specs.law.BeforeStep.{startPressure, startDirection, startState}
+use Rattle.plan.specs.law.BeforeStep.{pressureAt, activeAt, directionChosen, stateChosen}
 use Rattle.plan.specs.inside.PreviousHolds.{Carried, activeOf, indexOf}
 use Rattle.plan.specs.inside.Preconditions.{AcceptedCase, StepKept}
 use Rattle.plan.specs.inside.Sizes.{PressuresSized}
@@ -32,10 +32,12 @@ use Rattle.plan.specs.inside.StepTotals.{Added, Opened, Closed, TotalsSi
 use Rattle.plan.specs.inside.CaseSizes.{counted, node-sized}
 use Rattle.plan.specs.inside.AnsweredSizes.{step-kept, pressures-sized}
 use Rattle.plan.specs.law.Step.{stepQuestions}
-use Rattle.plan.specs.law.Totals.{gasAt, stepPressureSlack, stepDemandSlack, stepSwitching, stepResidual, totalsTo, totalsOf, pressureSlackIn, demandSlackIn, choiceCosts, activityCosts, pipeResiduals, nodeResiduals}
+use Rattle.plan.specs.law.Totals.{gasAt, stepPressureSlack, stepDemandSlack, stepSwitching, stepResidual, totalsTo, totalsOf}
+use Rattle.plan.specs.law.Totals.{pressureSlackIn, demandSlackIn, nodeResiduals}
 use Rattle.plan.specs.law.Judged.{planStep, verdictOf}
-use Rattle.plan.specs.inside.StepSizes.{pressure-slack-sized, demand-slack-sized, choice-costs-le, activity-costs-le, pipe-residuals-le, node-residuals-le}
-use Rattle.plan.proofs.StepAlike.{step-alike, pipes-alike, gas-alike, choices-alike, activities-alike}
+use Rattle.plan.specs.inside.StepSizes.{pressure-slack-sized, demand-slack-sized, choice-costs-le, activity-costs-le}
+use Rattle.plan.specs.inside.StepSizes.{pipe-residuals-le, node-residuals-le}
+use Rattle.plan.specs.inside.StepAlike.{step-alike, pipes-alike, gas-alike, choices-alike, activities-alike}
 
 -- the totals of the first i steps
 pub record Summed (case plan : List ℤ) (t : Totals) (i : ℕ) : Type 0 where
@@ -90,7 +92,8 @@ unfolding stepWidth
 width-is d e = e ∙ rw (d .nodes, d .arcs, d .stations)
 
 module _ {case plan : List ℤ} (a : AcceptedCase case) where
-  pub going : {x : Previous} {t : Totals} → Carried case x (startPressure case) (activeAtStart case) (startDirection case) (startState case) → Opened case (numberAt (x .pressures)) t → Going case plan x t 0
+  pub going : {x : Previous} {t : Totals} → Carried case x (startPressure case) (activeAtStart case) (startDirection case) (startState case)
+      → Opened case (numberAt (x .pressures)) t → Going case plan x t 0
   unfolding pressureAt activeAt directionChosen stateChosen sum sumN
   going {x} {t} h o = record {
     upto = omega arith;
@@ -113,7 +116,8 @@ module _ {case plan : List ℤ} (a : AcceptedCase case) where
   }
 
 -- one step whose questions are all answered yes
-module _ {case plan : List ℤ} (a : AcceptedCase case) {x : Previous} {t : Totals} {i : ℕ} (g : Going case plan x t i) (l : i < stepsOf case) {rows : List ℤ} (r : rows ≡ stepRows case plan i) where
+module _ {case plan : List ℤ} (a : AcceptedCase case) {x : Previous} {t : Totals} {i : ℕ} (g : Going case plan x t i) (l : i < stepsOf case)
+    {rows : List ℤ} (r : rows ≡ stepRows case plan i) where
   -- the pressures of the array and of the plan ask the same
   pub step-same : firstNo (stepQuestions case (numberAt (x .pressures)) rows i) ≡ firstNo (planStep case plan i)
   unfolding planStep
@@ -137,68 +141,68 @@ module _ {case plan : List ℤ} (a : AcceptedCase case) {x : Previous} {t : Tota
 
   pub refused : {n s p : ℕ} {b : Answer} → b ≡ firstNo (stepQuestions case (numberAt (x .pressures)) rows i) → b ≡ No n s p
       → Refused n s p ≡ verdictOf (firstNo (over (planStep case plan) 0 (stepsOf case))) (totalsOf case plan)
-  refused {n} {s} {p} {b} e h = ap (λ (w : Answer). verdictOf w (totalsOf case plan)) (sym (rest-no (planStep case plan) i (stepsOf case) (g .asked) l (e ∙ step-same) h ∙ h))
+  refused e h = rw (rest-no (planStep case plan) i (stepsOf case) (g .asked) l (e ∙ step-same) h ∙ h)
 
   module _ {u : Totals} (yes : firstNo (stepQuestions case (numberAt (x .pressures)) rows i) ≡ Yes) (d : Added case rows x i t u) where
     sums : Summed case plan u (i + 1)
     unfolding sum sumN stepPressureSlack stepDemandSlack stepSwitching stepResidual
     sums =
+        let w = stepRows case plan i in
+        let k : Added case w x i t u = rw r at d in
         let s = g .summed in
         let h = g .carried in
+        let directions = directionChosen case plan i in
+        let states = stateChosen case plan i in
+        let choices = choices-alike case w (indexOf (x .directions)) directions (indexOf (x .states)) states (h .directions .each) (h .states .each) in
+        let activities = activities-alike case w (activeOf (x .active)) (activeAt case plan i) (h .active .each) in
+        let pipes = pipes-alike a (numberAt (x .pressures)) (pressureAt case plan i) (h .pressures .each) w i in
         rw (add-one i) (record {
-          pressure = d .pressure ∙ ap₂ (λ (w z : ℤ). w +ℤ z) (s .pressure) (ap (pressureSlackIn case) r);
-          demand = d .demand ∙ ap₂ (λ (w z : ℤ). w +ℤ z) (s .demand) (ap (demandSlackIn case) r);
-          switching = d .switching ∙ ap₂ (λ (w z : ℕ). w + z) (s .switching)
-              (ap₂ (λ (w z : ℕ). w + z)
-              (choices-alike case rows (indexOf (x .directions)) (directionChosen case plan i) (indexOf (x .states)) (stateChosen case plan i) (h .directions .each) (h .states .each)
-              ∙ ap (choiceCosts case (directionChosen case plan i) (stateChosen case plan i)) r)
-              (activities-alike case rows (activeOf (x .active)) (activeAt case plan i) (h .active .each) ∙ ap (activityCosts case (activeAt case plan i)) r));
-          residual = d .residual ∙ ap₂ (λ (w z : ℕ). w + z) (s .residual)
-              (ap₂ (λ (w z : ℕ). w + z)
-              (pipes-alike a (numberAt (x .pressures)) (pressureAt case plan i) (h .pressures .each) rows i ∙ ap (λ (w : List ℤ). pipeResiduals case (pressureAt case plan i) w i) r)
-              (ap (λ (w : List ℤ). nodeResiduals case w i) r));
-          opening = d .opening ∙ s .opening;
+          pressure = k .pressure ∙ ap (λ (z : ℤ). z +ℤ pressureSlackIn case w) (s .pressure);
+          demand = k .demand ∙ ap (λ (z : ℤ). z +ℤ demandSlackIn case w) (s .demand);
+          switching = k .switching ∙ ap₂ _+_ (s .switching) (ap₂ _+_ choices activities);
+          residual = k .residual ∙ ap₂ _+_ (s .residual) (ap (λ (z : ℕ). z + nodeResiduals case w i) pipes);
+          opening = k .opening ∙ s .opening;
         })
 
     sizes : Sized u (i + 1)
     sizes =
         let s = g .sized in
         let k = kept yes in
+        let w = abs-add (t .pressure) (pressureSlackIn case rows) in
+        let z = abs-add (t .demand) (demandSlackIn case rows) in
+        let choices = choice-costs-le rows a (k .choices) (indexOf (x .directions)) (indexOf (x .states)) in
+        let activities = activity-costs-le rows a (activeOf (x .active)) in
         record {
-          pressure = rw (d .pressure) (omega (arith, abs-add (t .pressure) (pressureSlackIn case rows), s .pressure, pressure-slack-sized rows a (k .node-rows) .bound));
-          demand = rw (d .demand) (omega (arith, abs-add (t .demand) (demandSlackIn case rows), s .demand, demand-slack-sized rows a (k .node-rows) .bound));
-          switching = omega (arith, d .switching, s .switching, choice-costs-le rows a (k .choices) (indexOf (x .directions)) (indexOf (x .states)), activity-costs-le rows a (activeOf (x .active)));
+          pressure = rw (d .pressure) (omega (arith, w, s .pressure, pressure-slack-sized rows a (k .node-rows) .bound));
+          demand = rw (d .demand) (omega (arith, z, s .demand, demand-slack-sized rows a (k .node-rows) .bound));
+          switching = omega (arith, d .switching, s .switching, choices, activities);
           residual = omega (arith, d .residual, s .residual, pipe-residuals-le rows a k, node-residuals-le rows a k);
         }
 
-    pub went-on : {y : Previous} → Carried case y (pressureIn rows) (activeIn case rows) (directionIn case rows) (stateIn case rows) → Going case plan y u (i + 1)
+    pub went-on : {y : Previous} → Carried case y (pressureIn rows) (activeIn case rows) (directionIn case rows) (stateIn case rows)
+        → Going case plan y u (i + 1)
     unfolding pressureAt activeAt directionChosen stateChosen
-    went-on {y} h = record {
+    went-on h = record {
       upto = omega (arith, l);
       asked = rest-on (planStep case plan) i (stepsOf case) (g .asked) l refl (sym step-same ∙ yes);
-      carried = rw (add-one i) (record {
-        pressures = record { each = λ v q. h .pressures .each v q ∙ ap (λ (w : List ℤ). pressureIn w v) r };
-        active = record { each = λ e q. h .active .each e q ∙ ap (λ (w : List ℤ). activeIn case w e) r };
-        directions = record { each = λ z q. h .directions .each z q ∙ ap (λ (w : List ℤ). directionIn case w z) r };
-        states = record { each = λ z q. h .states .each z q ∙ ap (λ (w : List ℤ). stateIn case w z) r };
-      });
+      carried = rw (add-one i) (rw r at h);
       pressures = held-sized (h .pressures) (pressures-sized (kept yes .node-rows));
       summed = sums;
       sized = sizes;
     }
 
 -- past the last step
-pub finished : {case plan : List ℤ} → AcceptedCase case → {x : Previous} {t u : Totals} {i : ℕ} → Going case plan x t i → stepsOf case ≤ i → Closed case (numberAt (x .pressures)) t u
-    → Accepted u ≡ verdictOf (firstNo (over (planStep case plan) 0 (stepsOf case))) (totalsOf case plan)
+pub finished : {case plan : List ℤ} → AcceptedCase case → {x : Previous} {t u : Totals} {i : ℕ} → Going case plan x t i → stepsOf case ≤ i
+    → Closed case (numberAt (x .pressures)) t u → Accepted u ≡ verdictOf (firstNo (over (planStep case plan) 0 (stepsOf case))) (totalsOf case plan)
 unfolding totalsOf totalsTo
 finished {case} {plan} a {x} {t} {u} {i} g l d =
-    let s = g .summed in
     let e : i ≡ stepsOf case = omega (arith, g .upto) in
-    let p : u .pressure ≡ sum (stepsOf case) (stepPressureSlack case plan) = d .pressure ∙ s .pressure ∙ ap (λ (n : ℕ). sum n (stepPressureSlack case plan)) e in
-    let q : u .demand ≡ sum (stepsOf case) (stepDemandSlack case plan) = d .demand ∙ s .demand ∙ ap (λ (n : ℕ). sum n (stepDemandSlack case plan)) e in
-    let w : u .switching ≡ sumN (stepsOf case) (stepSwitching case plan) = d .switching ∙ s .switching ∙ ap (λ (n : ℕ). sumN n (stepSwitching case plan)) e in
-    let v : u .residual ≡ sumN (stepsOf case) (stepResidual case plan) = d .residual ∙ s .residual ∙ ap (λ (n : ℕ). sumN n (stepResidual case plan)) e in
-    let o : u .opening ≡ gasAt case (pressureAt case plan 0) = d .opening ∙ s .opening in
-    let c : u .closing ≡ gasAt case (pressureAt case plan (stepsOf case)) =
-    d .closing ∙ gas-alike a (numberAt (x .pressures)) (pressureAt case plan i) (g .carried .pressures .each) ∙ ap (λ (n : ℕ). gasAt case (pressureAt case plan n)) e in
+    let s : Summed case plan t (stepsOf case) = rw e at (g .summed) in
+    let h = gas-alike a (numberAt (x .pressures)) (pressureAt case plan i) (g .carried .pressures .each) in
+    let p = d .pressure ∙ s .pressure in
+    let q = d .demand ∙ s .demand in
+    let w = d .switching ∙ s .switching in
+    let v = d .residual ∙ s .residual in
+    let o = d .opening ∙ s .opening in
+    let c = d .closing ∙ (rw e at h) in
     rw (rest-end (planStep case plan) i (stepsOf case) (g .asked) l, ← p, ← q, ← w, ← v, ← o, ← c)

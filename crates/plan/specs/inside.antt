@@ -18,6 +18,7 @@ pub mod LedgerVerdict
 pub mod RegionPreconditions
 pub mod RegionSizes
 pub mod RegionSame
+pub mod StepAlike
 pub mod RegionLoop
 pub mod SmallRefusals
 pub mod StepSizes

@@ -1,9 +1,8 @@
 -- What a step's questions give once they have been answered yes: sizes, by which no later sum or product is too large.
--- Assumes nothing.
 use mathlib.Core.Path.{_≡_}
 use mathlib.Core.Bool.{Bool, true, false, cond, not, _&&_, _||_}
 use mathlib.Core.List.{List, _++_}
-use Prim.Native.Nat.{ℕ, _+_, _-_, _<_, _≤_}
+use Prim.Native.Nat.{ℕ, _+_, _<_, _≤_}
 use native.Mathlib.Omega.{arith}
 use borrow.Author.Tests.{ltb-true}
 use lib.Dec.{eqb, leb, ltb}
@@ -76,30 +75,35 @@ boundary-sized kind d e = go (eqb kind 1) (eqb kind 2) e
 pub numbers-sized : (n : Node) (r : NodeRow) → NodeSized n → nodeNumbersKept n r ≡ true → NodeRowSized r
 unfolding nodeNumbersKept slacksKept
 numbers-sized n r z e =
+    let flow = slackLimit (n .kind) mostFlow in
+    let above = slackLimit (n .kind) (n .actlow -ℤ n .low) in
+    let below = slackLimit (n .kind) (n .high -ℤ n .acthigh) in
+    let few : natAbs flow ≤ 10000000 = slack-limit (n .kind) mostFlow (omega arith) in
     let w1 = within (n .low) (r .p) (n .high) in
     let w2 = boundaryFlowKept (n .kind) (r .d) in
-    let w3 = within (pos 0) (r .splus) (slackLimit (n .kind) mostFlow) in
-    let w4 = within (pos 0) (r .sminus) (slackLimit (n .kind) mostFlow) in
-    let w5 = within (pos 0) (r .uplus) (slackLimit (n .kind) (n .actlow -ℤ n .low)) in
-    let w6 = within (pos 0) (r .uminus) (slackLimit (n .kind) (n .high -ℤ n .acthigh)) in
-    let e2 : (w2 && (w3 && (w4 && (w5 && w6)))) ≡ true = and-second w1 (w2 && (w3 && (w4 && (w5 && w6)))) e in
-    let e3 : (w3 && (w4 && (w5 && w6))) ≡ true = and-second w2 (w3 && (w4 && (w5 && w6))) e2 in
-    let e4 : (w4 && (w5 && w6)) ≡ true = and-second w3 (w4 && (w5 && w6)) e3 in
-    let e5 : (w5 && w6) ≡ true = and-second w4 (w5 && w6) e4 in
+    let w3 = within (pos 0) (r .splus) flow in
+    let w4 = within (pos 0) (r .sminus) flow in
+    let w5 = within (pos 0) (r .uplus) above in
+    let w6 = within (pos 0) (r .uminus) below in
+    let e2 = and-second w1 (w2 && (w3 && (w4 && (w5 && w6)))) e in
+    let e3 = and-second w2 (w3 && (w4 && (w5 && w6))) e2 in
+    let e4 = and-second w3 (w4 && (w5 && w6)) e3 in
+    let e5 = and-second w4 (w5 && w6) e4 in
     record {
-      p = within-sized (n .low) (r .p) (n .high) 200000 (and-first w1 (w2 && (w3 && (w4 && (w5 && w6)))) e) (z .low .bound) (z .high .bound);
-      d = boundary-sized (n .kind) (r .d) (and-first w2 (w3 && (w4 && (w5 && w6))) e2);
-      splus = within-sized (pos 0) (r .splus) (slackLimit (n .kind) mostFlow) 10000000 (and-first w3 (w4 && (w5 && w6)) e3) (omega arith) (slack-limit (n .kind) mostFlow (omega arith));
-      sminus = within-sized (pos 0) (r .sminus) (slackLimit (n .kind) mostFlow) 10000000 (and-first w4 (w5 && w6) e4) (omega arith) (slack-limit (n .kind) mostFlow (omega arith));
-      uplus = within-sized (pos 0) (r .uplus) (slackLimit (n .kind) (n .actlow -ℤ n .low)) 400000 (and-first w5 w6 e5) (omega arith) (slack-limit (n .kind) (n .actlow -ℤ n .low) (difference (z .actlow) (z .low)));
-      uminus = within-sized (pos 0) (r .uminus) (slackLimit (n .kind) (n .high -ℤ n .acthigh)) 400000 (and-second w5 w6 e5) (omega arith) (slack-limit (n .kind) (n .high -ℤ n .acthigh) (difference (z .high) (z .acthigh)));
+      p = within-sized (n .low) (r .p) (n .high) 200000 (and-first w1 _ e) (z .low .bound) (z .high .bound);
+      d = boundary-sized (n .kind) (r .d) (and-first w2 _ e2);
+      splus = within-sized (pos 0) (r .splus) flow 10000000 (and-first w3 _ e3) (omega arith) few;
+      sminus = within-sized (pos 0) (r .sminus) flow 10000000 (and-first w4 _ e4) (omega arith) few;
+      uplus = within-sized (pos 0) (r .uplus) above 400000 (and-first w5 _ e5) (omega arith) (slack-limit (n .kind) _ (difference (z .actlow) (z .low)));
+      uminus = within-sized (pos 0) (r .uminus) below 400000 (and-second w5 w6 e5) (omega arith) (slack-limit (n .kind) _ (difference (z .high) (z .acthigh)));
     }
 
 pub nodes-sized : (case rows : List ℤ) (i : ℕ) → AcceptedCase case → i < stepsOf case → firstNo (allNodeQuestions case rows i) ≡ Yes → NodesSized case rows
 unfolding allNodeQuestions nodeQuestions
 nodes-sized case rows i c p e = record {
   each = λ v q.
-      numbers-sized (nodeOf case v i) (nodeRow rows v) (node-sized c v q i p) (all-yes (nodeQuestions case rows i v) (item-yes (nodeQuestions case rows i) (nodesOf case) e v q) .0);
+      let y = item-yes (nodeQuestions case rows i) (nodesOf case) e v q in
+      numbers-sized (nodeOf case v i) (nodeRow rows v) (node-sized c v q i p) (all-yes (nodeQuestions case rows i v) y .0);
 }
 
 pub pressures-sized : {case rows : List ℤ} → NodesSized case rows → PressuresSized (pressureIn rows) (nodesOf case)
@@ -110,12 +114,15 @@ pressures-sized n = record { each = λ v q. n .each v q .p }
 pub flows-kept-sized : (c : Arc) (r : ArcRow) → Bounded (c .qmax) 10000000 → flowsKept c r ≡ true → ArcRowSized r
 unfolding flowsKept
 flows-kept-sized c r q e =
-    let least : natAbs (leastFlow c) ≤ 10000000 = cond-sized (eqb (c .kind) 2) (pos 0 -ℤ c .qmax) (pos 0) (omega (arith, taken (pos 0) (c .qmax), size (c .qmax), size (pos 0 -ℤ c .qmax), q .bound)) (omega arith) in
+    let back = pos 0 -ℤ c .qmax in
+    let few : natAbs back ≤ 10000000 = omega (arith, taken (pos 0) (c .qmax), size (c .qmax), size back, q .bound) in
+    let least : natAbs (leastFlow c) ≤ 10000000 = cond-sized (eqb (c .kind) 2) back (pos 0) few (omega arith) in
+    let most = cond-sized (eqb (c .kind) 1) (pos 0) (c .qmax) (omega arith) (q .bound) in
     let w1 = within (leastFlow c) (r .a) (c .qmax) in
     let w2 = within (leastFlow c) (r .b) (mostBackward c) in
     record {
       a = within-sized (leastFlow c) (r .a) (c .qmax) 10000000 (and-first w1 w2 e) least (q .bound);
-      b = within-sized (leastFlow c) (r .b) (mostBackward c) 10000000 (and-second w1 w2 e) least (cond-sized (eqb (c .kind) 1) (pos 0) (c .qmax) (omega arith) (q .bound));
+      b = within-sized (leastFlow c) (r .b) (mostBackward c) 10000000 (and-second w1 w2 e) least most;
     }
 
 small : (n : ℕ) (z : ℤ) → leZ (pos n) z ≡ true → Bounded z 1000000 → n ≤ 1000000
@@ -155,8 +162,9 @@ module _ (case : List ℤ) (old : ℕ → ℤ) (rows : List ℤ) (i : ℕ) where
         let r = arcRow case rows e in
         let k = arcOf case e .kind in
         let s = settingAllowed (leb 1 (x .bothways)) (settingOf k (r .setting)) in
-        and-second s (machinesWithin k (x .machines) (r .machines))
-        (and-second (flowsKept (arcOf case e) r) (s && machinesWithin k (x .machines) (r .machines)) (arc-numbers e (flow-yes e (item-yes (arcQuestions case old rows i) (arcsOf case) y e q))));
+        let w = machinesWithin k (x .machines) (r .machines) in
+        let h = arc-numbers e (flow-yes e (item-yes (arcQuestions case old rows i) (arcsOf case) y e q)) in
+        and-second s w (and-second (flowsKept (arcOf case e) r) (s && w) h);
   }
 
   -- ---- 28
@@ -195,24 +203,25 @@ module _ (case rows : List ℤ) (i : ℕ) where
   pub node-small : AcceptedCase case → firstNo (allBalanceQuestions case rows i) ≡ Yes → (v : ℕ) → v < nodesOf case → nodeResidual case rows i v ≤ 1000000
   unfolding allBalanceQuestions balanceQuestions balanceKept
   node-small c y v q =
-      small (nodeResidual case rows i v) (massTolerance case) (all-yes (balanceQuestions case rows i v) (item-yes (balanceQuestions case rows i) (nodesOf case) y v q) .0) (mass-sized c)
+      let k = all-yes (balanceQuestions case rows i v) (item-yes (balanceQuestions case rows i) (nodesOf case) y v q) .0 in
+      small (nodeResidual case rows i v) (massTolerance case) k (mass-sized c)
 
 -- ---- a whole step
 
 module _ (case : List ℤ) (old : ℕ → ℤ) (rows : List ℤ) (i : ℕ) (y : firstNo (stepQuestions case old rows i) ≡ Yes) where
   pub nodes-yes : firstNo (allNodeQuestions case rows i) ≡ Yes
   unfolding stepQuestions
-  nodes-yes = first-yes (allNodeQuestions case rows i) (allArcQuestions case old rows i ++ (allStationQuestions case rows i ++ allBalanceQuestions case rows i)) y
+  nodes-yes = first-yes (allNodeQuestions case rows i) _ y
 
   past-nodes : firstNo (allArcQuestions case old rows i ++ (allStationQuestions case rows i ++ allBalanceQuestions case rows i)) ≡ Yes
   unfolding stepQuestions
-  past-nodes = second-yes (allNodeQuestions case rows i) (allArcQuestions case old rows i ++ (allStationQuestions case rows i ++ allBalanceQuestions case rows i)) y
+  past-nodes = second-yes (allNodeQuestions case rows i) _ y
 
   pub arcs-yes : firstNo (allArcQuestions case old rows i) ≡ Yes
-  arcs-yes = first-yes (allArcQuestions case old rows i) (allStationQuestions case rows i ++ allBalanceQuestions case rows i) past-nodes
+  arcs-yes = first-yes (allArcQuestions case old rows i) _ past-nodes
 
   past-arcs : firstNo (allStationQuestions case rows i ++ allBalanceQuestions case rows i) ≡ Yes
-  past-arcs = second-yes (allArcQuestions case old rows i) (allStationQuestions case rows i ++ allBalanceQuestions case rows i) past-nodes
+  past-arcs = second-yes (allArcQuestions case old rows i) _ past-nodes
 
   pub stations-yes : firstNo (allStationQuestions case rows i) ≡ Yes
   stations-yes = first-yes (allStationQuestions case rows i) (allBalanceQuestions case rows i) past-arcs

@@ -1,5 +1,4 @@
 -- What an accepted case gives the judge of a plan: counts, sizes and rows that are there, by the laws of the case.
--- Assumes nothing.
 use mathlib.Core.Path.{_≡_}
 use mathlib.Core.Bool.{Bool, true, false, cond}
 use mathlib.Core.List.{List}
@@ -144,5 +143,6 @@ module _ {case : List ℤ} (c : AcceptedCase case) where
     station-size = laws.sized case (c .yes) .each s p
 
     -- 17: the machines of the station's arcs are its own
-    pub own-machines : (e : ℕ) → e < arcsOf case → belongs case s e ≡ true → subsetOf (artificialOf case e .machines) (firstItems (stationOf case s .machines)) ≡ true
+    pub own-machines : (e : ℕ) → e < arcsOf case → belongs case s e ≡ true
+        → subsetOf (artificialOf case e .machines) (firstItems (stationOf case s .machines)) ≡ true
     own-machines e q b = laws.machines-own case (c .yes) s e p q b

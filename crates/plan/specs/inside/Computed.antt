@@ -1,5 +1,4 @@
 -- What a row of a table is computed with: the definitions of the law, gathered by layer, so that a proof by computation opens them under one name.
--- Assumes nothing.
 use lib.Count.{ones}
 use Rattle.numbers.specs.law.Sums.{sum, sumN, count}
 use Rattle.numbers.specs.law.Groups.{groups}
@@ -10,7 +9,8 @@ use Rattle.case.specs.law.HeadFields.{countFields, toleranceFields, headFields}
 use Rattle.case.specs.law.TimeFields.{timeField, timeFields}
 use Rattle.case.specs.law.NodeFields.{boundFields, demandFields, nodeFields, allNodeFields}
 use Rattle.case.specs.law.ArcFields.{endFields, pipeFields, memberFields, compressorFields, kindFields, arcFields, allArcFields}
-use Rattle.case.specs.law.StationFields.{stationHead, directionFields, stateRowFields, stateFields, machineFields, partFields, rowFields, stationFields, allStationFields}
+use Rattle.case.specs.law.StationFields.{stationHead, directionFields, stateRowFields, stateFields, machineFields}
+use Rattle.case.specs.law.StationFields.{partFields, rowFields, stationFields, allStationFields}
 use Rattle.case.specs.law.Leftover.{leftover}
 use Rattle.case.specs.law.StationArcs.{arcsBefore, arcSet}
 use Rattle.case.specs.law.StationNodes.{withNode, endsOf, stationNodes, plainNodes}
@@ -31,10 +31,14 @@ use Rattle.plan.specs.law.ArcPressures.{compressionKept, pressuresKept}
 use Rattle.plan.specs.law.ArcMachines.{machinesCarry, machinesUsed}
 use Rattle.plan.specs.law.Pipes.{duration, pipeImbalance, pipeResidual, pipeMassKept, pressureBalance, pipePressuresKept}
 use Rattle.plan.specs.law.ArcRules.{flowQuestions, pressureQuestions, pipeQuestions, arcQuestions, allArcQuestions}
-use Rattle.plan.specs.law.StationRules.{activeSet, obeyed, choiceKept, machinesOnce, stationPart, stationFlow, fenceNodeKept, fenceFlowsKept, stationQuestions, allStationQuestions}
-use Rattle.plan.specs.law.Balance.{flowAtFrom, flowAtTo, outPart, inPart, outflow, inflow, netFlow, nodeImbalance, nodeResidual, balanceKept, balanceQuestions, allBalanceQuestions}
+use Rattle.plan.specs.law.StationRules.{activeSet, obeyed, choiceKept, machinesOnce, stationPart, stationFlow}
+use Rattle.plan.specs.law.StationRules.{fenceNodeKept, fenceFlowsKept, stationQuestions, allStationQuestions}
+use Rattle.plan.specs.law.Balance.{flowAtFrom, flowAtTo, outPart, inPart, outflow, inflow, netFlow}
+use Rattle.plan.specs.law.Balance.{nodeImbalance, nodeResidual, balanceKept, balanceQuestions, allBalanceQuestions}
 use Rattle.plan.specs.law.Step.{stepQuestions}
-use Rattle.plan.specs.law.Totals.{pressureSlackAt, demandSlackAt, pressureSlackIn, demandSlackIn, directionCost, stateCost, activityCost, choiceCost, choiceCosts, activityCosts, pipePart, pipeResiduals, nodeResiduals, gasPart, gasAt, stepPressureSlack, stepDemandSlack, stepSwitching, stepResidual, totalsTo, totalsOf}
+use Rattle.plan.specs.law.Totals.{pressureSlackAt, demandSlackAt, pressureSlackIn, demandSlackIn, directionCost, stateCost, activityCost}
+use Rattle.plan.specs.law.Totals.{choiceCost, choiceCosts, activityCosts, pipePart, pipeResiduals, nodeResiduals, gasPart, gasAt}
+use Rattle.plan.specs.law.Totals.{stepPressureSlack, stepDemandSlack, stepSwitching, stepResidual, totalsTo, totalsOf}
 use Rattle.plan.specs.law.Judged.{planStep, planQuestions, questions, judgeOf}
 use Rattle.plan.specs.law.Region.{innerPipes, innerGas, regionGas, regionSupply, edgeFlow, suppliesIn, edgeFlows, broughtIn}
 use Rattle.plan.specs.law.RegionResidual.{ownNode, ownPipe, ownNodes, ownPipes, regionResidual}

@@ -1,5 +1,4 @@
 -- The ledger's answer, put together: times in their order, the six figures, and what the answer vouches for.
--- Assumes nothing.
 use mathlib.Core.Path.{_≡_, sym, ap, _∙_, subst}
 use mathlib.Core.Bool.{true}
 use mathlib.Core.List.{List}
@@ -34,6 +33,7 @@ pub figures-are : (case plan : List ℤ) (set : ℤ) (s t : ℕ) {a b : ℕ} {x 
 unfolding figuresOf broughtOver residualOver
 figures-are case plan set s t p q o c g e = rw (p, q, o, c, e ∙ g .brought, g .residual)
 
-pub answers : (case plan : List ℤ) (set s t : ℤ) {r : Ledger} → r ≡ ledgerIs case plan set s t → (ledgerTold r ≡ ledgerOf case plan set s t) × Vouched case plan set s t r
+pub answers : (case plan : List ℤ) (set s t : ℤ) {r : Ledger} → r ≡ ledgerIs case plan set s t
+    → (ledgerTold r ≡ ledgerOf case plan set s t) × Vouched case plan set s t r
 unfolding ledgerOf
 answers case plan set s t e = (ap ledgerTold e, subst (Vouched case plan set s t) (sym e) (region-vouched case plan set s t))

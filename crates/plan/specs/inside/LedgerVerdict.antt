@@ -1,5 +1,4 @@
 -- What the verdict on case and plan says of the ledger's answer.
--- Assumes nothing.
 use mathlib.Core.Path.{_≡_, refl, sym, ap, _∙_}
 use mathlib.Core.Bool.{true}
 use mathlib.Core.List.{List}
@@ -44,7 +43,8 @@ module _ (case plan : List ℤ) where
           cc
 
   -- "After all the above"
-  pub ledger-asks : (set s t : ℤ) → firstNo (ledgerQuestions case plan set s t) ≡ orElse (firstNo (questions case plan)) (firstNo (regionQuestions case set s t))
+  pub ledger-asks : (set s t : ℤ) → firstNo (ledgerQuestions case plan set s t)
+      ≡ orElse (firstNo (questions case plan)) (firstNo (regionQuestions case set s t))
   unfolding ledgerQuestions
   ledger-asks set s t = firstNo-append (questions case plan) (regionQuestions case set s t)
 

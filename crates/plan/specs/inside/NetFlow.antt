@@ -1,5 +1,4 @@
 -- Net flows in an array, gathered arc by arc.
--- Assumes nothing.
 use mathlib.Core.List.{List}
 use Prim.Native.Nat.{ℕ, _<_}
 use lib.Dec.{eqb}

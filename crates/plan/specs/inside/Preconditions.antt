@@ -1,5 +1,4 @@
 -- Where in the judging a function inside stands: what has been answered yes before it is called.
--- Assumes nothing.
 use mathlib.Core.Path.{_≡_}
 use mathlib.Core.Bool.{true}
 use mathlib.Core.List.{List}

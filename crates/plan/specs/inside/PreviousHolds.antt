@@ -1,5 +1,4 @@
 -- What is carried from step to step: the pressures, activities, directions and states at time t.
--- Assumes nothing.
 use mathlib.Core.Bool.{Bool, false}
 use mathlib.Core.List.{List}
 use Prim.Native.Nat.{ℕ}

@@ -1,6 +1,5 @@
 -- The balance of a region in one step: the gas in its inner pipes changes by what is brought in, up to the imbalances of its nodes and of these pipes.
 -- The identity is exact and signed; magnitudes come after it.
--- Assumes nothing.
 use mathlib.Core.Path.{_≡_, refl, sym, ap, ap₂, _∙_}
 use mathlib.Core.Bool.{Bool, true, false, cond, _&&_}
 use mathlib.Core.List.{List}
@@ -130,7 +129,8 @@ module _ (case : List ℤ) (set : ℤ) (rows : List ℤ) where
     unfolding nodeSum ownNodes ownNode nodeResidual
     node-bound =
         le-trans (abs-sum (nodesOf case) _)
-        (le-of-eq (sumN-cong (nodesOf case) _ _ (λ u l. abs-only (memberOf set u) _ ∙ ap (onlyN (memberOf set u)) (abs-mul (duration case i) (nodeImbalance case rows u)))))
+        (le-of-eq (sumN-cong (nodesOf case) _ _ (λ u l.
+        abs-only (memberOf set u) _ ∙ ap (onlyN (memberOf set u)) (abs-mul (duration case i) (nodeImbalance case rows u)))))
 
     pipe-bound : natAbs (pipeSum case set old rows i) ≤ ownPipes case set old rows i
     unfolding pipeSum ownPipes ownPipe pipeResidual

@@ -1,5 +1,4 @@
 -- The residual of a region: at most E for each of its nodes and inner pipes and each step, where no left side of 28 or 33 exceeds E.
--- Assumes nothing.
 use mathlib.Core.Path.{_≡_, refl, _∙_}
 use mathlib.Core.Bool.{Bool, true, false, _&&_}
 use mathlib.Core.List.{List}
@@ -26,7 +25,8 @@ first-of false b h = absurd h
 
 module _ (case plan : List ℤ) (set : ℤ) (m s t : ℕ)
     (nodes : (u i : ℕ) → u < nodesOf case → s ≤ i → i < t → nodeResidual case (stepRows case plan i) i u ≤ m)
-    (pipes : (e i : ℕ) → e < arcsOf case → isPipe case e ≡ true → s ≤ i → i < t → pipeResidual case (pressureAt case plan i) (stepRows case plan i) i e ≤ m) where
+    (pipes : (e i : ℕ) → e < arcsOf case → isPipe case e ≡ true → s ≤ i → i < t
+    → pipeResidual case (pressureAt case plan i) (stepRows case plan i) i e ≤ m) where
   step-bound : (j : ℕ) → j < t - s → residualAt case plan set s j ≤ (count (nodesOf case) (memberOf set) + innerPipes case set) * m
   unfolding residualAt regionResidual ownNodes ownPipes ownNode ownPipe innerPipes
   step-bound j l =

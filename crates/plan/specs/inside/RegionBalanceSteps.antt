@@ -1,5 +1,4 @@
 -- The balance of a region over the steps from time s to time t.
--- Assumes nothing.
 use mathlib.Core.Path.{_≡_, sym, ap, _∙_}
 use mathlib.Core.List.{List}
 use Prim.Native.Nat.{ℕ, suc, _+_, _-_, _≤_}
@@ -27,7 +26,8 @@ module _ (case plan : List ℤ) (set : ℤ) (ends : EndsAreNodes case) (s : ℕ)
   total : (k : ℕ) → gasInside case plan set (s + k) -ℤ gasInside case plan set s -ℤ sum k (broughtAt case plan set s) ≡ sum k leaves
   unfolding leaves
   total k =
-      ap (λ z. z -ℤ sum k (broughtAt case plan set s)) (ap (λ (i : ℕ). gasInside case plan set (s + k) -ℤ gasInside case plan set i) zeroth ∙ sym (sum-tele k (λ j. gasInside case plan set (s + j))))
+      let first = ap (λ (i : ℕ). gasInside case plan set (s + k) -ℤ gasInside case plan set i) zeroth in
+      ap (λ z. z -ℤ sum k (broughtAt case plan set s)) (first ∙ sym (sum-tele k (λ j. gasInside case plan set (s + j))))
       ∙ sym (sum-sub k (λ j. gasInside case plan set (s + suc j) -ℤ gasInside case plan set (s + j)) (broughtAt case plan set s))
     where
       zeroth : s ≡ s + 0
@@ -38,5 +38,5 @@ module _ (case plan : List ℤ) (set : ℤ) (ends : EndsAreNodes case) (s : ℕ)
   unfolding broughtOver residualOver
   region-balance t h =
       let e : s + (t - s) ≡ t = omega arith in
-      le-trans (le-of-eq (ap natAbs (ap (λ (i : ℕ). gasInside case plan set i -ℤ gasInside case plan set s -ℤ sum (t - s) (broughtAt case plan set s)) (sym e) ∙ total (t - s))))
+      le-trans (le-of-eq (ap natAbs (rw e at (total (t - s)))))
       (le-trans (abs-sum (t - s) leaves) (sumN-le (t - s) (λ j. natAbs (leaves j)) (residualAt case plan set s) (λ j l. at-most j)))

@@ -1,5 +1,4 @@
 -- The loop over the steps: what is gathered before the step with index i, and one turn.
--- Assumes nothing.
 use mathlib.Core.Path.{_≡_, sym, ap, ap₂, _∙_, subst}
 use mathlib.Core.List.{List}
 use Prim.Native.Nat.{ℕ, zero, suc, _+_, _*_, _-_, _<_, _≤_}
@@ -22,15 +21,15 @@ use Rattle.plan.specs.inside.Sizes.{NodesSized}
 use Rattle.plan.specs.inside.Preconditions.{AcceptedCase, PlanLaid}
 use Rattle.plan.specs.inside.VerdictLaws.{plan-laid}
 use Rattle.plan.specs.inside.CaseSizes.{counted, node-sized}
-use Rattle.plan.specs.inside.AnsweredSizes.{nodes-sized, flows-sized, choices-kept, pipe-small, node-small, nodes-yes, arcs-yes, stations-yes, balances-yes}
+use Rattle.plan.specs.inside.AnsweredSizes.{nodes-sized, nodes-yes, step-kept}
+use Rattle.plan.specs.inside.StepAlike.{step-alike}
 use Rattle.plan.specs.claims.Acceptance.{PlanRules, rules-step}
 use Rattle.plan.specs.law.Region.{broughtIn, regionGas}
-use Rattle.plan.specs.law.RegionResidual.{regionResidual}
 use Rattle.plan.specs.law.RegionFigures.{broughtAt, residualAt, gasInside}
 use Rattle.plan.specs.inside.RegionBalance.{EndsAreNodes}
 use Rattle.plan.specs.inside.RegionPreconditions.{RegionPressures, RegionStep, RegionRoom, RegionAdded}
 use Rattle.plan.specs.inside.RegionSizes.{ends-nodes, brought-small, residual-small}
-use Rattle.plan.specs.inside.RegionSame.{gas-same, part-same, residual-same}
+use Rattle.plan.specs.inside.RegionSame.{gas-same, residual-same}
 
 -- before the step with index i: the pressures, and the sums over the steps from index s on
 pub record Gathering (case plan : List ℤ) (set : ℤ) (s i : ℕ) (g : Gathered) : Type 0 where
@@ -52,7 +51,7 @@ module _ {case plan : List ℤ} (r : PlanRules case plan) where
   step-yes i l = rules-step case (pressureAt case plan i) (stepRows case plan i) i (r .steps i l)
 
   rows-sized : (i : ℕ) → i < stepsOf case → NodesSized case (stepRows case plan i)
-  rows-sized i l = nodes-sized case (stepRows case plan i) i accepted-case l (nodes-yes case (pressureAt case plan i) (stepRows case plan i) i (step-yes i l))
+  rows-sized i l = nodes-sized case _ i accepted-case l (nodes-yes case (pressureAt case plan i) (stepRows case plan i) i (step-yes i l))
 
   -- the pressures at every time are in range
   sized-at : (t : ℕ) → t ≤ stepsOf case → (u : ℕ) → u < nodesOf case → Bounded (pressureAt case plan t u) 200000
@@ -67,29 +66,18 @@ module _ {case plan : List ℤ} (r : PlanRules case plan) where
   }
 
   -- the gas, by pressures that an array holds
-  pub gas-held : {p : List ℤ} (set : ℤ) (t : ℕ) → Holds (pos 0) p (pressureAt case plan t) (nodesOf case) → regionGas case set (numberAt p) ≡ gasInside case plan set t
+  pub gas-held : {p : List ℤ} (set : ℤ) (t : ℕ) → Holds (pos 0) p (pressureAt case plan t) (nodesOf case)
+      → regionGas case set (numberAt p) ≡ gasInside case plan set t
   unfolding gasInside
   gas-held {p} set t k = gas-same case (numberAt p) (pressureAt case plan t) ends-of (k .each) set
 
   -- a step, by pressures that an array holds
-  pub step-handed : {old : List ℤ} (i : ℕ) → i < stepsOf case → Holds (pos 0) old (pressureAt case plan i) (nodesOf case) → RegionStep case old (stepRows case plan i) i
+  pub step-handed : {old : List ℤ} (i : ℕ) → i < stepsOf case → Holds (pos 0) old (pressureAt case plan i) (nodesOf case)
+      → RegionStep case old (stepRows case plan i) i
   step-handed {old} i l k =
       let rows = stepRows case plan i in
-      let p = pressureAt case plan i in
-      let y = step-yes i l in
-      let a = arcs-yes case p rows i y in
-      record {
-        accepted = accepted-case;
-        step = l;
-        kept = record {
-          before = pressures-held i (omega arith) k .sized;
-          node-rows = rows-sized i l;
-          flows = flows-sized case p rows i accepted-case a;
-          choices = choices-kept case rows i (stations-yes case p rows i y);
-          pipes = λ e q. subst (λ (n : ℕ). n ≤ 1000000) (sym (part-same case (numberAt old) p ends-of (k .each) rows i e q)) (pipe-small case p rows i accepted-case a e q);
-          nodes = node-small case rows i accepted-case (balances-yes case p rows i y);
-        };
-      }
+      let y = step-alike accepted-case (numberAt old) (pressureAt case plan i) (k .each) rows i ∙ step-yes i l in
+      record { accepted = accepted-case; step = l; kept = step-kept case old rows i accepted-case l (pressures-held i (omega arith) k .sized) y }
 
   pub room : {set : ℤ} {s i : ℕ} {g : Gathered} → Gathering case plan set s i g → i < stepsOf case → RegionRoom g
   room h l =
@@ -103,22 +91,21 @@ module _ {case plan : List ℤ} (r : PlanRules case plan) where
   pub turn : {set : ℤ} {s i : ℕ} {g h : Gathered} {rows : List ℤ} → Gathering case plan set s i g → i < stepsOf case → rows ≡ stepRows case plan i
       → RegionAdded case set rows i g h → Gathering case plan set s (i + 1) h
   unfolding sum sumN broughtAt residualAt pressureAt
-  turn {set} {s} {i} {g} {h} {rows} k l e d =
+  turn {set} {s} {i} {g} {h} {rows} k l e added =
+      let d : RegionAdded case set (stepRows case plan i) i g h = rw e at added in
       let step = step-handed {old = g .pressures} i l (k .held) in
       let count : i + 1 - s ≡ suc (i - s) = omega (arith, k .from) in
       let here : s + (i - s) ≡ i = omega (arith, k .from) in
       let next : i + 1 ≡ suc i = omega arith in
-      let b : h .brought ≡ g .brought +ℤ broughtIn case set (stepRows case plan i) i = subst (λ (x : List ℤ). h .brought ≡ g .brought +ℤ broughtIn case set x i) e (d .brought) in
-      let c : h .residual ≡ g .residual + regionResidual case set (numberAt (g .pressures)) (stepRows case plan i) i
-      = subst (λ (x : List ℤ). h .residual ≡ g .residual + regionResidual case set (numberAt (g .pressures)) x i) e (d .residual) in
+      let in-step = broughtIn case set (stepRows case plan i) i in
       let same = residual-same case (numberAt (g .pressures)) (pressureAt case plan i) ends-of (k .held .each) (stepRows case plan i) i set in
       record {
         from = omega (arith, k .from);
-        held = rw next (record { each = λ u q. d .pressures .each u q ∙ ap (λ (x : List ℤ). pressureIn x u) e });
-        brought = rw (count, here) (b ∙ ap (λ (z : ℤ). z +ℤ broughtIn case set (stepRows case plan i) i) (k .brought));
-        residual = rw (count, here) (c ∙ ap₂ _+_ (k .residual) same);
-        brought-few = omega (arith, ap natAbs b, abs-add (g .brought) (broughtIn case set (stepRows case plan i) i), brought-small step set, k .brought-few);
-        residual-few = omega (arith, c, residual-small step set, k .residual-few);
+        held = rw next (d .pressures);
+        brought = rw (count, here) (d .brought ∙ ap (λ (z : ℤ). z +ℤ in-step) (k .brought));
+        residual = rw (count, here) (d .residual ∙ ap₂ _+_ (k .residual) same);
+        brought-few = omega (arith, ap natAbs (d .brought), abs-add (g .brought) in-step, brought-small step set, k .brought-few);
+        residual-few = omega (arith, d .residual, residual-small step set, k .residual-few);
       }
 
 pub gathering : {case plan : List ℤ} {set : ℤ} {s : ℕ} {p : List ℤ} → Holds (pos 0) p (pressureAt case plan s) (nodesOf case)
@@ -135,7 +122,8 @@ pub record StepWithin (plan : List ℤ) (i width : ℕ) : Type 0 where
   pub inside : 2 + i * width + width ≤ length plan
   pub near : 2 + i * width + width ≤ 50000
 
-pub part-within : {case plan : List ℤ} {width : ℕ} → AcceptedCase case → PlanLaid case plan → width ≡ stepWidth case → (i : ℕ) → i < stepsOf case → StepWithin plan i width
+pub part-within : {case plan : List ℤ} {width : ℕ} → AcceptedCase case → PlanLaid case plan → width ≡ stepWidth case → (i : ℕ) → i < stepsOf case
+    → StepWithin plan i width
 unfolding stepWidth stepAt
 part-within {case} {width = width} c p wide i l =
     let n = counted c in
@@ -154,12 +142,12 @@ module _ {case plan : List ℤ} {width : ℕ} (r : PlanRules case plan) (wide : 
 
 -- ---- the pressures at a time, as an array holds them
 
-pub pressures-first : (case plan : List ℤ) {p : List ℤ} {n t : ℕ} → n ≡ nodesOf case → t ≡ 0 → Holds (pos 0) p (startPressure case) n → Holds (pos 0) p (pressureAt case plan t) (nodesOf case)
-unfolding pressureAt
-pressures-first case plan e z h = rw (z, ← e) h
+module _ (case plan : List ℤ) {p : List ℤ} {n t : ℕ} (e : n ≡ nodesOf case) where
+  pub pressures-first : t ≡ 0 → Holds (pos 0) p (startPressure case) n → Holds (pos 0) p (pressureAt case plan t) (nodesOf case)
+  unfolding pressureAt
+  pressures-first z h = rw (z, ← e) h
 
-pub pressures-after : (case plan : List ℤ) {p rows : List ℤ} {n t : ℕ} → n ≡ nodesOf case → 0 < t → rows ≡ stepRows case plan (t - 1) → Holds (pos 0) p (pressureIn rows) n → Holds (pos 0) p (pressureAt case plan t) (nodesOf case)
-unfolding pressureAt
-pressures-after case plan {p} {rows} {n} {t} e z q h =
-    let s : t ≡ suc (t - 1) = omega arith in
-    subst (λ (x : ℕ). Holds (pos 0) p (pressureAt case plan x) (nodesOf case)) (sym s) (record { each = λ u l. h .each u (omega (arith, e)) ∙ ap (λ (x : List ℤ). pressureIn x u) q })
+  pub pressures-after : 0 < t → {rows : List ℤ} → rows ≡ stepRows case plan (t - 1) → Holds (pos 0) p (pressureIn rows) n
+      → Holds (pos 0) p (pressureAt case plan t) (nodesOf case)
+  unfolding pressureAt
+  pressures-after z q h = let s : t ≡ suc (t - 1) = omega arith in rw (s, ← e) (rw q at h)

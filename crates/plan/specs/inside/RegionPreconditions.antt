@@ -1,5 +1,4 @@
 -- What the functions of the ledger are handed, and what they hand on.
--- Assumes nothing.
 use mathlib.Core.Path.{_≡_}
 use mathlib.Core.List.{List}
 use Prim.Native.Nat.{ℕ, _+_, _<_, _≤_}

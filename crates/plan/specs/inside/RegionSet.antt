@@ -1,5 +1,4 @@
 -- What it is that a set names only nodes, by its items.
--- Assumes nothing.
 use mathlib.Core.Path.{_≡_, refl, _∙_}
 use mathlib.Core.Bool.{true}
 use mathlib.Core.List.{List}

@@ -1,5 +1,4 @@
 -- The sizes of a region's summands and sums, by which none is too large for the machine.
--- Assumes nothing.
 use mathlib.Core.Path.{_≡_, refl}
 use mathlib.Core.Bool.{Bool, true, false, cond, _&&_}
 use mathlib.Core.List.{List}

@@ -1,6 +1,5 @@
 -- The way to demand 3: 28 and 33 of an accepted plan bound each residual by E, the balance of the steps is added up, and 40 and 41 pass a set of nodes and
 -- times in their order.
--- Assumes nothing.
 use mathlib.Core.Path.{_≡_, ap, ap₂, _∙_}
 use mathlib.Core.Bool.{Bool, true, false, not, _&&_, _||_}
 use mathlib.Core.List.{List}
@@ -71,7 +70,8 @@ product r m (pos s) (pos t) (negsuc e) h k l b = let f : ⊥ = omega ints in abs
 record Sound (case plan : List ℤ) : Type 0 where
   ends : EndsAreNodes case
   tolerance : leZ (pos 0) (massTolerance case) ≡ true
-  pipes : (i e : ℕ) → i < stepsOf case → e < arcsOf case → isPipe case e ≡ true → pipeResidual case (pressureAt case plan i) (stepRows case plan i) i e ≤ posPart (massTolerance case)
+  pipes : (i e : ℕ) → i < stepsOf case → e < arcsOf case → isPipe case e ≡ true
+      → pipeResidual case (pressureAt case plan i) (stepRows case plan i) i e ≤ posPart (massTolerance case)
   nodes : (i u : ℕ) → i < stepsOf case → u < nodesOf case → nodeResidual case (stepRows case plan i) i u ≤ posPart (massTolerance case)
 
 or-second : (a b : Bool) → a ≡ true → not a || b ≡ true → b ≡ true
@@ -115,14 +115,15 @@ module _ (case plan : List ℤ) (set s t : ℤ) (totals : Totals) (accepted : ju
       record {
         balance = let h = region-balance case plan set (r .ends) a b (omega (ints, k .order, k .first, size s, size t)) in omega ints;
         bound =
-            rw (nodes-counted case set nodes)
-            (product (residualOver case plan set a b) (count (nodesOf case) (memberOf set) + innerPipes case set) s t (massTolerance case) (k .first) (k .order) (r .tolerance)
-            (residual-bound case plan set e a b (λ u i p l q. r .nodes i u (omega arith) p) (λ x i p k l q. r .pipes i x (omega arith) p k)));
+            let n = count (nodesOf case) (memberOf set) + innerPipes case set in
+            let h = residual-bound case plan set e a b (λ u i p l q. r .nodes i u (omega arith) p) (λ x i p k l q. r .pipes i x (omega arith) p k) in
+            rw (nodes-counted case set nodes) (product (residualOver case plan set a b) n s t (massTolerance case) (k .first) (k .order) (r .tolerance) h);
       }
 
 -- ---- the same where the hypotheses are plain
 
-module _ (case plan : List ℤ) (set s t : ℤ) (totals : Totals) (accepted : judgeOf case plan ≡ verdictTold (Accepted totals)) (region : RegionOf case set s t) where
+module _ (case plan : List ℤ) (set s t : ℤ) (totals : Totals) (accepted : judgeOf case plan ≡ verdictTold (Accepted totals))
+    (region : RegionOf case set s t) where
   pub region-nodes : namesNodes case set ≡ true
   region-nodes =
       let c : AcceptedCase case = record { yes = sound case plan totals accepted .case-yes } in

@@ -1,5 +1,4 @@
 -- What the functions inside are handed: sizes that earlier questions have let pass, by which no sum or product is too large.
--- Assumes nothing.
 use mathlib.Core.List.{List}
 use Prim.Native.Nat.{ℕ, _<_, _≤_}
 use lib.IntN.{ℤ}

@@ -1,5 +1,4 @@
 -- Every refusal of a plan and of the ledger has a small number, step and place: a place is a node, an arc or a station.
--- Assumes nothing.
 use mathlib.Core.Bool.{Bool, true, false, cond}
 use mathlib.Core.List.{List, _∷_, _++_}
 use Prim.Native.Nat.{ℕ, zero, suc, _+_, _-_, _<_, _≤_}
@@ -27,7 +26,8 @@ use Rattle.plan.specs.law.Ledger.{setRoom, isNodeSet, lowestOf, foreignN
 
 module _ {case : List ℤ} (c : Counted case) where
   step-small : (old : ℕ → ℤ) (rows : List ℤ) (i : ℕ) → i < stepsOf case → AllSmall limit (stepQuestions case old rows i)
-  unfolding stepQuestions allNodeQuestions nodeQuestions allArcQuestions arcQuestions flowQuestions pressureQuestions pipeQuestions allStationQuestions stationQuestions allBalanceQuestions balanceQuestions
+  unfolding stepQuestions allNodeQuestions nodeQuestions allArcQuestions arcQuestions flowQuestions pressureQuestions pipeQuestions
+      allStationQuestions stationQuestions allBalanceQuestions balanceQuestions
   step-small old rows i l =
       let k : i < 48 = omega (arith, l, c .steps) in
       all-append limit (allNodeQuestions case rows i) (allArcQuestions case old rows i ++ (allStationQuestions case rows i ++ allBalanceQuestions case rows i))
@@ -41,8 +41,8 @@ module _ {case : List ℤ} (c : Counted case) where
   pub plan-small : (plan : List ℤ) → Small limit (firstNo (planQuestions case plan))
   unfolding planQuestions planStep
   plan-small plan =
-      all-small limit (headQuestion case plan ∷ over (planStep case plan) 0 (stepsOf case))
-      (omega arith, omega arith, omega arith, omega arith, all-over limit (planStep case plan) 0 (stepsOf case) (λ i l. step-small _ _ (0 + i) (omega (arith, l))))
+      let s = all-over limit (planStep case plan) 0 (stepsOf case) (λ i l. step-small _ _ (0 + i) (omega (arith, l))) in
+      all-small limit (headQuestion case plan ∷ over (planStep case plan) 0 (stepsOf case)) (omega arith, omega arith, omega arith, omega arith, s)
 
 module _ (case plan : List ℤ) where
   pub judge-small : Small limit (firstNo (questions case plan))

@@ -1,5 +1,4 @@
 -- What is gathered for all stations in one pass over a step's arcs.
--- Assumes nothing.
 use mathlib.Core.Path.{_≡_}
 use mathlib.Core.Bool.{cond}
 use mathlib.Core.List.{List}

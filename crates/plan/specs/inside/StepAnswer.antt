@@ -1,5 +1,4 @@
 -- A step's answer with what its nodes leave over, where it is yes.
--- Assumes nothing.
 use mathlib.Core.Path.{_≡_, refl}
 use Prim.Native.Nat.{ℕ}
 use native.Mathlib.Omega.{arith}

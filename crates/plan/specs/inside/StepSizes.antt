@@ -1,9 +1,8 @@
 -- How large what a step adds to the totals can be, and the parts of a cost by the code's tests.
--- Assumes nothing.
 use mathlib.Core.Path.{_≡_, refl, sym, ap}
 use mathlib.Core.Bool.{Bool, true, false, not, _&&_}
 use mathlib.Core.List.{List}
-use Prim.Native.Nat.{ℕ, _+_, _*_, _<_, _≤_}
+use Prim.Native.Nat.{ℕ, _<_, _≤_}
 use native.Mathlib.Omega.{arith}
 use borrow.Author.Tests.{leb-true, eqb-true, eq-eqb, ne-eqb}
 use lib.Dec.{eqb, leb}
@@ -20,7 +19,8 @@ use Rattle.plan.specs.inside.Preconditions.{AcceptedCase, AtPipe, Choice
 use Rattle.plan.specs.inside.CaseSizes.{counted, from-node, to-node, pipe-sized, weight-in, direction-weight, state-weight}
 use Rattle.plan.specs.law.Pipes.{isPipe}
 use Rattle.plan.specs.law.Balance.{nodeResidual}
-use Rattle.plan.specs.law.Totals.{changed, pressureSlackAt, demandSlackAt, pressureSlackIn, demandSlackIn, directionCost, stateCost, activityCost, choiceCost, choiceCosts, activityPart, activityCosts, pipePart, pipeResiduals, nodeResiduals, gasPart}
+use Rattle.plan.specs.law.Totals.{pressureSlackAt, demandSlackAt, pressureSlackIn, demandSlackIn, pipePart, pipeResiduals, nodeResiduals, gasPart}
+use Rattle.plan.specs.law.Totals.{changed, directionCost, stateCost, activityCost, choiceCost, choiceCosts, activityPart, activityCosts}
 
 -- ---- a cost by the code's tests
 
@@ -75,11 +75,11 @@ module _ {case : List ℤ} (c : AcceptedCase case) where
   module _ {rows : List ℤ} (h : ChoicesKept case rows) (s : ℕ) (q : s < stationsOf case) where
     pub direction-le : (was : ℕ) → directionCost case was rows s ≤ 1000000
     unfolding directionCost
-    direction-le was = only-le (not (eqb (directionIn case rows s) was)) (directionOf case s (directionIn case rows s) .weight) (direction-weight c s q (directionIn case rows s) (h .direction s q))
+    direction-le was = only-le (not (eqb (directionIn case rows s) was)) _ (direction-weight c s q (directionIn case rows s) (h .direction s q))
 
     pub state-le : (was : ℕ) → stateCost case was rows s ≤ 1000000
     unfolding stateCost
-    state-le was = only-le (not (eqb (stateIn case rows s) was)) (stateOf case s (stateIn case rows s) .weight) (state-weight c s q (stateIn case rows s) (h .state s q))
+    state-le was = only-le (not (eqb (stateIn case rows s) was)) _ (state-weight c s q (stateIn case rows s) (h .state s q))
 
 module _ {case rows : List ℤ} (h : NodesSized case rows) (v : ℕ) (q : v < nodesOf case) where
   pub pressure-slack-le : natAbs (pressureSlackAt rows v) ≤ 800000

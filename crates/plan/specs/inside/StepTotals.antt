@@ -1,5 +1,4 @@
 -- What a step adds to the totals, as the loop over the steps has it.
--- Assumes nothing.
 use mathlib.Core.Path.{_≡_}
 use mathlib.Core.List.{List}
 use Prim.Native.Nat.{ℕ, _+_, _≤_}
@@ -27,7 +26,8 @@ pub record TotalsSized (t : Totals) : Type 0 where
 pub record Added (case rows : List ℤ) (p : Previous) (i : ℕ) (t u : Totals) : Type 0 where
   pub pressure : u .pressure ≡ t .pressure +ℤ pressureSlackIn case rows
   pub demand : u .demand ≡ t .demand +ℤ demandSlackIn case rows
-  pub switching : u .switching ≡ t .switching + (choiceCosts case (indexOf (p .directions)) (indexOf (p .states)) rows + activityCosts case (activeOf (p .active)) rows)
+  pub switching : u .switching
+      ≡ t .switching + (choiceCosts case (indexOf (p .directions)) (indexOf (p .states)) rows + activityCosts case (activeOf (p .active)) rows)
   pub residual : u .residual ≡ t .residual + (pipeResiduals case (numberAt (p .pressures)) rows i + nodeResiduals case rows i)
   pub opening : u .opening ≡ t .opening
 

@@ -1,5 +1,4 @@
 -- From the answer on a case to the verdict, over plain lists.
--- Assumes nothing.
 use mathlib.Core.Path.{_≡_, refl, ap, sym, _∙_}
 use mathlib.Core.Bool.{Bool, true, false}
 use mathlib.Core.List.{List, [], _∷_}
@@ -44,13 +43,14 @@ module _ (case plan : List ℤ) where
   unfolding stepAt stepWidth
   head-length l d = rw (d .steps, d .nodes, d .arcs, d .stations)
 
-  pub head-yes : {a b : Bool} → a ≡ same (numberAt plan 0) (pos 1) → b ≡ same (numberAt plan 1) (pos (stepsOf case)) → a ≡ true → b ≡ true → eqb (length plan) (stepAt case (stepsOf case)) ≡ headKept case plan
-  unfolding headKept
-  head-yes e d h k = rw (sym e ∙ h, sym d ∙ k)
+  module _ {a b : Bool} (e : a ≡ same (numberAt plan 0) (pos 1)) (d : b ≡ same (numberAt plan 1) (pos (stepsOf case))) (h : a ≡ true) where
+    pub head-yes : b ≡ true → eqb (length plan) (stepAt case (stepsOf case)) ≡ headKept case plan
+    unfolding headKept
+    head-yes k = rw (sym e ∙ h, sym d ∙ k)
 
-  pub head-second : {a b : Bool} → a ≡ same (numberAt plan 0) (pos 1) → b ≡ same (numberAt plan 1) (pos (stepsOf case)) → a ≡ true → b ≡ false → false ≡ headKept case plan
-  unfolding headKept
-  head-second e d h k = rw (sym e ∙ h, sym d ∙ k)
+    pub head-second : b ≡ false → false ≡ headKept case plan
+    unfolding headKept
+    head-second k = rw (sym e ∙ h, sym d ∙ k)
 
   pub head-first : {a : Bool} → a ≡ same (numberAt plan 0) (pos 1) → a ≡ false → false ≡ headKept case plan
   unfolding headKept
@@ -66,13 +66,15 @@ module _ (case plan : List ℤ) where
   unfolding planQuestions
   head-refused h = rw h
 
-  pub head-passed : {r : Verdict} → headKept case plan ≡ true → r ≡ verdictOf (firstNo (over (planStep case plan) 0 (stepsOf case))) (totalsOf case plan) → r ≡ verdictOf (firstNo (planQuestions case plan)) (totalsOf case plan)
+  pub head-passed : {r : Verdict} → headKept case plan ≡ true → r ≡ verdictOf (firstNo (over (planStep case plan) 0 (stepsOf case))) (totalsOf case plan)
+      → r ≡ verdictOf (firstNo (planQuestions case plan)) (totalsOf case plan)
   unfolding planQuestions
   head-passed h e = rw h e
 
   -- ---- the verdict on two lists
 
-  pub judge-yes : firstNo (caseQuestions case) ≡ Yes → {r : Verdict} → r ≡ verdictOf (firstNo (planQuestions case plan)) (totalsOf case plan) → verdictTold r ≡ judgeOf case plan
+  pub judge-yes : firstNo (caseQuestions case) ≡ Yes → {r : Verdict} → r ≡ verdictOf (firstNo (planQuestions case plan)) (totalsOf case plan)
+      → verdictTold r ≡ judgeOf case plan
   unfolding judgeOf questions
   judge-yes y e = ap verdictTold e ∙ rw (firstNo-append, y)
 
@@ -107,7 +109,8 @@ module _ (bytes : List ℕ) (room : ℕ) where
           h ∙ rw (a, b)
 
   -- the numbers that were read are the front of the list
-  pub read-front : {count : ℕ} (old list : List ℤ) → ReadAll count → list ≡ overlay (readOf bytes room .stored) old → take count list ≡ readOf bytes room .stored
+  pub read-front : {count : ℕ} (old list : List ℤ) → ReadAll count → list ≡ overlay (readOf bytes room .stored) old
+      → take count list ≡ readOf bytes room .stored
   read-front {count} old list r e = rw e (take-at (readOf bytes room .stored) (drop (length (readOf bytes room .stored)) old) count (sym (r .counted)))
 
 -- ---- the verdict on two byte strings: what is told, and the plan's list, from where the case list is known, and from where the case is accepted
@@ -122,7 +125,8 @@ unfoldable pub planListAfter : List ℤ → List ℕ → List ℤ → List ℤ
 planListAfter case planBytes list = reachedIf (firstNo (caseQuestions case)) (overlay (readOf planBytes (length list) .stored) list) list
 
 module _ (case : List ℤ) (planBytes : List ℕ) (room : ℕ) where
-  pub plan-read : {count : ℕ} (list : List ℤ) {r : Verdict} → firstNo (caseQuestions case) ≡ Yes → ReadAll planBytes room count → take count list ≡ readOf planBytes room .stored
+  pub plan-read : {count : ℕ} (list : List ℤ) {r : Verdict} → firstNo (caseQuestions case) ≡ Yes → ReadAll planBytes room count
+      → take count list ≡ readOf planBytes room .stored
       → r ≡ verdictOf (firstNo (planQuestions case (take count list))) (totalsOf case (take count list)) → verdictTold r ≡ planBytesTold case planBytes room
   unfolding planBytesTold
   plan-read {count} list y a e h = judge-yes case (take count list) y h ∙ rw (e, a .ended)
@@ -137,7 +141,8 @@ module _ (case : List ℤ) (planBytes : List ℕ) (list : List ℤ) where
   unfolding caseListTold
   case-passed y e = rw y e
 
-  pub list-reached : {new : List ℤ} → firstNo (caseQuestions case) ≡ Yes → new ≡ overlay (readOf planBytes (length list) .stored) list → new ≡ planListAfter case planBytes list
+  pub list-reached : {new : List ℤ} → firstNo (caseQuestions case) ≡ Yes → new ≡ overlay (readOf planBytes (length list) .stored) list
+      → new ≡ planListAfter case planBytes list
   unfolding planListAfter
   list-reached y e = rw y e
 

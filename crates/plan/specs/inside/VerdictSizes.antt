@@ -1,5 +1,4 @@
 -- The numbers of a verdict, of the answer on two byte strings and of the ledger fit what an export hands on.
--- Assumes nothing.
 use mathlib.Core.Path.{_≡_, refl, ap}
 use mathlib.Core.Bool.{Bool, true, false, cond}
 use mathlib.Core.List.{List, [], _∷_}
@@ -64,14 +63,18 @@ module _ (case plan : List ℤ) (y : firstNo (questions case plan) ≡ Yes) wher
 
   step-yes : (i : ℕ) → i < stepsOf case → firstNo (stepQuestions case (pressureAt case plan i) (stepRows case plan i) i) ≡ Yes
   unfolding questions planQuestions planStep
-  step-yes i l = item-yes (planStep case plan) (stepsOf case) (second-yes (headQuestion case plan ∷ []) (over (planStep case plan) 0 (stepsOf case)) (second-yes (caseQuestions case) (planQuestions case plan) y)) i l
+  step-yes i l =
+      let p = second-yes (caseQuestions case) (planQuestions case plan) y in
+      item-yes (planStep case plan) (stepsOf case) (second-yes (headQuestion case plan ∷ []) (over (planStep case plan) 0 (stepsOf case)) p) i l
 
   switching-small : totalsOf case plan .switching ≤ 6528000000
   unfolding totalsOf totalsTo stepSwitching
   switching-small =
       let b = sumN-bound (stepsOf case) 136000000 (stepSwitching case plan) (λ i l.
       let rows = stepRows case plan i in
-      omega (arith, choice-costs-le rows accepted (choices-kept case rows i (stations-yes case (pressureAt case plan i) rows i (step-yes i l))) (directionChosen case plan i) (stateChosen case plan i), activity-costs-le rows accepted (activeAt case plan i))) in
+      let k = choices-kept case rows i (stations-yes case (pressureAt case plan i) rows i (step-yes i l)) in
+      let c = choice-costs-le rows accepted k (directionChosen case plan i) (stateChosen case plan i) in
+      omega (arith, c, activity-costs-le rows accepted (activeAt case plan i))) in
       omega (arith, b, counted accepted .steps)
 
   residual-small : totalsOf case plan .residual ≤ 8640000000
@@ -87,33 +90,35 @@ module _ (case plan : List ℤ) (y : firstNo (questions case plan) ≡ Yes) wher
 
 -- ---- the verdict on two lists
 
-refused-same : {n s p m t q : ℕ} → refuses n s p ≡ refuses m t q → (n ≡ m) × (s ≡ t) × (p ≡ q)
-refused-same e = (ap (λ (x : Told). x .number) e, ap (λ (x : Told). natAbs (getD (x .values) 0 (pos 0))) e, ap (λ (x : Told). natAbs (getD (x .values) 1 (pos 0))) e)
-
 values : Told → ℕ
 values t = length (t .values)
 
 at : Told → ℕ → ℕ
 at t i = natAbs (getD (t .values) i (pos 0))
 
+refused-same : {n s p m t q : ℕ} → refuses n s p ≡ refuses m t q → (n ≡ m) × (s ≡ t) × (p ≡ q)
+unfolding at
+refused-same e = (ap (λ (x : Told). x .number) e, ap (λ (x : Told). at x 0) e, ap (λ (x : Told). at x 1) e)
+
 module _ (case plan : List ℤ) where
   pub judge-fits : (v : Verdict) → verdictTold v ≡ judgeOf case plan → Fit (2 ^ 63) v
   unfolding judgeOf values at
   judge-fits v e = go (firstNo (questions case plan)) refl (judge-small case plan) v e
     where
-      go : (a : Answer) → firstNo (questions case plan) ≡ a → Small limit a → (v : Verdict) → verdictTold v ≡ verdictTold (verdictOf a (totalsOf case plan)) → Fit (2 ^ 63) v
+      go : (a : Answer) → firstNo (questions case plan) ≡ a → Small limit a → (v : Verdict)
+          → verdictTold v ≡ verdictTold (verdictOf a (totalsOf case plan)) → Fit (2 ^ 63) v
       go Yes y s (Accepted t) e =
           (omega (arith, ap (λ (x : Told). at x 2) e, switching-small case plan y), omega (arith, ap (λ (x : Told). at x 3) e, residual-small case plan y))
       go Yes y s (Refused n t p) e = let f : ⊥ = omega (arith, ap values e) in absurd f
       go (No m u q) y s (Accepted t) e = let f : ⊥ = omega (arith, ap values e) in absurd f
-      go (No m u q) y s (Refused n t p) e = let k = refused-same e in (omega (arith, k .0, s .0), omega (arith, k .1, s .1), omega (arith, k .2, s .2), omega (arith, k .0, s .3))
+      go (No m u q) y s (Refused n t p) e = let k = refused-same e in (omega arith, omega arith, omega arith, omega arith)
 
 -- ---- the verdict on two byte strings
 
 fit-refused : (v : Verdict) {n s p : ℕ} → verdictTold v ≡ refuses n s p → n < 2 ^ 63 → s < 2 ^ 63 → p < 2 ^ 63 → 1 ≤ n → Fit (2 ^ 63) v
 unfolding values
 fit-refused (Accepted t) e h k l w = let f : ⊥ = omega (arith, ap values e) in absurd f
-fit-refused (Refused m t q) e h k l w = let r = refused-same e in (omega (arith, r .0), omega (arith, r .1), omega (arith, r .2), omega (arith, r .0))
+fit-refused (Refused m t q) e h k l w = let r = refused-same e in (omega arith, omega arith, omega arith, omega arith)
 
 unread-small : (bytes : List ℕ) (room : ℕ) {n p : ℕ} → readOf bytes room .ended ≡ no n p → (n ≤ 3) × (p < length bytes) × (1 ≤ n)
 unfolding readTold
@@ -163,8 +168,8 @@ bytes-fit caseBytes planBytes caseList planList small short v e =
     let plan = readOf planBytes (length planList) .stored in
     refused-or-fit v (readAnswer (readOf caseBytes (length caseList) .ended)) (read-fit caseBytes (length caseList) (2 ^ 63) small (omega arith))
     (refused-or-fit v (firstNo (caseQuestions case)) (case-fit case)
-    (refused-or-fit v (onPlanBytes (readAnswer (readOf planBytes (length planList) .ended))) (plan-read-fit planBytes (length planList) (2 ^ 63) short (omega arith))
-    (judge-fits case plan v)))
+    (refused-or-fit v (onPlanBytes (readAnswer (readOf planBytes (length planList) .ended)))
+    (plan-read-fit planBytes (length planList) (2 ^ 63) short (omega arith)) (judge-fits case plan v)))
     e
 
 -- ---- the ledger
@@ -209,10 +214,11 @@ module _ (case plan : List ℤ) (set s t : ℤ) where
   unfolding ledgerOf values at
   ledger-fits v e = go (firstNo (ledgerQuestions case plan set s t)) refl (ledger-small case plan set s t) v e
     where
-      go : (a : Answer) → firstNo (ledgerQuestions case plan set s t) ≡ a → Small limit a → (v : Ledger) → ledgerTold v ≡ ledgerTold (ledgerBy a (figuresOf case plan set (posPart s) (posPart t))) → FitLedger (2 ^ 63) v
+      go : (a : Answer) → firstNo (ledgerQuestions case plan set s t) ≡ a → Small limit a → (v : Ledger)
+          → ledgerTold v ≡ ledgerTold (ledgerBy a (figuresOf case plan set (posPart s) (posPart t))) → FitLedger (2 ^ 63) v
       go Yes y w (Given f) e =
           let k = figures-fit y in
           (omega (arith, ap (λ (x : Told). at x 0) e, k .0), omega (arith, ap (λ (x : Told). at x 1) e, k .1), omega (arith, ap (λ (x : Told). at x 5) e, k .2))
       go Yes y w (stopped.Refused n u p) e = let f : ⊥ = omega (arith, ap values e) in absurd f
       go (No m i q) y w (Given g) e = let f : ⊥ = omega (arith, ap values e) in absurd f
-      go (No m i q) y w (stopped.Refused n u p) e = let k = refused-same e in (omega (arith, k .0, w .0), omega (arith, k .1, w .1), omega (arith, k .2, w .2))
+      go (No m i q) y w (stopped.Refused n u p) e = let k = refused-same e in (omega arith, omega arith, omega arith)

@@ -26,11 +26,13 @@ returns c =
     let e = b .before .before in
     let a = e .before .before .before .before .args in
     let y = asked (e .before .before) ∙ e .enum-told .given .1 in
-    (case-passed (now (a .case)) (now (a .planbytes)) (now (a .planlist)) y (b .judge-plan-bytes .ensures .0), list-reached _ _ _ y (b .judge-plan-bytes .ensures .1))
+    let h = b .judge-plan-bytes .ensures in
+    (case-passed (now (a .case)) (now (a .planbytes)) (now (a .planlist)) y (h .0), list-reached _ _ _ y (h .1))
 
 returns-2 : tie.Need-returns-2
 returns-2 c = case-stopped _ _ _ (asked (c .before .before .before) ∙ c .before .a .given .1)
 
 pub judge-case-list-spec : {M : Type 1} → statement M
 judge-case-list-spec = tie.close (tie.spec
-    (λ c κs. search needs) (λ c. search needs) judge-plan-bytes-requires (λ c. search needs) (λ c. search needs) returns returns-2)
+    (λ c κs. search needs) (λ c. search needs) judge-plan-bytes-requires (λ c. search needs) (λ c. search needs) returns
+    returns-2)

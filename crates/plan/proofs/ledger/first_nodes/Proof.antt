@@ -1,3 +1,4 @@
+-- One bit shifted by n and less 1 is the set of the first n items, and 60 of them fit a signed number.
 use borrow.Author.Needs.{needs}
 use native.Mathlib.Omega.{arith}
 use mir.Syntax.{w64}

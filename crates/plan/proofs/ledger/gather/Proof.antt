@@ -5,7 +5,6 @@ use native.Mathlib.Omega.{arith}
 use mir.Facts.{toZ-ofZ}
 use mir.Syntax.{w64}
 use mir.Val.{toZ}
-use lib.IntN.{ℤ}
 use denote.Ref.{now}
 use Rattle.case.specs.law.Layout.{stepsOf}
 use Rattle.plan.specs.inside.RegionLoop.{Gathering, StepWithin, gathering, step-handed, room, turn, step-within, row-is}
@@ -55,9 +54,10 @@ returns c =
     let s = l .before .before in
     let e : l .loop .i ≡ s .args .t = omega arith in
     subst (λ (i : ℕ). Gathering (now (s .args .case)) (now (s .args .plan)) (s .args .set) (s .args .s) i (l .loop .g)) e
-    (subst (λ (z : ℤ). Gathering (now (s .args .case)) (now (s .args .plan)) z (s .args .s) (l .loop .i) (l .loop .g)) (toZ-ofZ (s .fits .set)) (l .loop .inv .1))
+    (rw (toZ-ofZ (s .fits .set)) at (l .loop .inv .1))
 
 pub gather-spec : {M : Type 1} → statement M
 gather-spec = tie.close (tie.spec
-    Inv-loop μ-loop pressures-at-requires loop-holds (λ c. omega (arith, within c)) (λ c. omega (arith, within c)) (λ c. omega (arith, within c)) (λ c. omega (arith, within c)) (λ c. omega arith)
-    (λ c. omega arith) (λ c. omega (arith, within c)) with-step-requires (λ c. omega arith) (λ c. omega arith) loop-again returns)
+    Inv-loop μ-loop pressures-at-requires loop-holds (λ c. omega (arith, within c)) (λ c. omega (arith, within c))
+    (λ c. omega (arith, within c)) (λ c. omega (arith, within c)) (λ c. omega arith) (λ c. omega arith)
+    (λ c. omega (arith, within c)) with-step-requires (λ c. omega arith) (λ c. omega arith) loop-again returns)

@@ -1,11 +1,11 @@
-use mathlib.Core.Path.{_≡_, refl, sym, ap, _∙_}
+-- The lowest item from n on is the lowest from v on, as no item between them is in the set.
+use mathlib.Core.Path.{_≡_, refl, sym, _∙_}
 use Prim.Native.Nat.{_-_, _≤_}
 use native.Mathlib.Omega.{arith}
 use borrow.Author.Needs.{needs}
 use mir.Facts.{toZ-ofZ}
 use mir.Syntax.{w64}
-use mir.Val.{toZ, ofZ}
-use lib.IntN.{ℤ}
+use mir.Val.{toZ}
 use Rattle.plan.specs.law.Ledger.{lowestOf}
 use Rattle.plan.proofs.RegionTests.{lowest-here, lowest-on, lowest-none}
 use Rattle.plan.proofs.ledger.lowest.Statement.{statement}
@@ -23,22 +23,18 @@ loop-holds c = (omega arith, refl)
 returns : tie.Need-returns Inv-loop μ-loop
 returns c =
     let l = c .before .before .before in
-    let s = l .before in
-    lowest-here (toZ w64 (ofZ w64 (s .args .set))) (l .loop .v) (c .before .before .loop-test .taken) (sym (c .before .member .ensures) ∙ c .if1 .taken)
-    ∙ sym (l .loop .inv .1) ∙ ap (λ (x : ℤ). lowestOf x (s .args .n) (60 - s .args .n)) (toZ-ofZ (s .fits .set))
+    let e = lowest-here _ _ (c .before .before .loop-test .taken) (sym (c .before .member .ensures) ∙ c .if1 .taken) in
+    rw (toZ-ofZ (l .before .fits .set)) at (e ∙ sym (l .loop .inv .1))
 
 loop-again : tie.Need-loop-again Inv-loop μ-loop
 loop-again c =
     let l = c .before .before .before in
-    let s = l .before in
-    (omega arith, l .loop .inv .1 ∙ lowest-on (toZ w64 (ofZ w64 (s .args .set))) (l .loop .v) (c .before .before .loop-test .taken) (sym (c .before .member .ensures) ∙ c .if1 .left))
+    (omega arith, l .loop .inv .1 ∙ lowest-on _ _ (c .before .before .loop-test .taken) (sym (c .before .member .ensures) ∙ c .if1 .left))
 
 returns-2 : tie.Need-returns-2 Inv-loop μ-loop
 returns-2 c =
     let l = c .before in
-    let s = l .before in
-    lowest-none (toZ w64 (ofZ w64 (s .args .set))) (l .loop .v) (c .loop-test .left)
-    ∙ sym (l .loop .inv .1) ∙ ap (λ (x : ℤ). lowestOf x (s .args .n) (60 - s .args .n)) (toZ-ofZ (s .fits .set))
+    rw (toZ-ofZ (l .before .fits .set)) at (lowest-none _ _ (c .loop-test .left) ∙ sym (l .loop .inv .1))
 
 pub lowest-spec : {M : Type 1} → statement M
 lowest-spec = tie.close (tie.spec

@@ -38,5 +38,5 @@ returns-2 c = rw (sym (in-range (c .before)) ∙ c .if1 .left)
 
 pub names-nodes-spec : {M : Type 1} → statement M
 names-nodes-spec = tie.close (tie.spec
-    (λ c κs. search needs) (λ c κs. search needs) (λ c κs. search needs) (λ c κs. search needs) (λ c κs. few (c .before .before .before))
-    (λ c κs. search needs) returns returns-2)
+    (λ c κs. search needs) (λ c κs. search needs) (λ c κs. search needs) (λ c κs. search needs)
+    (λ c κs. few (c .before .before .before)) (λ c κs. search needs) returns returns-2)

@@ -26,5 +26,6 @@ returns-2 c =
 
 pub pressures-at-spec : {M : Type 1} → statement M
 pressures-at-spec = tie.close (tie.spec
-    (λ c κs. few (c .before)) returns (λ c. omega arith) (λ c. omega (arith, within c)) (λ c. omega (arith, within c)) (λ c. omega (arith, within c)) (λ c. omega (arith, within c)) (λ c. search needs)
-    (λ c. search needs) (λ c. omega (arith, within c)) (λ c κs. few (c .before .before)) returns-2)
+    (λ c κs. few (c .before)) returns (λ c. omega arith) (λ c. omega (arith, within c)) (λ c. omega (arith, within c))
+    (λ c. omega (arith, within c)) (λ c. omega (arith, within c)) (λ c. search needs) (λ c. search needs)
+    (λ c. omega (arith, within c)) (λ c κs. few (c .before .before)) returns-2)

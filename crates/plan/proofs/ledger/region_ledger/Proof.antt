@@ -93,5 +93,7 @@ add-width-2 c = omega (arith, few-arcs (c .before .before), few-stations c)
 
 pub region-ledger-spec : {M : Type 1} → statement M
 region-ledger-spec = tie.close (tie.spec
-    (λ c κs. record { yes = c .pre .case-yes }) (λ c. search needs) (λ c κs. search needs) (λ c κs. search needs) (λ c κs. search needs)
-    (λ c κs. search needs) (λ c. omega (arith, few-arcs c)) (λ c. omega (arith, few-arcs c)) (λ c. omega (arith, few-arcs c)) (λ c κs. search needs) (λ c κs. search needs) (λ c. omega (arith, few-stations c)) add-width-2 (λ c κs. search needs) (λ c κs. search needs) figures-requires (λ c. search needs) returns returns-2)
+    (λ c κs. record { yes = c .pre .case-yes }) (λ c. search needs) (λ c κs. search needs) (λ c κs. search needs)
+    (λ c κs. search needs) (λ c κs. search needs) (λ c. omega (arith, few-arcs c)) (λ c. omega (arith, few-arcs c))
+    (λ c. omega (arith, few-arcs c)) (λ c κs. search needs) (λ c κs. search needs) (λ c. omega (arith, few-stations c))
+    add-width-2 (λ c κs. search needs) (λ c κs. search needs) figures-requires (λ c. search needs) returns returns-2)

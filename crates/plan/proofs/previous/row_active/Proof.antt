@@ -1,4 +1,4 @@
--- The array holds the activity of the arcs passed. Assumes nothing.
+-- The array holds the activity of the arcs passed, and each turn sets that of the next arc.
 use mathlib.Core.Path.{ap, _∙_}
 use Prim.Native.Nat.{_-_}
 use native.Mathlib.Omega.{arith}
@@ -24,10 +24,10 @@ loop-holds c = start (c .good .0 .1 .0 .1)
 
 loop-again : tie.Need-loop-again Inv-loop μ-loop
 loop-again c =
-    let h = c .before .before .before .before in
-    let s = h .before in
-    turn (h .loop .inv) (c .before .before .before .loop-test .taken) (omega (arith, s .pre .0 .arcs, s .pre .1))
-    (c .at-most .ensures ∙ ap (leZ (pos 1)) (kept _ (c .before .struct-told .given .1 .1 .0 .1) ∙ ap (λ (x : ArcRow). x .setting) (c .before .before .arc-row .ensures)))
+    let t = c .before .before .before in
+    let y = t .before .before .pre in
+    let r = kept _ (c .before .struct-told .given .1 .1 .0 .1) ∙ ap (λ (x : ArcRow). x .setting) (c .before .before .arc-row .ensures) in
+    turn (t .before .loop .inv) (t .loop-test .taken) (omega (arith, y .0 .arcs, y .1)) (c .at-most .ensures ∙ ap (leZ (pos 1)) r)
 
 returns : tie.Need-returns Inv-loop μ-loop
 returns c = end (c .before .loop .inv) (c .loop-test .left)

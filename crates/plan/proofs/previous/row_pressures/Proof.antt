@@ -1,4 +1,4 @@
--- The array holds the pressures of the nodes passed. Assumes nothing.
+-- The array holds the pressures of the nodes passed, and each turn sets that of the next node.
 use mathlib.Core.Path.{_∙_}
 use Prim.Native.Nat.{_-_}
 use native.Mathlib.Omega.{arith}

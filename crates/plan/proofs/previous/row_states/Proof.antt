@@ -1,4 +1,4 @@
--- The array holds the states of the stations passed. Assumes nothing.
+-- The array holds the states of the stations passed, and each turn sets that of the next station.
 use mathlib.Core.Path.{ap, _∙_}
 use Prim.Native.Nat.{_-_}
 use native.Mathlib.Omega.{arith}
@@ -22,9 +22,9 @@ loop-holds c = start (c .good .0 .1 .0 .1)
 
 loop-again : tie.Need-loop-again Inv-loop μ-loop
 loop-again c =
-    let h = c .before .before .before .before in
-    let s = h .before in
-    turn (h .loop .inv) (c .before .before .before .loop-test .taken) (omega (arith, s .pre .0 .stations, s .pre .1))
+    let t = c .before .before .before in
+    let y = t .before .before .pre in
+    turn (t .before .loop .inv) (t .loop-test .taken) (omega (arith, y .0 .stations, y .1))
     (c .index .ensures ∙ ap posPart (kept _ (c .before .struct-told .given .1 .0 .1) ∙ ap (λ (x : Choice). x .state) (c .before .before .choice-of .ensures)))
 
 returns : tie.Need-returns Inv-loop μ-loop

@@ -1,4 +1,4 @@
--- The array holds the activity of the arcs passed. Assumes nothing.
+-- The array holds the activity at the start of the arcs passed, and each turn sets that of the next arc.
 use mathlib.Core.Path.{refl}
 use Prim.Native.Nat.{_-_}
 use native.Mathlib.Omega.{arith}

@@ -1,4 +1,4 @@
--- The array holds the directions of the stations passed. Assumes nothing.
+-- The array holds the directions of the stations passed; each is read from the station's row, where the layout says it begins.
 use mathlib.Core.Path.{refl, ap, _∙_}
 use Prim.Native.Nat.{_-_}
 use native.Mathlib.Omega.{arith}

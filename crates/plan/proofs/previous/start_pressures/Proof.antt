@@ -1,4 +1,4 @@
--- The array holds p0 of the nodes passed. Assumes nothing.
+-- The array holds p0 of the nodes passed, and each turn sets that of the next node.
 use mathlib.Core.Path.{refl, ap, _∙_}
 use Prim.Native.Nat.{_-_}
 use native.Mathlib.Omega.{arith}

@@ -32,7 +32,8 @@ inflow d =
 
 -- over the time of the step
 brought : (d : tie.After-duration) → let a = d .before .before .before .args in
-    Held (toZ w64 (ofZ w64 (d .duration .result)) *ℤ toZ w64 (ofZ w64 (toZ w64 (ofZ w64 (d .before .before .supplies .result)) +ℤ toZ w64 (ofZ w64 (d .before .edge-flows .result)))))
+    Held (toZ w64 (ofZ w64 (d .duration .result))
+    *ℤ toZ w64 (ofZ w64 (toZ w64 (ofZ w64 (d .before .before .supplies .result)) +ℤ toZ w64 (ofZ w64 (d .before .edge-flows .result)))))
     (broughtIn (now (a .case)) (a .set) (now (a .rows)) (a .i)) 259200000000000
 unfolding broughtIn
 brought d =

@@ -1,5 +1,5 @@
 -- The count so far is that of the inner pipes among the arcs passed; one arc adds at most one.
-use mathlib.Core.Path.{ap, _∙_}
+use mathlib.Core.Path.{_≡_, ap, _∙_}
 use mathlib.Core.Bool.{Bool}
 use Prim.Native.Nat.{_-_}
 use native.Mathlib.Omega.{arith}
@@ -27,11 +27,15 @@ abbrev μ-loop : tie.MeasureT-loop
 loop-holds : tie.Need-loop-holds Inv-loop μ-loop
 loop-holds c = begunN (λ j l. onlyN-most (innerPipe (now (c .args .case)) (toZ w64 (ofZ w64 (c .args .set))) j)) (omega (arith, counted (c .pre .0) .arcs))
 
+counts : (c : tie.After-one-if Inv-loop μ-loop) → let l = c .before .before .before in let a = l .before .args in
+    c .one-if .result ≡ onlyN (innerPipe (now (a .case)) (toZ w64 (ofZ w64 (a .set))) (l .loop .e)) 1
+counts c = c .one-if .ensures ∙ ap (λ (b : Bool). onlyN b 1) (c .before .inner-pipe .ensures)
+
 add-n : tie.Need-add-n Inv-loop μ-loop
-add-n c = one-fitsN (c .before .before .before .loop .inv) (c .one-if .ensures ∙ ap (λ (b : Bool). onlyN b 1) (c .before .inner-pipe .ensures)) (omega arith)
+add-n c = one-fitsN (c .before .before .before .loop .inv) (counts c) (omega arith)
 
 loop-again : tie.Need-loop-again Inv-loop μ-loop
-loop-again c = one-moreN (c .before .before .before .loop .inv) (c .one-if .ensures ∙ ap (λ (b : Bool). onlyN b 1) (c .before .inner-pipe .ensures)) (omega arith)
+loop-again c = one-moreN (c .before .before .before .loop .inv) (counts c) (omega arith)
 
 returns : tie.Need-returns Inv-loop μ-loop
 unfolding innerPipes count

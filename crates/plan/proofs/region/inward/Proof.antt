@@ -1,3 +1,4 @@
+-- Two answers give four ways: only an arc with one end in the region brings anything, with the sign of that end.
 use mathlib.Core.Path.{_∙_}
 use mir.Facts.{toZ-ofZ}
 use lib.IntN.{pos}

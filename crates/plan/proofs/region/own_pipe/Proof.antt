@@ -19,7 +19,8 @@ pipe-residual-requires : tie.Need-pipe-residual-requires
 pipe-residual-requires c κs =
     let s = c .before .before in
     let h = s .pre .0 in
-    at-pipe (h .accepted) (h .step) (h .kept) (s .pre .1) (eqb-true _ _ (both-true (isPipe (now (s .args .case)) (s .args .e)) _ (inner (c .before) ∙ c .if1 .taken)))
+    let k = both-true (isPipe (now (s .args .case)) (s .args .e)) _ (inner (c .before) ∙ c .if1 .taken) in
+    at-pipe (h .accepted) (h .step) (h .kept) (s .pre .1) (eqb-true _ _ k)
 
 returns : tie.Need-returns
 unfolding ownPipe

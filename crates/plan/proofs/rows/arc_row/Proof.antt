@@ -28,5 +28,7 @@ returns c =
 
 pub arc-row-spec : {M : Type 1} → statement M
 arc-row-spec = tie.close (tie.spec
-    (λ c κs. search needs) (λ c κs. search needs) (λ c. omega (arith, few c)) (λ c. search needs) (λ c. omega (arith, few c)) (λ c κs. search needs)
-    (λ c. omega (arith, few (c .before))) (λ c κs. search needs) (λ c. omega (arith, few (c .before .before))) (λ c κs. search needs) (λ c. omega (arith, few (c .before .before .before))) (λ c κs. search needs) returns)
+    (λ c κs. search needs) (λ c κs. search needs) (λ c. omega (arith, few c)) (λ c. search needs)
+    (λ c. omega (arith, few c)) (λ c κs. search needs) (λ c. omega (arith, few (c .before))) (λ c κs. search needs)
+    (λ c. omega (arith, few (c .before .before))) (λ c κs. search needs)
+    (λ c. omega (arith, few (c .before .before .before))) (λ c κs. search needs) returns)

@@ -17,7 +17,8 @@ nodes-is c = c .index .ensures ∙ ap posPart (kept _ (c .before .at .ok) ∙ c 
 arcs-is : (c : tie.After-index2) → c .index2 .result ≡ arcsOf (now (c .before .before .before .before .args .case))
 arcs-is c = c .index2 .ensures ∙ ap posPart (kept _ (c .before .at2 .ok) ∙ c .before .at2 .ensures)
 
-few : (c : tie.After-index2) → let a = c .before .before .before .before .args in (c .before .before .index .result ≤ 60) × (c .index2 .result ≤ 120) × (a .s < 8)
+few : (c : tie.After-index2) → let a = c .before .before .before .before .args in
+    (c .before .before .index .result ≤ 60) × (c .index2 .result ≤ 120) × (a .s < 8)
 few c =
     let p = c .before .before .before .before .pre in
     (omega (arith, nodes-is (c .before .before), p .0 .nodes), omega (arith, arcs-is c, p .0 .arcs), omega (arith, p .0 .stations, p .1))
@@ -32,4 +33,7 @@ returns c =
 
 pub choice-of-spec : {M : Type 1} → statement M
 choice-of-spec = tie.close (tie.spec
-    (λ c κs. search needs) (λ c κs. search needs) (λ c κs. search needs) (λ c κs. search needs) (λ c. omega (arith, few c)) (λ c. omega (arith, few c)) (λ c. omega (arith, few c)) (λ c. search needs) (λ c. omega (arith, few c)) (λ c κs. search needs) (λ c. omega (arith, few (c .before))) (λ c κs. search needs) returns)
+    (λ c κs. search needs) (λ c κs. search needs) (λ c κs. search needs) (λ c κs. search needs)
+    (λ c. omega (arith, few c)) (λ c. omega (arith, few c)) (λ c. omega (arith, few c)) (λ c. search needs)
+    (λ c. omega (arith, few c)) (λ c κs. search needs) (λ c. omega (arith, few (c .before))) (λ c κs. search needs)
+    returns)

@@ -1,3 +1,4 @@
+-- A refusal is handed on number by number, and a yes is none.
 use borrow.Author.Needs.{needs}
 use Rattle.plan.proofs.stepped.stopped.Statement.{statement}
 use Rattle.plan.proofs.stepped.stopped.Tie as tie

@@ -1,3 +1,4 @@
+-- The end less the offset is the width, so that the part is the step's own.
 use Prim.Native.Nat.{_+_, _*_}
 use native.Mathlib.Nat.{add-sub-cancel-left}
 use borrow.Author.Needs.{needs}

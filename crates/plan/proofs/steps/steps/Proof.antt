@@ -41,7 +41,8 @@ row-is : (p : tie.After-part-of Inv-loop μ-loop) → let a = begin (p .before) 
 row-is p = part-is _ _ _ _ (width (p .before .before .before .before .before)) (p .part-of .ensures)
 
 -- every question of the step is answered yes, and what its nodes leave over is known
-step-yes : (e : tie.After-a Inv-loop μ-loop) → let p = e .before .before .before in let l = p .before .before in let case = now (begin (p .before) .args .case) in
+step-yes : (e : tie.After-a Inv-loop μ-loop) → let p = e .before .before .before in let l = p .before .before in
+    let case = now (begin (p .before) .args .case) in
     (firstNo (stepQuestions case (numberAt (l .loop .previous .pressures)) (now (p .part-of .result)) (l .loop .i)) ≡ Yes)
     × (e .a .given .0 .0 ≡ nodeResiduals case (now (p .part-of .result)) (l .loop .i))
 step-yes e = kept-yes _ (e .before .before .step .ensures) (e .a .given .1)
@@ -77,7 +78,8 @@ returns : tie.Need-returns Inv-loop μ-loop
 returns c =
     let p = c .before .before .before .before in
     let t = p .before in
-    refused (begin t .pre .0) (t .before .loop .inv) (within t) (row-is p) refl (no-first _ _ (c .before .before .before .step .ensures) (c .before .a2 .given .1))
+    let n = no-first _ _ (c .before .before .before .step .ensures) (c .before .a2 .given .1) in
+    refused (begin t .pre .0) (t .before .loop .inv) (within t) (row-is p) refl n
 
 add-i : tie.Need-add-i Inv-loop μ-loop
 add-i c = let t = c .before .before .before .before .before .before .before in omega (arith, within t, counted (begin t .pre .0) .steps)
@@ -100,6 +102,9 @@ returns-2 c =
 
 pub steps-spec : {M : Type 1} → statement M
 steps-spec = tie.close (tie.spec
-    Inv-loop μ-loop (λ c κs. small (c .pre .0) (c .pre .1) .few) (λ c κs. (counted (c .before .pre .0), c .before .pre .1)) opened-requires
-    loop-holds part-of-requires (λ c κs. (at-step (c .before), c .before .before .loop .inv .pressures)) (λ c. search needs) added-requires after-requires (λ c. search needs)
-    returns add-i (λ c. omega (arith, within (c .before .before .before .before .before .before .before))) loop-again closed-requires returns-2)
+    Inv-loop μ-loop (λ c κs. small (c .pre .0) (c .pre .1) .few)
+    (λ c κs. (counted (c .before .pre .0), c .before .pre .1)) opened-requires loop-holds part-of-requires
+    (λ c κs. (at-step (c .before), c .before .before .loop .inv .pressures)) (λ c. search needs) added-requires
+    after-requires (λ c. search needs) returns add-i
+    (λ c. omega (arith, within (c .before .before .before .before .before .before .before))) loop-again closed-requires
+    returns-2)

@@ -37,7 +37,8 @@ returns : tie.Need-returns
 unfolding activityCost
 returns c =
     let d = c .before .before in
-    ap (λ (x : Artificial). x .weight) (c .artificial .ensures) ∙ both-yes _ (artificial (d .before .before .before .before)) (switched d ∙ c .before .if2 .taken)
+    ap (λ (x : Artificial). x .weight) (c .artificial .ensures)
+    ∙ both-yes _ (artificial (d .before .before .before .before)) (switched d ∙ c .before .if2 .taken)
 
 returns-2 : tie.Need-returns-2
 unfolding activityCost

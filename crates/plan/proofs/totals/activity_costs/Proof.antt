@@ -35,5 +35,5 @@ returns c = wholeN (c .before .loop .inv) (omega arith)
 
 pub activity-costs-spec : {M : Type 1} → statement M
 activity-costs-spec = tie.close (tie.spec
-    Inv-loop μ-loop loop-holds (λ c. omega (arith, counted (c .before .before .pre .0) .arcs)) activity-cost-requires add-sum (λ c. omega arith) (λ c. omega arith)
-    loop-again returns)
+    Inv-loop μ-loop loop-holds (λ c. omega (arith, counted (c .before .before .pre .0) .arcs)) activity-cost-requires
+    add-sum (λ c. omega arith) (λ c. omega arith) loop-again returns)

@@ -1,6 +1,6 @@
 -- The sum so far is that over the stations passed; a station costs at most the weights of its direction and of its state.
 use mathlib.Core.Path.{_≡_, ap₂}
-use Prim.Native.Nat.{ℕ, _+_, _-_, _≤_}
+use Prim.Native.Nat.{_+_, _-_, _≤_}
 use native.Mathlib.Omega.{arith}
 use denote.Ref.{now}
 use Rattle.case.specs.law.Layout.{stationsOf}

@@ -1,5 +1,4 @@
 -- The sum so far is that over the arcs passed, and no pipe holds more than a bound by which the whole sum fits.
-use mathlib.Core.Path.{_∙_}
 use Prim.Native.Nat.{_-_}
 use native.Mathlib.Omega.{arith}
 use Rattle.case.specs.law.Layout.{numberAt, arcsOf}

@@ -34,7 +34,8 @@ ends c =
 -- and the gas of the pipe
 gas : (c : tie.After-at2) → let s = c .before .before .before .before .before .before in let x = arcOf (now (s .args .case)) (s .args .e) in
     let p = numberAt (now (s .args .pressures)) in
-    Held (toZ w64 (ofZ w64 (c .before .before .pipe .result .c)) *ℤ toZ w64 (ofZ w64 (toZ w64 (ofZ w64 (c .before .at .result)) +ℤ toZ w64 (ofZ w64 (c .at2 .result)))))
+    Held (toZ w64 (ofZ w64 (c .before .before .pipe .result .c))
+    *ℤ toZ w64 (ofZ w64 (toZ w64 (ofZ w64 (c .before .at .result)) +ℤ toZ w64 (ofZ w64 (c .at2 .result)))))
     (pipeOf (now (s .args .case)) (s .args .e) .c *ℤ (p (x .from) +ℤ p (x .to))) 40000000000000
 gas c =
     let q = c .before .before in

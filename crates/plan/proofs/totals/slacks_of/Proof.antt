@@ -73,5 +73,5 @@ returns c = let h = c .before .loop .inv in record { pressure = total (h .0) (om
 
 pub slacks-of-spec : {M : Type 1} → statement M
 slacks-of-spec = tie.close (tie.spec
-    Inv-loop μ-loop loop-holds (λ c κs. omega (arith, counted (c .before .before .pre .0) .nodes)) add-sum add-sum-2 add-sum-3 add-sum-4 (λ c. omega arith)
-    (λ c. omega arith) loop-again returns)
+    Inv-loop μ-loop loop-holds (λ c κs. omega (arith, counted (c .before .before .pre .0) .nodes)) add-sum add-sum-2
+    add-sum-3 add-sum-4 (λ c. omega arith) (λ c. omega arith) loop-again returns)
