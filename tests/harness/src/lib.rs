@@ -9,6 +9,7 @@ pub mod calls;
 pub mod codec_rounds;
 pub mod demand_3;
 pub mod document;
+pub mod edges;
 pub mod files;
 pub mod lent;
 pub mod optimisers;

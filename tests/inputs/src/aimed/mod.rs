@@ -4,6 +4,7 @@
 
 mod arcs;
 mod case;
+pub mod edges;
 mod ledger;
 mod nodes;
 pub mod sides;

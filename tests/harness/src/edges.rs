@@ -1,0 +1,86 @@
+//! The inputs at the edges of each question, every one of them for every seed.
+
+use inputs::aimed::edges::{EDGES, Edge, Expect, LEDGER_EDGES, LedgerEdge};
+use inputs::generate;
+use inputs::{Pair, Rng};
+
+use crate::beside::{Beside, Difference, Reply};
+
+/// An edge that was answered otherwise, and what the first difference was.
+#[derive(Debug)]
+pub struct Wrong {
+    pub name: &'static str,
+    pub rounds: u64,
+    pub first: String,
+}
+
+/// Every edge for every seed; those that are answered otherwise in some round.
+pub fn wrong(beside: &mut Beside, seeds: u64) -> Vec<Wrong> {
+    let edges = EDGES.iter().map(|&(name, edge)| {
+        let ask = |beside: &mut Beside, rng: &mut Rng, pair: &Pair| {
+            let input = edge(rng, pair);
+            plan(beside, &input, name)
+        };
+        differences(beside, name, seeds, ask)
+    });
+    let edges: Vec<Option<Wrong>> = edges.collect();
+    let ledgers = LEDGER_EDGES.iter().map(|&(name, edge)| {
+        let ask = |beside: &mut Beside, _: &mut Rng, _: &Pair| ledger(beside, &edge(), name);
+        differences(beside, name, seeds, ask)
+    });
+    let ledgers: Vec<Option<Wrong>> = ledgers.collect();
+    edges.into_iter().chain(ledgers).flatten().collect()
+}
+
+/// In how many rounds this edge is answered otherwise.
+fn differences(
+    beside: &mut Beside,
+    name: &'static str,
+    seeds: u64,
+    ask: impl Fn(&mut Beside, &mut Rng, &Pair) -> Result<(), Difference>,
+) -> Option<Wrong> {
+    let found: Vec<Difference> = (0..seeds)
+        .filter_map(|seed| {
+            beside.begin(seed);
+            let mut rng = Rng::new(seed);
+            let pair = generate::accepted(&mut rng);
+            ask(beside, &mut rng, &pair).err()
+        })
+        .collect();
+    let first = found.first()?.text.clone();
+    Some(Wrong {
+        name,
+        rounds: found.len() as u64,
+        first,
+    })
+}
+
+fn plan(beside: &mut Beside, edge: &Edge, name: &str) -> Result<(), Difference> {
+    let case = beside.case(&edge.case)?;
+    let reply = beside.plan(&edge.case, &edge.plan)?;
+    if reply.answer == 0 || reply.answer >= 20 {
+        expect(&case, Expect::Accepted, name)?;
+    }
+    expect(&reply, edge.expect, name)
+}
+
+fn ledger(beside: &mut Beside, edge: &LedgerEdge, name: &str) -> Result<(), Difference> {
+    let reply = beside.ledger([&edge.case, &edge.plan], edge.set, edge.s, edge.t)?;
+    expect(&reply, edge.expect, name)
+}
+
+/// Is this the answer that the edge is to have?
+fn expect(reply: &Reply, expect: Expect, name: &str) -> Result<(), Difference> {
+    let wanted = match expect {
+        Expect::Refused(refused) => return reply.expect(refused, name),
+        Expect::Accepted => None,
+        Expect::Totals(totals) => Some(totals),
+    };
+    let as_wanted = wanted.is_none_or(|totals| reply.out[..6] == totals);
+    if reply.answer == 0 && as_wanted {
+        return Ok(());
+    }
+    Err(Difference {
+        text: format!("edge {name}: wanted {expect:?}, the second checker says {reply:?}"),
+    })
+}

@@ -1,0 +1,206 @@
+//! A network of three steps whose totals and ledger figures were worked out by hand.
+//!
+//! Steps of 10, 20 and 40 s. Pipes go from node 0 to 1 (c is 7) and from 1 to 2 (c is 11), a regulator from 0 to 3, an open valve from 3 to 4; nodes 5 and 6 are
+//! a station's, with two shortcuts between them.
+//!
+//! | | at 0 | step 1 | step 2 | step 3 | sum |
+//! |---|---|---|---|---|---|
+//! | gas of pipe 0 | 14,000 | 14,007 | 14,021 | 14,021 | |
+//! | gas of pipe 1 | 22,000 | 22,000 | 22,022 | 22,077 | |
+//! | 28 at pipe 0 | | 10 - 7 | 20 - 14 | 40 - 0 | 49 |
+//! | 28 at pipe 1 | | -10 - 0 | 20 - 22 | 40 - 55 | 27 |
+//! | 33 at node 0 | | 0 | 0 | 40 × -1 | 40 |
+//! | 33 at node 1 | | 10 × -1 | 0 | 0 | 10 |
+//! | 33 at node 2 | | 0 | 20 × 1 | 0 | 20 |
+//! | 33 at node 3 | | 10 × -1 | 20 × -1 | 40 × -1 | 70 |
+//! | d of all nodes | | 10 × 2 | 20 × 2 | 40 × 4 | 220 |
+//! | weights | | 2 | 20 + 100 | 1 + 1,000 | 1,123 |
+//! | u+, u- | | 4 + 2 | 4 + 2 | 4 + 7 | 23 |
+//! | s+, s- | | 1 | 2 | 4 + 3 | 10 |
+
+use super::super::refused;
+use super::{Branch, Edge, Expect, LedgerEdge};
+use crate::model::{
+    ACTIVE, C, INNER, NodeRow, PIPE, Pair, REGULATOR, SHORTCUT, SINK, SOURCE, VALVE, WEIGHT,
+};
+use crate::rng::Rng;
+
+/// p, d, s+, s-, u+, u- of node 0 and node 2 in each step.
+const SOURCE_ROWS: [[i64; 6]; 3] = [
+    [1_001, 7, 1, 0, 4, 0],
+    [1_001, 8, 0, 2, 4, 0],
+    [1_001, 10, 4, 0, 4, 0],
+];
+const SINK_ROWS: [[i64; 6]; 3] = [
+    [1_000, -4, 0, 0, 0, 2],
+    [1_000, -5, 0, 0, 0, 2],
+    [1_005, -5, 0, 3, 0, 7],
+];
+
+/// a and b of the two pipes in each step.
+const PIPE_FLOWS: [[[i64; 2]; 2]; 3] = [[[5, 4], [3, 4]], [[6, 5], [5, 4]], [[7, 6], [6, 5]]];
+
+fn known() -> Pair {
+    let mut branch = Branch::alone(&[10, 30, 70], 100);
+    branch.pair.case.pressure_tolerance = 1_000;
+    let kinds = [SOURCE, INNER, SINK, SINK, SOURCE, INNER, INNER];
+    let pressures = [1_000, 1_000, 1_000, 900, 900, 900, 900];
+    for (kind, p) in kinds.into_iter().zip(pressures) {
+        branch.node(kind, p);
+    }
+    for (arc, storage) in [(branch.arc(PIPE, 0, 1), 7), (branch.arc(PIPE, 1, 2), 11)] {
+        branch.pair.case.arcs[arc].more[C] = storage;
+    }
+    branch.arc(REGULATOR, 0, 3);
+    branch.arc(VALVE, 3, 4);
+    rows(&mut branch);
+    choices(&mut branch);
+    branch.pair
+}
+
+fn rows(branch: &mut Branch) {
+    for (node, d) in [(3, -3), (4, 2)] {
+        branch.supply(node, d);
+    }
+    let nodes = &mut branch.pair.case.nodes;
+    nodes[0].actlow = 1_005;
+    nodes[2].acthigh = 998;
+    for (place, step) in branch.pair.plan.steps.iter_mut().enumerate() {
+        for (node, row) in [(0, SOURCE_ROWS[place]), (2, SINK_ROWS[place])] {
+            let [p, d, s_plus, s_minus, u_plus, u_minus] = row;
+            nodes[node].demands[place] = d + s_plus - s_minus;
+            step.nodes[node] = NodeRow {
+                p,
+                d,
+                s_plus,
+                s_minus,
+                u_plus,
+                u_minus,
+            };
+        }
+        step.nodes[1].p = [1_000, 1_002, 1_002][place];
+        for (arc, [a, b]) in PIPE_FLOWS[place].into_iter().enumerate() {
+            (step.arcs[arc].a, step.arcs[arc].b) = (a, b);
+        }
+        step.arcs[2].a = 2;
+        (step.arcs[3].a, step.arcs[3].b, step.arcs[3].setting) = (1, 3, 1);
+    }
+}
+
+/// The station's direction, its state and the settings of its two shortcuts in each step; at step 0 they are 0, 0, 1 and 0.
+const CHOICES: [[i64; 4]; 3] = [[1, 0, 1, 0], [1, 1, 0, 0], [0, 1, 0, 1]];
+
+fn choices(branch: &mut Branch) {
+    let station = branch.station(&[]);
+    let its = &mut branch.pair.case.stations[station];
+    its.directions = vec![[0, 0, 1], [0, 0, 2]];
+    its.states = vec![[3, 0, 0, 10], [3, 0, 0, 20]];
+    let arcs = [branch.arc(SHORTCUT, 5, 6), branch.arc(SHORTCUT, 5, 6)];
+    let case = &mut branch.pair.case;
+    case.arcs[arcs[0]].more[ACTIVE] = 1;
+    case.arcs[arcs[0]].more[WEIGHT] = 100;
+    case.arcs[arcs[1]].more[WEIGHT] = 1_000;
+    for (step, [direction, state, one, other]) in branch.pair.plan.steps.iter_mut().zip(CHOICES) {
+        (step.stations[0].direction, step.stations[0].state) = (direction, state);
+        (step.arcs[arcs[0]].setting, step.arcs[arcs[1]].setting) = (one, other);
+    }
+}
+
+pub fn edge_totals(_: &mut Rng, _: &Pair) -> Edge {
+    let pair = known();
+    Edge {
+        case: pair.case.list(),
+        plan: pair.plan.list(),
+        expect: Expect::Totals([23, 10, 1_123, 216, 36_000, 36_098]),
+    }
+}
+
+/// Every node.
+const ALL: i64 = 127;
+
+fn figures(set: i64, s: i64, t: i64, figures: [i64; 6]) -> LedgerEdge {
+    let pair = known();
+    LedgerEdge {
+        case: pair.case.list(),
+        plan: pair.plan.list(),
+        set,
+        s,
+        t,
+        expect: Expect::Totals(figures),
+    }
+}
+
+fn refused_by(number: u8, place: usize, set: i64, s: i64, t: i64) -> LedgerEdge {
+    LedgerEdge {
+        expect: Expect::Refused(refused(number, 0, place)),
+        ..figures(set, s, t, [0; 6])
+    }
+}
+
+pub fn edge_ledger_all() -> LedgerEdge {
+    figures(ALL, 0, 3, [7, 2, 36_000, 36_098, 220, 216])
+}
+
+pub fn edge_ledger_no_step() -> LedgerEdge {
+    figures(ALL, 2, 2, [7, 2, 36_043, 36_043, 0, 0])
+}
+
+pub fn edge_ledger_first_step() -> LedgerEdge {
+    figures(ALL, 0, 1, [7, 2, 36_000, 36_007, 20, 33])
+}
+
+pub fn edge_ledger_middle_step() -> LedgerEdge {
+    figures(ALL, 1, 2, [7, 2, 36_007, 36_043, 40, 48])
+}
+
+pub fn edge_ledger_last_step() -> LedgerEdge {
+    figures(ALL, 2, 3, [7, 2, 36_043, 36_098, 160, 135])
+}
+
+/// The edge pipe begins in the set.
+pub fn edge_ledger_pipe_out() -> LedgerEdge {
+    figures(0b1, 0, 3, [1, 0, 0, 0, 40, 40])
+}
+
+/// The edge pipe ends in the set.
+pub fn edge_ledger_pipe_in() -> LedgerEdge {
+    figures(0b100, 0, 3, [1, 0, 0, 0, -20, 20])
+}
+
+/// A pipe inside and a pipe that leaves, and the other way round.
+pub fn edge_ledger_first_pipe() -> LedgerEdge {
+    figures(0b11, 0, 3, [2, 1, 14_000, 14_021, 120, 99])
+}
+
+pub fn edge_ledger_last_pipe() -> LedgerEdge {
+    figures(0b110, 0, 3, [2, 1, 22_000, 22_077, 40, 57])
+}
+
+/// The regulator ends in the set, and the valve, on which gas flows backward, begins in it.
+pub fn edge_ledger_valve() -> LedgerEdge {
+    figures(0b1000, 0, 3, [1, 0, 0, 0, 70, 70])
+}
+
+pub fn edge_40_past_the_last_node() -> LedgerEdge {
+    refused_by(40, 7, 0b1_1000_0001, 0, 3)
+}
+
+pub fn edge_40_last_bit() -> LedgerEdge {
+    refused_by(40, 59, 1 << 59, 3, 0)
+}
+
+pub fn edge_40_past_the_last_bit() -> LedgerEdge {
+    refused_by(40, 0, 1 << 60, 0, 3)
+}
+
+pub fn edge_41_below_0() -> LedgerEdge {
+    refused_by(41, 0, ALL, -1, 3)
+}
+
+pub fn edge_41_turned() -> LedgerEdge {
+    refused_by(41, 0, ALL, 2, 1)
+}
+
+pub fn edge_41_past_the_last_step() -> LedgerEdge {
+    refused_by(41, 0, ALL, 3, 4)
+}
