@@ -1,18 +1,18 @@
 //! A network of three steps whose totals and ledger figures were worked out by hand.
 //!
-//! Steps of 10, 20 and 40 s. Pipes go from node 0 to 1 (c is 7) and from 1 to 2 (c is 11), a regulator from 0 to 3, an open valve from 3 to 4; nodes 5 and 6 are
-//! a station's, with two shortcuts between them.
+//! Steps of 10, 20 and 40 s. A pipe goes from node 0 to 1 (c is 7) and another, the last arc, from 1 to 2 (c is 11); a regulator goes from 0 to 6, the last node,
+//! and an open valve from 6 to 5; nodes 3 and 4 are a station's, with two shortcuts between them.
 //!
 //! | | at 0 | step 1 | step 2 | step 3 | sum |
 //! |---|---|---|---|---|---|
-//! | gas of pipe 0 | 14,000 | 14,007 | 14,021 | 14,021 | |
-//! | gas of pipe 1 | 22,000 | 22,000 | 22,022 | 22,077 | |
-//! | 28 at pipe 0 | | 10 - 7 | 20 - 14 | 40 - 0 | 49 |
-//! | 28 at pipe 1 | | -10 - 0 | 20 - 22 | 40 - 55 | 27 |
+//! | gas of the pipe from 0 | 14,000 | 14,007 | 14,021 | 14,021 | |
+//! | gas of the pipe from 1 | 22,000 | 22,000 | 22,022 | 22,077 | |
+//! | 28 at the pipe from 0 | | 10 - 7 | 20 - 14 | 40 - 0 | 49 |
+//! | 28 at the pipe from 1 | | -10 - 0 | 20 - 22 | 40 - 55 | 27 |
 //! | 33 at node 0 | | 0 | 0 | 40 × -1 | 40 |
 //! | 33 at node 1 | | 10 × -1 | 0 | 0 | 10 |
 //! | 33 at node 2 | | 0 | 20 × 1 | 0 | 20 |
-//! | 33 at node 3 | | 10 × -1 | 20 × -1 | 40 × -1 | 70 |
+//! | 33 at node 6 | | 10 × -1 | 20 × -1 | 40 × -1 | 70 |
 //! | d of all nodes | | 10 × 2 | 20 × 2 | 40 × 4 | 220 |
 //! | weights | | 2 | 20 + 100 | 1 + 1,000 | 1,123 |
 //! | u+, u- | | 4 + 2 | 4 + 2 | 4 + 7 | 23 |
@@ -40,26 +40,36 @@ const SINK_ROWS: [[i64; 6]; 3] = [
 /// a and b of the two pipes in each step.
 const PIPE_FLOWS: [[[i64; 2]; 2]; 3] = [[[5, 4], [3, 4]], [[6, 5], [5, 4]], [[7, 6], [6, 5]]];
 
+/// The arcs in their order.
+const SHORTCUTS: [usize; 2] = [0, 1];
+const PIPES: [usize; 2] = [2, 5];
+const THE_REGULATOR: usize = 3;
+const THE_VALVE: usize = 4;
+
 fn known() -> Pair {
     let mut branch = Branch::alone(&[10, 30, 70], 100);
     branch.pair.case.pressure_tolerance = 1_000;
-    let kinds = [SOURCE, INNER, SINK, SINK, SOURCE, INNER, INNER];
+    let kinds = [SOURCE, INNER, SINK, INNER, INNER, SOURCE, SINK];
     let pressures = [1_000, 1_000, 1_000, 900, 900, 900, 900];
     for (kind, p) in kinds.into_iter().zip(pressures) {
         branch.node(kind, p);
     }
-    for (arc, storage) in [(branch.arc(PIPE, 0, 1), 7), (branch.arc(PIPE, 1, 2), 11)] {
+    branch.station(&[]);
+    let ends = [(3, 4), (3, 4), (0, 1), (0, 6), (6, 5), (1, 2)];
+    let kinds = [SHORTCUT, SHORTCUT, PIPE, REGULATOR, VALVE, PIPE];
+    for (kind, (from, to)) in kinds.into_iter().zip(ends) {
+        branch.arc(kind, from, to);
+    }
+    for (arc, storage) in PIPES.into_iter().zip([7, 11]) {
         branch.pair.case.arcs[arc].more[C] = storage;
     }
-    branch.arc(REGULATOR, 0, 3);
-    branch.arc(VALVE, 3, 4);
     rows(&mut branch);
     choices(&mut branch);
     branch.pair
 }
 
 fn rows(branch: &mut Branch) {
-    for (node, d) in [(3, -3), (4, 2)] {
+    for (node, d) in [(5, 2), (6, -3)] {
         branch.supply(node, d);
     }
     let nodes = &mut branch.pair.case.nodes;
@@ -79,11 +89,12 @@ fn rows(branch: &mut Branch) {
             };
         }
         step.nodes[1].p = [1_000, 1_002, 1_002][place];
-        for (arc, [a, b]) in PIPE_FLOWS[place].into_iter().enumerate() {
+        for (arc, [a, b]) in PIPES.into_iter().zip(PIPE_FLOWS[place]) {
             (step.arcs[arc].a, step.arcs[arc].b) = (a, b);
         }
-        step.arcs[2].a = 2;
-        (step.arcs[3].a, step.arcs[3].b, step.arcs[3].setting) = (1, 3, 1);
+        step.arcs[THE_REGULATOR].a = 2;
+        let valve = &mut step.arcs[THE_VALVE];
+        (valve.a, valve.b, valve.setting) = (1, 3, 1);
     }
 }
 
@@ -91,18 +102,16 @@ fn rows(branch: &mut Branch) {
 const CHOICES: [[i64; 4]; 3] = [[1, 0, 1, 0], [1, 1, 0, 0], [0, 1, 0, 1]];
 
 fn choices(branch: &mut Branch) {
-    let station = branch.station(&[]);
-    let its = &mut branch.pair.case.stations[station];
-    its.directions = vec![[0, 0, 1], [0, 0, 2]];
-    its.states = vec![[3, 0, 0, 10], [3, 0, 0, 20]];
-    let arcs = [branch.arc(SHORTCUT, 5, 6), branch.arc(SHORTCUT, 5, 6)];
     let case = &mut branch.pair.case;
-    case.arcs[arcs[0]].more[ACTIVE] = 1;
-    case.arcs[arcs[0]].more[WEIGHT] = 100;
-    case.arcs[arcs[1]].more[WEIGHT] = 1_000;
+    case.stations[0].directions = vec![[0, 0, 1], [0, 0, 2]];
+    case.stations[0].states = vec![[3, 0, 0, 10], [3, 0, 0, 20]];
+    case.arcs[SHORTCUTS[0]].more[ACTIVE] = 1;
+    case.arcs[SHORTCUTS[0]].more[WEIGHT] = 100;
+    case.arcs[SHORTCUTS[1]].more[WEIGHT] = 1_000;
     for (step, [direction, state, one, other]) in branch.pair.plan.steps.iter_mut().zip(CHOICES) {
         (step.stations[0].direction, step.stations[0].state) = (direction, state);
-        (step.arcs[arcs[0]].setting, step.arcs[arcs[1]].setting) = (one, other);
+        step.arcs[SHORTCUTS[0]].setting = one;
+        step.arcs[SHORTCUTS[1]].setting = other;
     }
 }
 
@@ -178,7 +187,7 @@ pub fn edge_ledger_last_pipe() -> LedgerEdge {
 
 /// The regulator ends in the set, and the valve, on which gas flows backward, begins in it.
 pub fn edge_ledger_valve() -> LedgerEdge {
-    figures(0b1000, 0, 3, [1, 0, 0, 0, 70, 70])
+    figures(0b100_0000, 0, 3, [1, 0, 0, 0, 70, 70])
 }
 
 pub fn edge_40_past_the_last_node() -> LedgerEdge {

@@ -6,6 +6,7 @@ mod arcs;
 mod branch;
 mod case;
 mod known;
+mod largest;
 mod machines;
 mod nodes;
 mod pipes;
@@ -49,6 +50,7 @@ pub type LedgerEdgeOf = fn() -> LedgerEdge;
 pub const EDGES: &[(&str, EdgeOf)] = &[
     ("13 last arc", case::edge_13_last_arc),
     ("14 last node", case::edge_14_last_node),
+    ("14 node 59", largest::edge_14_node_59),
     ("15 30 arcs", case::edge_15_30_arcs),
     ("15 31 arcs", case::edge_15_31_arcs),
     (
@@ -97,6 +99,7 @@ pub const EDGES: &[(&str, EdgeOf)] = &[
     ("21 past most s plus", nodes::edge_21_past_most_s_plus),
     ("21 most s minus", nodes::edge_21_most_s_minus),
     ("21 past most s minus", nodes::edge_21_past_most_s_minus),
+    ("21 node 59", largest::edge_21_node_59),
     ("22 one more", nodes::edge_22_one_more),
     ("22 one less", nodes::edge_22_one_less),
     ("22 swapped", nodes::edge_22_swapped),
@@ -133,6 +136,7 @@ pub const EDGES: &[(&str, EdgeOf)] = &[
         "24 machine of a regulating arc",
         arcs::edge_24_machine_of_a_regulating_arc,
     ),
+    ("24 arc 119", largest::edge_24_arc_119),
     ("25 shut", arcs::edge_25_shut),
     ("25 off", arcs::edge_25_off),
     ("25 back when forward", arcs::edge_25_back_when_forward),
@@ -214,6 +218,7 @@ pub const EDGES: &[(&str, EdgeOf)] = &[
         "30 last direction unsupported",
         stations::edge_30_last_direction_unsupported,
     ),
+    ("30 station 7", largest::edge_30_station_7),
     ("31 one each", stations::edge_31_one_each),
     ("31 two stations", stations::edge_31_two_stations),
     ("31 last arc", stations::edge_31_last_arc),
@@ -227,10 +232,13 @@ pub const EDGES: &[(&str, EdgeOf)] = &[
     ("32 neither still", stations::edge_32_neither_still),
     ("32 neither in", stations::edge_32_neither_in),
     ("32 neither out", stations::edge_32_neither_out),
+    ("32 node 59", largest::edge_32_node_59),
     ("33 at e", nodes::edge_33_at_e),
     ("33 past e", nodes::edge_33_past_e),
     ("33 past e at a sink", nodes::edge_33_past_e_at_a_sink),
+    ("33 node 59", largest::edge_33_node_59),
     ("totals", known::edge_totals),
+    ("totals largest", largest::edge_totals_largest),
 ];
 
 pub const LEDGER_EDGES: &[(&str, LedgerEdgeOf)] = &[

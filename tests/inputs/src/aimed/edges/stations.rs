@@ -32,41 +32,49 @@ pub fn edge_30_last_arc_off(_: &mut Rng, pair: &Pair) -> Edge {
     last_arc_disobeys(pair, OFF, 0)
 }
 
-/// Eight directions and 16 states; the last state supports the last direction alone, and both are chosen in the last step.
-fn choices(pair: &Pair) -> Branch {
-    let mut branch = crowd(pair, 1);
-    let (station, steps) = (branch.last_station(), branch.steps());
+/// Four directions and 16 states; the last state supports the last direction alone, and both are chosen in the last step. What stands after the last state is
+/// the next station: read as a state, it supports the same direction and asks for the first arc, which is active.
+fn choices(pair: &Pair) -> (Branch, usize) {
+    let mut branch = Branch::beside(pair, 4, 2, 2);
+    let steps = branch.steps();
+    let station = branch.station(&[]);
     let its = &mut branch.pair.case.stations[station];
-    its.directions = vec![[0, 0, 1]; 8];
+    its.directions = vec![[0, 0, 1]; 4];
     its.states = vec![[1, 0, 0, 1]; 16];
-    its.states[15][0] = bit(7);
+    its.states[15][0] = bit(3);
+    let ends = [0; 4].map(|_| branch.inner(P));
+    let arc = branch.arc(SHORTCUT, ends[0], ends[1]);
+    branch.pair.arc_mut(steps, arc).setting = 1;
+    let next = branch.station(&[]);
+    branch.pair.case.stations[next].directions = vec![[0; 3]; 8];
+    branch.arc(SHORTCUT, ends[2], ends[3]);
     let row = branch.pair.station_mut(steps, station);
-    (row.direction, row.state) = (7, 15);
-    branch
+    (row.direction, row.state) = (3, 15);
+    (branch, station)
 }
 
 pub fn edge_30_last_choice(_: &mut Rng, pair: &Pair) -> Edge {
-    choices(pair).accepted()
+    choices(pair).0.accepted()
 }
 
 pub fn edge_30_past_the_last_direction(_: &mut Rng, pair: &Pair) -> Edge {
-    let mut branch = choices(pair);
-    let (station, steps) = (branch.last_station(), branch.steps());
-    branch.pair.station_mut(steps, station).direction = 8;
+    let (mut branch, station) = choices(pair);
+    let steps = branch.steps();
+    branch.pair.station_mut(steps, station).direction = 4;
     branch.refused(30, steps, station)
 }
 
 pub fn edge_30_past_the_last_state(_: &mut Rng, pair: &Pair) -> Edge {
-    let mut branch = choices(pair);
-    let (station, steps) = (branch.last_station(), branch.steps());
+    let (mut branch, station) = choices(pair);
+    let steps = branch.steps();
     branch.pair.station_mut(steps, station).state = 16;
     branch.refused(30, steps, station)
 }
 
 pub fn edge_30_last_direction_unsupported(_: &mut Rng, pair: &Pair) -> Edge {
-    let mut branch = choices(pair);
-    let (station, steps) = (branch.last_station(), branch.steps());
-    branch.pair.case.stations[station].states[15][0] = bit(7) - 1;
+    let (mut branch, station) = choices(pair);
+    let steps = branch.steps();
+    branch.pair.case.stations[station].states[15][0] = bit(3) - 1;
     branch.refused(30, steps, station)
 }
 
