@@ -93,52 +93,26 @@ fn totals_in_decimal() {
     let (case, plan) = (encode(&edge.case).bytes, encode(&edge.plan).bytes);
     let wanted = "accepted 23 10 1123 216 36000 36098";
     prints([Some(&case), Some(&plan)], wanted);
-    let case = encode(&WIDE_CASE).bytes;
-    let plan = encode(&WIDE_PLAN).bytes;
+    let [case, plan] = wide().map(|list| encode(&list).bytes);
     let wanted = "accepted 0 9 0 0 40000000000000 40000000000000";
     prints([Some(&case), Some(&plan)], wanted);
 }
 
 /// A source and a sink at 200,000 mbar all along, and a pipe with the largest c between them.
-const WIDE_CASE: [i64; 33] = [
-    1,
-    2,
-    1,
-    0,
-    1,
-    0,
-    0,
-    60, //
-    1,
-    200_000,
-    0,
-    200_000,
-    0,
-    200_000,
-    909, //
-    2,
-    200_000,
-    0,
-    200_000,
-    0,
-    200_000,
-    -900, //
-    2,
-    0,
-    1,
-    2_000,
-    100_000_000,
-    0,
-    0,
-    0,
-    0,
-    0,
-    0,
-];
-
-const WIDE_PLAN: [i64; 18] = [
-    1, 1, //
-    200_000, 900, 9, 0, 0, 0, //
-    200_000, -900, 0, 0, 0, 0, //
-    900, 900, 0, 0,
-];
+fn wide() -> [Vec<i64>; 2] {
+    let case = [
+        [1, 2, 1, 0, 1, 0, 0, 60].as_slice(),
+        &[1, 200_000, 0, 200_000, 0, 200_000, 909],
+        &[2, 200_000, 0, 200_000, 0, 200_000, -900],
+        &[2, 0, 1, 2_000],
+        &[100_000_000],
+        &[0; 6],
+    ];
+    let plan = [
+        [1, 1].as_slice(),
+        &[200_000, 900, 9, 0, 0, 0],
+        &[200_000, -900, 0, 0, 0, 0],
+        &[900, 900, 0, 0],
+    ];
+    [case.concat(), plan.concat()]
+}
