@@ -1,6 +1,8 @@
 //! The inputs at the edges of each question, every one of them for every seed.
 
-use inputs::aimed::edges::{EDGES, Edge, Expect, LEDGER_EDGES, LedgerEdge};
+use inputs::aimed::edges::{
+    EDGES, EDGES_OF_FIELDS, Edge, Expect, LEDGER_EDGES, LedgerEdge, READ_EDGES, WRITE_EDGES,
+};
 use inputs::generate;
 use inputs::{Pair, Rng};
 
@@ -16,20 +18,47 @@ pub struct Wrong {
 
 /// Every edge for every seed; those that are answered otherwise in some round.
 pub fn wrong(beside: &mut Beside, seeds: u64) -> Vec<Wrong> {
-    let edges = EDGES.iter().map(|&(name, edge)| {
-        let ask = |beside: &mut Beside, rng: &mut Rng, pair: &Pair| {
-            let input = edge(rng, pair);
-            plan(beside, &input, name)
+    let mut wrong = codec(beside, seeds);
+    for &(name, edges) in EDGES_OF_FIELDS {
+        let ask = |beside: &mut Beside, _: &mut Rng, _: &Pair| {
+            edges().iter().try_for_each(|edge| plan(beside, edge, name))
         };
-        differences(beside, name, seeds, ask)
-    });
-    let edges: Vec<Option<Wrong>> = edges.collect();
-    let ledgers = LEDGER_EDGES.iter().map(|&(name, edge)| {
+        wrong.extend(differences(beside, name, seeds, ask));
+    }
+    for &(name, edge) in EDGES {
+        let ask =
+            |beside: &mut Beside, rng: &mut Rng, pair: &Pair| plan(beside, &edge(rng, pair), name);
+        wrong.extend(differences(beside, name, seeds, ask));
+    }
+    for &(name, edge) in LEDGER_EDGES {
         let ask = |beside: &mut Beside, _: &mut Rng, _: &Pair| ledger(beside, &edge(), name);
-        differences(beside, name, seeds, ask)
-    });
-    let ledgers: Vec<Option<Wrong>> = ledgers.collect();
-    edges.into_iter().chain(ledgers).flatten().collect()
+        wrong.extend(differences(beside, name, seeds, ask));
+    }
+    wrong
+}
+
+/// The edges of reading and writing.
+fn codec(beside: &mut Beside, seeds: u64) -> Vec<Wrong> {
+    let mut wrong = Vec::new();
+    for &(name, edges) in READ_EDGES {
+        let ask = |beside: &mut Beside, _: &mut Rng, _: &Pair| {
+            edges().iter().try_for_each(|edge| {
+                let reply = beside.read(&edge.bytes, edge.room)?;
+                expect(&reply, edge.expect, name)
+            })
+        };
+        wrong.extend(differences(beside, name, seeds, ask));
+    }
+    for &(name, edges) in WRITE_EDGES {
+        let ask = |beside: &mut Beside, _: &mut Rng, _: &Pair| {
+            edges().iter().try_for_each(|edge| {
+                let reply = beside.write(&edge.list, edge.room)?;
+                expect(&reply, edge.expect, name)
+            })
+        };
+        wrong.extend(differences(beside, name, seeds, ask));
+    }
+    wrong
 }
 
 /// In how many rounds this edge is answered otherwise.
@@ -73,6 +102,7 @@ fn ledger(beside: &mut Beside, edge: &LedgerEdge, name: &str) -> Result<(), Diff
 fn expect(reply: &Reply, expect: Expect, name: &str) -> Result<(), Difference> {
     let wanted = match expect {
         Expect::Refused(refused) => return reply.expect(refused, name),
+        Expect::Any => return Ok(()),
         Expect::Accepted => None,
         Expect::Totals(totals) => Some(totals),
     };

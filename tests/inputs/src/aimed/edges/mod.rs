@@ -5,6 +5,8 @@
 mod arcs;
 mod branch;
 mod case;
+mod fields;
+mod groups;
 mod known;
 mod largest;
 mod machines;
@@ -13,6 +15,7 @@ mod pipes;
 mod stations;
 
 use branch::Branch;
+pub use groups::{ReadEdge, WriteEdge};
 
 use crate::model::{Pair, Refused};
 use crate::rng::Rng;
@@ -20,6 +23,8 @@ use crate::rng::Rng;
 /// What an input is to be answered.
 #[derive(Clone, Copy, Debug)]
 pub enum Expect {
+    /// What the second checker says.
+    Any,
     /// Whatever the totals are.
     Accepted,
     /// With these totals, or these figures of a ledger.
@@ -45,7 +50,35 @@ pub struct LedgerEdge {
 }
 
 pub type EdgeOf = fn(&mut Rng, &Pair) -> Edge;
+pub type EdgesOf = fn() -> Vec<Edge>;
 pub type LedgerEdgeOf = fn() -> LedgerEdge;
+
+pub type ReadEdgesOf = fn() -> Vec<ReadEdge>;
+pub type WriteEdgesOf = fn() -> Vec<WriteEdge>;
+
+/// Edges of many inputs each.
+pub const READ_EDGES: &[(&str, ReadEdgesOf)] = &[
+    ("1 cut", groups::edge_1_cut),
+    ("2 overlong", groups::edge_2_overlong),
+    ("2 tenth", groups::edge_2_tenth),
+    ("3 no place", groups::edge_3_no_place),
+    ("3 one place", groups::edge_3_one_place),
+];
+
+pub const WRITE_EDGES: &[(&str, WriteEdgesOf)] = &[
+    ("4 just room", groups::edge_4_just_room),
+    ("4 a byte less", groups::edge_4_a_byte_less),
+];
+
+pub const EDGES_OF_FIELDS: &[(&str, EdgesOf)] = &[
+    ("10 cut", fields::edge_10_cut),
+    ("11 below", fields::edge_11_below),
+    ("11 above", fields::edge_11_above),
+    ("11 lowest", fields::edge_11_lowest),
+    ("11 highest", fields::edge_11_highest),
+    ("12 one more", fields::edge_12_one_more),
+    ("20 length", fields::edge_20_length),
+];
 
 pub const EDGES: &[(&str, EdgeOf)] = &[
     ("13 last arc", case::edge_13_last_arc),
