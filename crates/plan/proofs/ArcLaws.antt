@@ -1,20 +1,17 @@
 -- What the functions of one arc share: signed reads, sizes of a pipe's two sides, the station of a compressing arc, and the order of an arc's questions.
 -- Assumes nothing.
-use mathlib.Core.Path.{_≡_, refl, sym, ap, ap₂, _∙_, subst}
-use mathlib.Core.Bool.{Bool, true, false, cond}
+use Rattle.plan.proofs.Common.{_≡_, refl, sym, ap, ap₂, _∙_, Bool, true, false, ℕ, _^_, _<_, _≤_, arith, leb, eqb, ℤ, pos, natAbs, _+ℤ_, _-ℤ_, leZ}
+use Rattle.plan.proofs.Common.{w64, toZ, ofZ, Held, held, literal, _+ʳ_, _-ʳ_, _*ʳ_}
+use mathlib.Core.Path.{subst}
+use mathlib.Core.Bool.{cond}
 use mathlib.Core.List.{List, _++_}
-use Prim.Native.Nat.{ℕ, _<_, _≤_, _^_}
-use native.Mathlib.Omega.{arith}
 use borrow.Author.Tests.{leb-false, eqb-false}
-use lib.Dec.{T, eqb, leb, ltb}
-use lib.IntN.{ℤ, pos, natAbs, _+ℤ_, _-ℤ_, _*ℤ_}
+use lib.Dec.{T, ltb}
+use lib.IntN.{_*ℤ_}
 use lib.ListN.{getD}
-use lib.Signed.{leZ}
-use mir.Syntax.{w64}
-use mir.Val.{toZ, ofZ}
 use Rattle.numbers.specs.law.Signed.{posPart}
 use Rattle.numbers.specs.inside.SignedBounds.{Bounded}
-use Rattle.numbers.specs.inside.SignedLocals.{Held, held, plain, loosen, _+ʳ_, _-ʳ_, _*ʳ_, literal}
+use Rattle.numbers.specs.inside.SignedLocals.{plain, loosen}
 use Rattle.numbers.specs.law.Sets.{memberOf}
 use Rattle.numbers.specs.inside.SumLaws.{abs-sum-le, abs-only-le}
 use Rattle.numbers.specs.law.Question.{Question, firstNo, orElse}

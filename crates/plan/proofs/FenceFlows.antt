@@ -1,14 +1,10 @@
 -- By 14 the artificial arcs at a station's node are all that station's, so the net flow into artificial arcs is the flow that 32 asks for.
 -- Assumes nothing.
-use mathlib.Core.Path.{_≡_, refl, sym, ap}
-use mathlib.Core.Bool.{Bool, true, false}
+use Rattle.plan.proofs.Common.{_≡_, refl, sym, ap, Bool, true, false, ℕ, _+_, _-_, _<_, _≤_, arith, eq-eqb, ne-eqb, leb, eqb, ℤ, counted}
 use mathlib.Core.List.{List}
 use mathlib.Core.Logic.{_⊎_, inl, inr}
-use Prim.Native.Nat.{ℕ, _+_, _-_, _<_, _≤_}
-use native.Mathlib.Omega.{arith}
-use borrow.Author.Tests.{eqb-true, eqb-false, eq-eqb, ne-eqb, leb-true, ltb-true, ltb-false}
-use lib.Dec.{eqb, leb, ltb}
-use lib.IntN.{ℤ}
+use borrow.Author.Tests.{eqb-true, eqb-false, leb-true, ltb-true, ltb-false}
+use lib.Dec.{ltb}
 use Rattle.numbers.specs.law.Sets.{memberOf}
 use Rattle.numbers.specs.law.Sums.{count}
 use Rattle.numbers.specs.inside.SumLaws.{sum-cong}
@@ -24,7 +20,7 @@ use Rattle.case.specs.declared.records.Direction.{Direction}
 use Rattle.plan.specs.inside.StationPass.{artificialPart, artificialFlow}
 use Rattle.plan.specs.law.StationRules.{stationPart, stationFlow, fenceNodeKept}
 use Rattle.plan.specs.inside.Preconditions.{AcceptedCase}
-use Rattle.plan.specs.inside.CaseSizes.{counted, station-in}
+use Rattle.plan.specs.inside.CaseSizes.{station-in}
 
 -- two items that are so
 two : (n : ℕ) (w : ℕ → Bool) (i j : ℕ) → i < j → j < n → w i ≡ true → w j ≡ true → 2 ≤ count n w

@@ -1,16 +1,13 @@
 -- The machines that a station's arcs have taken, as a set, arc by arc.
 -- Assumes nothing.
-use mathlib.Core.Path.{_≡_, refl, sym, _∙_}
-use mathlib.Core.Bool.{Bool, true, false, cond, _&&_}
+use Rattle.plan.proofs.Common.{_≡_, refl, sym, _∙_, Bool, true, false, _&&_, ℕ, _+_, _-_, _^_, _<_, _≤_, arith, le-leb, leb, eqb, ℤ, pos, leZ}
+use mathlib.Core.Bool.{cond}
 use mathlib.Core.List.{List}
-use Prim.Native.Nat.{ℕ, _+_, _-_, _/_, _^_, _<_, _≤_, min, max}
-use native.Mathlib.Omega.{arith}
-use borrow.Author.Tests.{eqb-true, eqb-false, leb-true, le-leb, ltb-true, ltb-false}
+use Prim.Native.Nat.{_/_, min, max}
+use borrow.Author.Tests.{eqb-true, eqb-false, leb-true, ltb-true, ltb-false}
 use lib.Bits.{bitAnd, bitOr, or-step, or-shr}
-use lib.Dec.{eqb, leb, ltb}
-use lib.IntN.{ℤ, pos}
+use lib.Dec.{ltb}
 use lib.Pow.{pow-pos}
-use lib.Signed.{leZ}
 use Rattle.numbers.specs.law.Signed.{posPart}
 use Rattle.numbers.specs.inside.SignedParts.{ints, size}
 use Rattle.numbers.specs.law.Sets.{bit, subsetOf}

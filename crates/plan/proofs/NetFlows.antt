@@ -1,19 +1,15 @@
 -- Net flows in an array, gathered arc by arc: what the array holds after one arc more.
 -- Assumes nothing.
-use mathlib.Core.Path.{_≡_, refl, sym, ap, _∙_}
-use mathlib.Core.Bool.{Bool, true, false}
+use Rattle.plan.proofs.Common.{_≡_, refl, sym, ap, _∙_, Bool, true, false, ℕ, _+_, _^_, _<_, _≤_, arith, eqb, ℤ, pos, natAbs, _+ℤ_, _-ℤ_, length, w64}
+use Rattle.plan.proofs.Common.{toZ, ofZ, Held, held}
 use mathlib.Core.List.{List}
-use Prim.Native.Nat.{ℕ, zero, suc, _+_, _<_, _≤_, _^_}
+use Prim.Native.Nat.{zero, suc}
 use native.Mathlib.Numerals.{add-one}
-use native.Mathlib.Omega.{arith}
 use borrow.Author.Tests.{eqb-true, eqb-false}
-use lib.Dec.{T, eqb, ltb}
-use lib.IntN.{ℤ, pos, natAbs, negℤ, _+ℤ_, _-ℤ_, +ℤ-idr}
-use lib.ListN.{length, getD, set, replicate}
+use lib.Dec.{T, ltb}
+use lib.IntN.{negℤ, +ℤ-idr}
+use lib.ListN.{getD, set, replicate}
 use lib.Seq.{getD-set-same, getD-set-other}
-use mir.Syntax.{w64}
-use mir.Val.{toZ, ofZ}
-use Rattle.numbers.specs.inside.SignedLocals.{Held, held}
 use Rattle.numbers.specs.inside.SignedLinear.{v, _⊞_, _⊟_, eq! }
 use Rattle.numbers.specs.inside.SignedBounds.{Bounded, abs-add, abs-neg}
 use Rattle.numbers.specs.law.Sums.{sum, only}

@@ -1,14 +1,10 @@
 -- A node's net flow by what each arc puts to it.
 -- Assumes nothing.
-use mathlib.Core.Path.{_≡_, refl, sym, _∙_}
-use mathlib.Core.Bool.{Bool, true, false, cond}
+use Rattle.plan.proofs.Common.{_≡_, refl, sym, _∙_, Bool, true, false, ℕ, _+_, _<_, _≤_, arith, eqb, ℤ, pos, natAbs, _-ℤ_, leZ, counted}
+use mathlib.Core.Bool.{cond}
 use mathlib.Core.List.{List, [], _∷_}
-use Prim.Native.Nat.{ℕ, _+_, _<_, _≤_}
 use native.Mathlib.Nat.{mul-le-mul}
-use native.Mathlib.Omega.{arith}
-use lib.Dec.{eqb}
-use lib.IntN.{ℤ, pos, natAbs, negℤ, _-ℤ_}
-use lib.Signed.{leZ}
+use lib.IntN.{negℤ}
 use Rattle.numbers.specs.law.Question.{answer, firstNo}
 use Rattle.numbers.specs.inside.SignedBounds.{Bounded, abs-add, abs-neg}
 use Rattle.numbers.specs.law.Sums.{sum, only}
@@ -21,7 +17,7 @@ use Rattle.plan.specs.law.Pipes.{isPipe}
 use Rattle.plan.specs.law.Balance.{flowAtFrom, flowAtTo, outPart, inPart, outflow, inflow, netFlow, nodeImbalance, nodeResidual, balanceKept, balanceQuestions}
 use Rattle.plan.specs.inside.Sizes.{FlowsSized}
 use Rattle.plan.specs.inside.Preconditions.{AcceptedCase, AtBalance}
-use Rattle.plan.specs.inside.CaseSizes.{counted, duration-sized}
+use Rattle.plan.specs.inside.CaseSizes.{duration-sized}
 use Rattle.plan.proofs.NetFlows.{put-sized}
 
 -- the flow at an end: one of the row's two, or their difference

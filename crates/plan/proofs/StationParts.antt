@@ -1,13 +1,7 @@
 -- What an artificial arc puts to a node, and 30 to 32 of one station by the answers to each.
 -- Assumes nothing.
-use mathlib.Core.Path.{_≡_, sym, ap, ap₂, _∙_}
-use mathlib.Core.Bool.{Bool, true, false}
+use Rattle.plan.proofs.Common.{_≡_, sym, ap, ap₂, _∙_, Bool, true, false, ℕ, _+_, _<_, _≤_, arith, le-leb, lt-leb, leb, eqb, ℤ, pos, natAbs, _-ℤ_}
 use mathlib.Core.List.{List}
-use Prim.Native.Nat.{ℕ, _+_, _<_, _≤_}
-use native.Mathlib.Omega.{arith}
-use borrow.Author.Tests.{le-leb, lt-leb}
-use lib.Dec.{eqb, leb}
-use lib.IntN.{ℤ, pos, natAbs, _-ℤ_}
 use Rattle.numbers.specs.law.Question.{answer, orElse, firstNo}
 use Rattle.numbers.specs.inside.QuestionLaws.{orElse-yes}
 use Rattle.numbers.specs.declared.answer.Answer.{Answer}

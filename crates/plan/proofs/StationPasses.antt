@@ -1,15 +1,10 @@
 -- One pass over a step's arcs for all stations: what arrays with a place for each of 8 stations hold after one arc more.
 -- Assumes nothing.
-use mathlib.Core.Path.{_≡_, refl, sym, ap, _∙_}
-use mathlib.Core.Bool.{Bool, true, false}
+use Rattle.plan.proofs.Common.{_≡_, refl, sym, ap, _∙_, Bool, true, false, ℕ, _+_, _^_, _<_, _≤_, arith, eq-eqb, ne-eqb, leb, eqb, ℤ, length}
 use mathlib.Core.List.{List}
-use Prim.Native.Nat.{ℕ, _+_, _<_, _≤_, _^_}
-use native.Mathlib.Omega.{arith}
-use borrow.Author.Tests.{eqb-true, eqb-false, eq-eqb, ne-eqb, leb-true}
+use borrow.Author.Tests.{eqb-true, eqb-false, leb-true}
 use lib.Bits.{bitAnd, bitOr}
-use lib.Dec.{eqb, leb}
-use lib.IntN.{ℤ}
-use lib.ListN.{length, getD, set, replicate, length-set, length-replicate, getD-replicate}
+use lib.ListN.{getD, set, replicate, length-set, length-replicate, getD-replicate}
 use lib.Pow.{pow-mono}
 use lib.Seq.{getD-set-same, getD-set-other, set-getD}
 use Rattle.numbers.specs.law.Signed.{posPart}

@@ -1,9 +1,7 @@
-use mathlib.Core.Path.{_≡_, ap, _∙_}
-use native.Mathlib.Omega.{arith}
-use denote.Ref.{now}
+use Rattle.plan.proofs.Common.{_≡_, ap, _∙_, arith, now, counted}
 use Rattle.case.specs.law.Layout.{nodesOf, nodeAt, arcAt}
 use Rattle.case.specs.inside.CountsInRange.{arcs-begin}
-use Rattle.plan.specs.inside.CaseSizes.{counted, head-there}
+use Rattle.plan.specs.inside.CaseSizes.{head-there}
 use Rattle.plan.proofs.accepted.arc_at.Statement.{statement}
 use Rattle.plan.proofs.accepted.arc_at.Tie as tie
 

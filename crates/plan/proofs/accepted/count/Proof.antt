@@ -1,7 +1,5 @@
-use mathlib.Core.Path.{ap, _∙_}
-use borrow.Author.Needs.{needs}
+use Rattle.plan.proofs.Common.{ap, _∙_, needs, kept}
 use Rattle.numbers.specs.law.Signed.{posPart}
-use Rattle.numbers.specs.inside.SignedLocals.{kept}
 use Rattle.plan.proofs.accepted.count.Statement.{statement}
 use Rattle.plan.proofs.accepted.count.Tie as tie
 

@@ -1,10 +1,7 @@
-use mathlib.Core.Path.{_≡_}
-use Prim.Native.Nat.{_+_, _*_, _≤_}
+use Rattle.plan.proofs.Common.{_≡_, _+_, _*_, _≤_, arith, now, counted}
 use native.Mathlib.Nat.{mul-le-mul}
-use native.Mathlib.Omega.{arith}
-use denote.Ref.{now}
 use Rattle.case.specs.law.Layout.{nodeAt, stepsOf}
-use Rattle.plan.specs.inside.CaseSizes.{counted, head-there}
+use Rattle.plan.specs.inside.CaseSizes.{head-there}
 use Rattle.plan.proofs.accepted.node_at.Statement.{statement}
 use Rattle.plan.proofs.accepted.node_at.Tie as tie
 

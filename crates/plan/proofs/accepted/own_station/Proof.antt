@@ -1,9 +1,4 @@
-use mathlib.Core.Path.{_≡_, refl, ap}
-use mathlib.Core.Bool.{true, false}
-use borrow.Author.Needs.{needs}
-use borrow.Author.Tests.{le-leb, lt-leb}
-use denote.Ref.{now}
-use lib.Dec.{leb}
+use Rattle.plan.proofs.Common.{_≡_, refl, ap, true, false, needs, le-leb, lt-leb, now, leb}
 use Rattle.case.specs.declared.records.Artificial.{Artificial}
 use Rattle.case.specs.law.Records.{arcOf}
 use Rattle.plan.specs.inside.StationPass.{ownStation}

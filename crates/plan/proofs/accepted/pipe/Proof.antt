@@ -1,32 +1,21 @@
-use mathlib.Core.Path.{_∙_}
-use native.Mathlib.Omega.{arith}
-use borrow.Author.Needs.{needs}
+-- All of the arc's row is inside the case, and each number is read at its place in the row.
+use Rattle.plan.proofs.Common.{_+_, _<_, arith, needs, now, length, kept}
 use Rattle.plan.specs.inside.CaseSizes.{arc-there}
-use Rattle.numbers.specs.inside.SignedLocals.{kept}
 use Rattle.plan.proofs.accepted.pipe.Statement.{statement}
 use Rattle.plan.proofs.accepted.pipe.Tie as tie
 
-number-requires : tie.Need-number-requires
-number-requires c κs = let r = c in omega (arith, r .arc-at .ensures, arc-there (r .before .pre .0) (r .before .args .e) (r .before .pre .1))
-
-number-requires-2 : tie.Need-number-requires-2
-number-requires-2 c κs = let r = c .before in omega (arith, r .arc-at .ensures, arc-there (r .before .pre .0) (r .before .args .e) (r .before .pre .1))
-
-number-requires-3 : tie.Need-number-requires-3
-number-requires-3 c κs = let r = c .before .before in omega (arith, r .arc-at .ensures, arc-there (r .before .pre .0) (r .before .args .e) (r .before .pre .1))
-
-number-requires-4 : tie.Need-number-requires-4
-number-requires-4 c κs = let r = c .before .before .before in omega (arith, r .arc-at .ensures, arc-there (r .before .pre .0) (r .before .args .e) (r .before .pre .1))
+row : (c : tie.After-arc-at) → c .arc-at .result + 10 < length (now (c .before .args .case))
+row c = omega (arith, c .arc-at .ensures, arc-there (c .before .pre .0) (c .before .args .e) (c .before .pre .1))
 
 returns : tie.Need-returns
 returns c =
-    let r = c .before .before .before .before .arc-at .ensures in
-    let k0 = kept _ (c .before .before .before .number .ok) ∙ rw r at (c .before .before .before .number .ensures) in
-    let k1 = kept _ (c .before .before .number2 .ok) ∙ rw r at (c .before .before .number2 .ensures) in
-    let k2 = kept _ (c .before .number3 .ok) ∙ rw r at (c .before .number3 .ensures) in
-    let k3 = kept _ (c .number4 .ok) ∙ rw r at (c .number4 .ensures) in
-    rw (k0, k1, k2, k3)
+    let h = c .number4 in
+    let g = c .before .number3 in
+    let f = c .before .before .number2 in
+    let d = c .before .before .before .number in
+    cc (kept (d .result) (d .ok), kept (f .result) (f .ok), kept (g .result) (g .ok), kept (h .result) (h .ok))
 
 pub pipe-spec : {M : Type 1} → statement M
 pipe-spec = tie.close (tie.spec
-    (λ c κs. search needs) number-requires number-requires-2 number-requires-3 number-requires-4 returns)
+    (λ c κs. search needs) (λ c κs. omega (arith, row c)) (λ c κs. omega (arith, row (c .before)))
+    (λ c κs. omega (arith, row (c .before .before))) (λ c κs. omega (arith, row (c .before .before .before))) returns)

@@ -1,11 +1,8 @@
-use native.Mathlib.Omega.{arith}
-use denote.Ref.{now}
+use Rattle.plan.proofs.Common.{arith, needs, now, counted}
 use Rattle.case.specs.law.Layout.{numberAt}
 use Rattle.plan.specs.law.ArcRules.{flowQuestions, pressureQuestions, pipeQuestions, arcQuestions}
-use Rattle.plan.specs.inside.CaseSizes.{counted}
 use Rattle.plan.specs.inside.AnsweredSizes.{arc-sized}
 use Rattle.plan.proofs.ArcLaws.{went-on, stopped, first-four}
-use borrow.Author.Needs.{needs}
 use Rattle.plan.proofs.arcs.arc_answer.Statement.{statement}
 use Rattle.plan.proofs.arcs.arc_answer.Tie as tie
 

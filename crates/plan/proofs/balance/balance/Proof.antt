@@ -1,16 +1,7 @@
-use mathlib.Core.Path.{_≡_, refl, sym, ap, _∙_}
-use mathlib.Core.Bool.{Bool}
-use Prim.Native.Nat.{ℕ, _≤_, _<_, _-_, _+_}
+use Rattle.plan.proofs.Common.{_≡_, refl, sym, ap, _∙_, Bool, ℕ, _+_, _-_, _<_, _≤_, arith, needs, not-true, not-false, now, pos, w64, toZ, ofZ}
+use Rattle.plan.proofs.Common.{toZ-pos, counted}
 use native.Mathlib.Nat.{mul-le-mul-right}
-use native.Mathlib.Omega.{arith}
-use borrow.Author.Needs.{needs}
-use borrow.Author.Tests.{not-true, not-false}
-use denote.Ref.{now}
-use lib.IntN.{pos}
 use lib.ListN.{getD}
-use mir.Facts.{toZ-pos}
-use mir.Syntax.{w64}
-use mir.Val.{toZ, ofZ}
 use Rattle.numbers.specs.inside.ItemLaws.{rest, rest-on, rest-no, rest-end}
 use Rattle.numbers.specs.law.Question.{firstNo, answer}
 use Rattle.numbers.specs.law.Sums.{sumN}
@@ -21,7 +12,7 @@ use Rattle.plan.specs.law.Totals.{nodeResiduals}
 use Rattle.plan.specs.declared.stepped.Stepped.the-variants.{Kept}
 use Rattle.plan.specs.inside.StepAnswer.{steppedBy}
 use Rattle.plan.specs.inside.Preconditions.{AtBalance}
-use Rattle.plan.specs.inside.CaseSizes.{counted, mass-sized}
+use Rattle.plan.specs.inside.CaseSizes.{mass-sized}
 use Rattle.plan.proofs.Adding.{Counting, startN, turnN, endN}
 use Rattle.plan.proofs.NetFlows.{read}
 use Rattle.plan.proofs.NodeParts.{net-sized, residual-sized, balance-asked}

@@ -1,17 +1,9 @@
-use mathlib.Core.Path.{_≡_, sym, ap, _∙_}
-use mathlib.Core.Bool.{true, false}
-use borrow.Author.Needs.{needs}
-use borrow.Author.Tests.{eq-eqb, ne-eqb}
-use denote.Ref.{now}
-use mir.Syntax.{w64}
-use mir.Val.{toZ, ofZ}
-use Rattle.numbers.specs.inside.SignedLocals.{Held, held, held-fits, _-ʳ_}
+use Rattle.plan.proofs.Common.{_≡_, sym, ap, _∙_, true, false, needs, eq-eqb, ne-eqb, now, w64, toZ, ofZ, Held, held, held-fits, _-ʳ_, counted}
 use Rattle.case.specs.declared.records.Arc.{Arc}
 use Rattle.plan.specs.declared.rows.ArcRow.{ArcRow}
 use Rattle.plan.specs.law.PlanRecords.{arcRow}
 use Rattle.plan.specs.law.Pipes.{isPipe}
 use Rattle.plan.specs.law.Balance.{flowAtFrom, flowAtTo}
-use Rattle.plan.specs.inside.CaseSizes.{counted}
 use Rattle.plan.proofs.NetFlows.{read}
 use Rattle.plan.proofs.balance.end_flows.Statement.{statement}
 use Rattle.plan.proofs.balance.end_flows.Tie as tie

@@ -1,15 +1,7 @@
-use mathlib.Core.Path.{_≡_, sym, ap, _∙_}
+use Rattle.plan.proofs.Common.{_≡_, sym, ap, _∙_, ℕ, _<_, arith, needs, now, eqb, ℤ, _+ℤ_, _-ℤ_, length, w64, toZ, ofZ, Held, held, held-fits, param}
+use Rattle.plan.proofs.Common.{_+ʳ_, _-ʳ_}
 use mathlib.Core.List.{List}
-use Prim.Native.Nat.{ℕ, _<_}
-use native.Mathlib.Omega.{arith}
-use borrow.Author.Needs.{needs}
-use denote.Ref.{now}
-use lib.Dec.{eqb}
-use lib.IntN.{ℤ, _+ℤ_, _-ℤ_}
-use lib.ListN.{length, set, length-set}
-use mir.Syntax.{w64}
-use mir.Val.{toZ, ofZ}
-use Rattle.numbers.specs.inside.SignedLocals.{Held, held, param, held-fits, _+ʳ_, _-ʳ_}
+use lib.ListN.{set, length-set}
 use Rattle.numbers.specs.law.Sums.{only}
 use Rattle.case.specs.law.Layout.{numberAt}
 use Rattle.plan.specs.inside.NetFlow.{movedAt}

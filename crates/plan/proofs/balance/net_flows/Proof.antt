@@ -1,17 +1,10 @@
-use mathlib.Core.Path.{_≡_, refl, sym, ap, _∙_}
-use Prim.Native.Nat.{ℕ, _≤_, _<_, _-_}
-use native.Mathlib.Omega.{arith}
-use denote.Ref.{now}
-use lib.ListN.{length}
-use mir.Syntax.{w64}
-use mir.Val.{toZ, ofZ}
-use Rattle.numbers.specs.inside.SignedLocals.{Held}
+use Rattle.plan.proofs.Common.{_≡_, refl, sym, ap, _∙_, ℕ, _-_, _<_, _≤_, arith, now, length, w64, toZ, ofZ, Held, counted}
 use Rattle.numbers.specs.law.Sums.{sum}
 use Rattle.case.specs.law.Layout.{arcsOf}
 use Rattle.case.specs.law.Records.{arcOf}
 use Rattle.case.specs.declared.records.Arc.{Arc}
 use Rattle.plan.specs.law.Balance.{flowAtFrom, flowAtTo}
-use Rattle.plan.specs.inside.CaseSizes.{counted, from-node, to-node}
+use Rattle.plan.specs.inside.CaseSizes.{from-node, to-node}
 use Rattle.plan.proofs.NetFlows.{Gathers, gathers-none, gathers-more, gathers-sized, read}
 use Rattle.plan.proofs.NodeParts.{nodePart, node-part, net-flow, from-sized, to-sized, part-sized}
 use Rattle.plan.proofs.balance.net_flows.Statement.{statement}

@@ -1,18 +1,10 @@
-use mathlib.Core.Path.{_≡_, ap, ap₂, _∙_}
-use Prim.Native.Nat.{_*_, _≤_}
+use Rattle.plan.proofs.Common.{_≡_, ap, ap₂, _∙_, _*_, _≤_, arith, needs, now, natAbs, _-ℤ_, w64, toZ, ofZ, Held, held, held-fits, _-ʳ_, counted}
 use native.Mathlib.Nat.{mul-le-mul}
-use native.Mathlib.Omega.{arith}
-use borrow.Author.Needs.{needs}
-use denote.Ref.{now}
-use lib.IntN.{natAbs, _-ℤ_}
 use mir.Facts.{fits-le, fits-lit}
-use mir.Syntax.{w64}
-use mir.Val.{toZ, ofZ}
-use Rattle.numbers.specs.inside.SignedLocals.{Held, held, held-fits, _-ʳ_}
 use Rattle.plan.specs.declared.rows.NodeRow.{NodeRow}
 use Rattle.plan.specs.law.Pipes.{duration}
 use Rattle.plan.specs.law.Balance.{nodeImbalance, nodeResidual}
-use Rattle.plan.specs.inside.CaseSizes.{counted, duration-sized}
+use Rattle.plan.specs.inside.CaseSizes.{duration-sized}
 use Rattle.plan.proofs.NetFlows.{read}
 use Rattle.plan.proofs.NodeParts.{net-sized}
 use Rattle.plan.proofs.balance.node_residual.Statement.{statement}

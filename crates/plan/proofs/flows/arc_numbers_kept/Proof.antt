@@ -1,8 +1,4 @@
-use mathlib.Core.Path.{_≡_, ap, ap₂, _∙_}
-use mathlib.Core.Bool.{_&&_}
-use Rattle.numbers.specs.inside.SignedLocals.{kept}
-use borrow.Author.Needs.{needs}
-use lib.Dec.{leb}
+use Rattle.plan.proofs.Common.{_≡_, ap, ap₂, _∙_, _&&_, needs, leb, kept}
 use Rattle.plan.specs.law.ArcFlows.{machinesWithin, settingAllowed, arcNumbersKept}
 use Rattle.plan.specs.law.Setting.{settingOf}
 use Rattle.plan.proofs.flows.arc_numbers_kept.Statement.{statement}

@@ -1,7 +1,4 @@
-use mathlib.Core.Path.{ap₂, _∙_}
-use mathlib.Core.Bool.{_&&_}
-use mir.Facts.{toZ-ofZ}
-use borrow.Author.Needs.{needs}
+use Rattle.plan.proofs.Common.{ap₂, _∙_, _&&_, needs, toZ-ofZ}
 use Rattle.plan.proofs.flows.both_within.Statement.{statement}
 use Rattle.plan.proofs.flows.both_within.Tie as tie
 

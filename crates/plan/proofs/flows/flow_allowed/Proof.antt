@@ -1,12 +1,4 @@
-use mathlib.Core.Path.{_≡_, ap, _∙_}
-use mathlib.Core.Bool.{false, _&&_}
-use Prim.Native.Nat.{_-_, _<_, _≤_}
-use native.Mathlib.Omega.{arith}
-use borrow.Author.Tests.{le-leb, lt-leb}
-use mathlib.Core.Logic.{⊎-elim}
-use Rattle.numbers.specs.inside.SignedLocals.{kept}
-use borrow.Author.Needs.{needs}
-use lib.Dec.{leb}
+use Rattle.plan.proofs.Common.{_≡_, ap, _∙_, false, _&&_, ⊎-elim, _<_, _≤_, arith, needs, le-leb, lt-leb, leb, kept}
 use Rattle.plan.specs.law.ArcFlows.{flowAllowed, noFlowAgainst}
 use Rattle.plan.specs.law.Setting.{settingOf}
 use Rattle.plan.specs.declared.setting.Setting.{Setting}

@@ -1,7 +1,4 @@
-use mathlib.Core.Path.{_≡_, ap, ap₂, _∙_}
-use mathlib.Core.Bool.{Bool}
-use Prim.Native.Nat.{_+_, _-_}
-use borrow.Author.Needs.{needs}
+use Rattle.plan.proofs.Common.{_≡_, ap, ap₂, _∙_, Bool, _+_, needs, counted}
 use Rattle.case.specs.declared.records.Arc.{Arc}
 use Rattle.case.specs.declared.records.Artificial.{Artificial}
 use Rattle.plan.specs.declared.rows.ArcRow.{ArcRow}
@@ -9,7 +6,7 @@ use Rattle.numbers.specs.law.Question.{answer, orElse}
 use Rattle.numbers.specs.inside.QuestionLaws.{orElse-yes}
 use Rattle.plan.specs.law.ArcFlows.{arcNumbersKept, flowAllowed}
 use Rattle.plan.specs.law.ArcRules.{flowQuestions}
-use Rattle.plan.specs.inside.CaseSizes.{counted, qmax-sized}
+use Rattle.plan.specs.inside.CaseSizes.{qmax-sized}
 use Rattle.plan.proofs.flows.flow_answer.Statement.{statement}
 use Rattle.plan.proofs.flows.flow_answer.Tie as tie
 

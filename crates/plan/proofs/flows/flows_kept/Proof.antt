@@ -1,9 +1,4 @@
-use mathlib.Core.Path.{_≡_, _∙_}
-use mathlib.Core.Bool.{_&&_}
-use lib.IntN.{ℤ, pos}
-use Rattle.numbers.specs.inside.SignedLocals.{held, param, literal, held-fits, _-ʳ_, kept}
-use borrow.Author.Tests.{ne-eqb}
-use borrow.Author.Needs.{needs}
+use Rattle.plan.proofs.Common.{_≡_, _∙_, _&&_, needs, ne-eqb, ℤ, pos, held, held-fits, param, literal, _-ʳ_, kept}
 use Rattle.plan.specs.law.ArcFlows.{flowsKept}
 use Rattle.plan.specs.law.Compared.{within}
 use Rattle.plan.proofs.flows.flows_kept.Statement.{statement}

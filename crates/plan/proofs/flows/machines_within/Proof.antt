@@ -1,12 +1,4 @@
-use mathlib.Core.Path.{_≡_, ap₂, _∙_}
-use mathlib.Core.Bool.{_&&_}
-use Prim.Native.Nat.{_≤_, _<_}
-use native.Mathlib.Omega.{arith}
-use lib.IntN.{pos}
-use mir.Facts.{toZ-ofZ}
-use borrow.Author.Tests.{le-leb, lt-leb}
-use borrow.Author.Needs.{needs}
-use lib.Signed.{leZ}
+use Rattle.plan.proofs.Common.{_≡_, ap₂, _∙_, _&&_, _<_, _≤_, arith, needs, le-leb, lt-leb, pos, leZ, toZ-ofZ}
 use Rattle.plan.specs.law.ArcFlows.{machinesWithin}
 use Rattle.numbers.specs.law.Sets.{subsetOf}
 use Rattle.plan.proofs.flows.machines_within.Statement.{statement}

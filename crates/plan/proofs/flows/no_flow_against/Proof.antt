@@ -1,7 +1,4 @@
-use mathlib.Core.Path.{_≡_, refl, ap₂, _∙_}
-use mathlib.Core.Bool.{true, false, _&&_}
-use Rattle.numbers.specs.inside.SignedLocals.{kept}
-use borrow.Author.Needs.{needs}
+use Rattle.plan.proofs.Common.{_≡_, refl, ap₂, _∙_, true, false, _&&_, needs, kept}
 use Rattle.plan.specs.law.Compared.{isZero}
 use Rattle.plan.specs.declared.rows.ArcRow.{ArcRow}
 use Rattle.plan.specs.declared.setting.Way.{Way}

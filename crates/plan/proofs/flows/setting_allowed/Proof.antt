@@ -1,4 +1,4 @@
-use borrow.Author.Needs.{needs}
+use Rattle.plan.proofs.Common.{needs}
 use Rattle.plan.proofs.flows.setting_allowed.Statement.{statement}
 use Rattle.plan.proofs.flows.setting_allowed.Tie as tie
 

@@ -1,14 +1,8 @@
 -- The set holds the machine, or it does not. Assumes nothing.
-use mathlib.Core.Path.{sym, ap, _∙_}
-use Prim.Native.Nat.{_-_}
-use borrow.Author.Needs.{needs}
-use denote.Ref.{now}
-use lib.IntN.{ℤ}
-use mir.Facts.{toZ-ofZ}
+use Rattle.plan.proofs.Common.{sym, ap, _∙_, needs, now, ℤ, toZ-ofZ, kept}
 use Rattle.numbers.specs.law.Sets.{memberOf}
 use Rattle.case.specs.declared.records.Machine.{Machine}
 use Rattle.case.specs.law.Records.{machineRow}
-use Rattle.numbers.specs.inside.SignedLocals.{kept}
 use Rattle.plan.proofs.Adding.{fits, taken-part, left-part}
 use Rattle.plan.specs.law.Machines.{flowPart}
 use Rattle.plan.proofs.machines.flow_part.Statement.{statement}

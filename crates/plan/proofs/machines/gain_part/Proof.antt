@@ -1,11 +1,5 @@
 -- The set holds the machine, or it does not. Assumes nothing.
-use mathlib.Core.Path.{sym, ap, _∙_}
-use Prim.Native.Nat.{_-_}
-use borrow.Author.Needs.{needs}
-use denote.Ref.{now}
-use lib.IntN.{ℤ, pos, _-ℤ_}
-use mir.Facts.{toZ-ofZ}
-use Rattle.numbers.specs.inside.SignedLocals.{held, held-fits, literal, _-ʳ_}
+use Rattle.plan.proofs.Common.{sym, ap, _∙_, needs, now, ℤ, pos, _-ℤ_, toZ-ofZ, held, held-fits, literal, _-ʳ_}
 use Rattle.numbers.specs.law.Sets.{memberOf}
 use Rattle.case.specs.declared.records.Machine.{Machine}
 use Rattle.case.specs.law.Records.{machineRow}

@@ -1,19 +1,10 @@
 -- The sum so far is that over the machines passed. Assumes nothing.
-use mathlib.Core.Path.{refl, ap, _∙_}
-use Prim.Native.Nat.{ℕ, _-_, _<_, _≤_}
-use native.Mathlib.Omega.{arith}
-use borrow.Author.Needs.{needs}
-use denote.Ref.{now}
-use lib.IntN.{ℤ}
-use mir.Syntax.{w64}
-use mir.Val.{toZ, ofZ}
-use mir.Facts.{toZ-ofZ}
+use Rattle.plan.proofs.Common.{refl, ap, _∙_, ℕ, _-_, _<_, _≤_, arith, needs, now, ℤ, w64, toZ, ofZ, toZ-ofZ, kept}
 use Rattle.numbers.specs.law.Sums.{sum}
 use Rattle.numbers.specs.inside.SumLaws.{abs-only-le}
 use Rattle.numbers.specs.law.Sets.{memberOf}
 use Rattle.case.specs.declared.records.Station.{Station}
 use Rattle.case.specs.law.Layout.{machineCount}
-use Rattle.numbers.specs.inside.SignedLocals.{kept}
 use Rattle.plan.proofs.Adding.{Adding, start, fits, turn, end, got}
 use Rattle.plan.specs.law.Machines.{flowPart, machineFlow}
 use Rattle.plan.proofs.machines.machine_flow.Statement.{statement}

@@ -1,14 +1,5 @@
 -- The sum so far is that over the machines passed. Assumes nothing.
-use mathlib.Core.Path.{refl, ap, _∙_}
-use Prim.Native.Nat.{ℕ, _-_, _<_, _≤_}
-use native.Mathlib.Omega.{arith}
-use borrow.Author.Needs.{needs}
-use denote.Ref.{now}
-use lib.IntN.{ℤ, pos}
-use mir.Syntax.{w64}
-use mir.Val.{toZ, ofZ}
-use mir.Facts.{toZ-ofZ}
-use Rattle.numbers.specs.inside.SignedLocals.{literal, _-ʳ_, kept}
+use Rattle.plan.proofs.Common.{refl, ap, _∙_, ℕ, _-_, _<_, _≤_, arith, needs, now, ℤ, pos, w64, toZ, ofZ, toZ-ofZ, literal, _-ʳ_, kept}
 use Rattle.numbers.specs.law.Sums.{sum}
 use Rattle.numbers.specs.inside.SumLaws.{abs-only-le}
 use Rattle.numbers.specs.law.Sets.{memberOf}

@@ -1,9 +1,4 @@
-use mathlib.Core.Path.{_≡_, sym, ap₂, _∙_}
-use mathlib.Core.Bool.{true, false, _&&_}
-use lib.IntN.{_+ℤ_, _-ℤ_}
-use Rattle.numbers.specs.inside.SignedLocals.{held, param, held-fits, _+ʳ_, _-ʳ_, kept}
-use borrow.Author.Needs.{needs}
-use lib.Signed.{leZ}
+use Rattle.plan.proofs.Common.{_≡_, sym, ap₂, _∙_, true, false, _&&_, needs, _+ℤ_, _-ℤ_, leZ, held, held-fits, param, _+ʳ_, _-ʳ_, kept}
 use Rattle.plan.specs.law.NodeRules.{activeBoundsKept}
 use Rattle.plan.specs.law.Compared.{isZero}
 use Rattle.plan.proofs.nodes.active_bounds_kept.Statement.{statement}

@@ -1,7 +1,5 @@
 -- `plan::nodes::demand_met` meets its contract. Assumes nothing.
-use Rattle.numbers.specs.inside.SignedLocals.{held, param, held-fits, _+ʳ_, _-ʳ_, kept}
-use borrow.Author.Needs.{needs}
-use borrow.Author.Tests.{eq-eqb, ne-eqb}
+use Rattle.plan.proofs.Common.{needs, eq-eqb, ne-eqb, held, held-fits, param, _+ʳ_, _-ʳ_, kept}
 use Rattle.plan.specs.law.NodeRules.{demandMet}
 use Rattle.plan.proofs.nodes.demand_met.Statement.{statement}
 use Rattle.plan.proofs.nodes.demand_met.Tie as tie

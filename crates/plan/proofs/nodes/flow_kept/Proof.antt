@@ -1,6 +1,4 @@
-use borrow.Author.Tests.{ne-eqb}
-use borrow.Author.Needs.{needs}
-use mir.Facts.{toZ-ofZ}
+use Rattle.plan.proofs.Common.{needs, ne-eqb, toZ-ofZ}
 use Rattle.plan.specs.law.NodeRules.{boundaryFlowKept}
 use Rattle.plan.proofs.nodes.flow_kept.Statement.{statement}
 use Rattle.plan.proofs.nodes.flow_kept.Tie as tie

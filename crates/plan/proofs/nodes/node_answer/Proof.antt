@@ -1,16 +1,11 @@
-use mathlib.Core.Path.{_≡_, sym, ap, ap₂, _∙_}
-use mathlib.Core.Bool.{Bool, true, false}
-use Prim.Native.Nat.{_+_, _-_}
-use native.Mathlib.Omega.{arith}
-use denote.Ref.{now}
-use borrow.Author.Needs.{needs}
+use Rattle.plan.proofs.Common.{_≡_, sym, ap, ap₂, _∙_, Bool, true, false, _+_, arith, needs, now, counted}
 use Rattle.numbers.specs.law.Question.{answer, orElse}
 use Rattle.numbers.specs.inside.QuestionLaws.{orElse-yes}
 use Rattle.case.specs.law.Records.{nodeOf}
 use Rattle.plan.specs.law.PlanRecords.{nodeRow}
 use Rattle.plan.specs.law.NodeRules.{nodeNumbersKept, demandMet, activeBoundsKept, nodeQuestions}
 use Rattle.plan.specs.inside.Sizes.{NodeSized, NodeRowSized}
-use Rattle.plan.specs.inside.CaseSizes.{counted, node-sized}
+use Rattle.plan.specs.inside.CaseSizes.{node-sized}
 use Rattle.plan.specs.inside.AnsweredSizes.{numbers-sized}
 use Rattle.plan.proofs.nodes.node_answer.Statement.{statement}
 use Rattle.plan.proofs.nodes.node_answer.Tie as tie

@@ -1,13 +1,8 @@
-use mathlib.Core.Path.{_≡_, sym}
-use Prim.Native.Nat.{_-_, _≤_}
-use native.Mathlib.Omega.{arith}
-use denote.Ref.{now}
-use borrow.Author.Needs.{needs}
+use Rattle.plan.proofs.Common.{_≡_, sym, _-_, _≤_, arith, needs, now, counted}
 use Rattle.numbers.specs.law.Question.{firstNo}
 use Rattle.numbers.specs.law.Items.{over}
 use Rattle.numbers.specs.inside.ItemLaws.{rest, rest-on, rest-no, rest-end}
 use Rattle.plan.specs.law.NodeRules.{nodeQuestions, allNodeQuestions}
-use Rattle.plan.specs.inside.CaseSizes.{counted}
 use Rattle.plan.proofs.nodes.node_answers.Statement.{statement}
 use Rattle.plan.proofs.nodes.node_answers.Tie as tie
 

@@ -1,7 +1,4 @@
-use mathlib.Core.Path.{_≡_, ap₂, _∙_}
-use mathlib.Core.Bool.{_&&_}
-use Rattle.numbers.specs.inside.SignedLocals.{kept}
-use borrow.Author.Needs.{needs}
+use Rattle.plan.proofs.Common.{_≡_, ap₂, _∙_, _&&_, needs, kept}
 use Rattle.plan.specs.law.NodeRules.{nodeNumbersKept, boundaryFlowKept}
 use Rattle.plan.specs.law.Compared.{within}
 use Rattle.plan.proofs.nodes.numbers_kept.Statement.{statement}

@@ -1,5 +1,4 @@
-use borrow.Author.Tests.{eq-eqb, ne-eqb}
-use mir.Facts.{toZ-ofZ}
+use Rattle.plan.proofs.Common.{eq-eqb, ne-eqb, toZ-ofZ}
 use Rattle.plan.proofs.nodes.slack_limit.Statement.{statement}
 use Rattle.plan.proofs.nodes.slack_limit.Tie as tie
 

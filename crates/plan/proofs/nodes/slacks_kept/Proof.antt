@@ -1,8 +1,4 @@
-use mathlib.Core.Path.{_≡_, ap, ap₂, _∙_}
-use mathlib.Core.Bool.{_&&_}
-use lib.IntN.{pos, _-ℤ_}
-use Rattle.numbers.specs.inside.SignedLocals.{held, param, held-fits, _-ʳ_, kept}
-use borrow.Author.Needs.{needs}
+use Rattle.plan.proofs.Common.{_≡_, ap, ap₂, _∙_, _&&_, needs, pos, _-ℤ_, held, held-fits, param, _-ʳ_, kept}
 use Rattle.plan.specs.law.NodeRules.{slackLimit, slacksKept}
 use Rattle.plan.specs.law.Compared.{within}
 use Rattle.case.specs.law.Field.{mostFlow}

@@ -1,13 +1,8 @@
-use mathlib.Core.Path.{_≡_, refl, ap, _∙_}
-use mathlib.Core.Logic.{⊎-elim}
-use Prim.Native.Nat.{ℕ, _≤_, _<_, _-_}
-use native.Mathlib.Omega.{arith}
-use denote.Ref.{now}
+use Rattle.plan.proofs.Common.{_≡_, refl, ap, _∙_, ⊎-elim, ℕ, _-_, _<_, _≤_, arith, now, counted}
 use Rattle.case.specs.law.Layout.{arcsOf}
 use Rattle.case.specs.law.StationArcs.{arcSet}
 use Rattle.plan.specs.law.PlanRecords.{activeIn}
 use Rattle.plan.specs.law.StationRules.{activeSet}
-use Rattle.plan.specs.inside.CaseSizes.{counted}
 use Rattle.plan.proofs.StationPasses.{ActivePass, active-none, active-same, active-more, active-few, active-small}
 use Rattle.plan.proofs.passes.active_sets.Statement.{statement}
 use Rattle.plan.proofs.passes.active_sets.Tie as tie

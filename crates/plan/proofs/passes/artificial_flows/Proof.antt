@@ -1,20 +1,12 @@
-use mathlib.Core.Path.{_≡_, refl, sym, ap, _∙_}
-use mathlib.Core.Logic.{⊎-elim}
-use Prim.Native.Nat.{ℕ, _≤_, _<_, _-_}
-use native.Mathlib.Omega.{arith}
-use denote.Ref.{now}
-use lib.IntN.{_-ℤ_}
-use lib.ListN.{length}
-use mir.Syntax.{w64}
-use mir.Val.{toZ, ofZ}
-use Rattle.numbers.specs.inside.SignedLocals.{Held, held, held-fits, _-ʳ_}
+use Rattle.plan.proofs.Common.{_≡_, refl, sym, ap, _∙_, ⊎-elim, ℕ, _-_, _<_, _≤_, arith, now, _-ℤ_, length, w64, toZ, ofZ, Held, held, held-fits, _-ʳ_}
+use Rattle.plan.proofs.Common.{counted}
 use Rattle.numbers.specs.law.Sums.{sum}
 use Rattle.case.specs.law.Layout.{arcsOf}
 use Rattle.case.specs.declared.records.Arc.{Arc}
 use Rattle.plan.specs.declared.rows.ArcRow.{ArcRow}
 use Rattle.plan.specs.law.PlanRecords.{arcRow}
 use Rattle.plan.specs.inside.StationPass.{artificialPart, artificialFlow}
-use Rattle.plan.specs.inside.CaseSizes.{counted, from-node, to-node}
+use Rattle.plan.specs.inside.CaseSizes.{from-node, to-node}
 use Rattle.plan.proofs.NetFlows.{Gathers, gathers-none, gathers-same, gathers-more, gathers-sized, read}
 use Rattle.plan.proofs.StationParts.{artificial-part, artificial-none, artificial-sized}
 use Rattle.plan.proofs.passes.artificial_flows.Statement.{statement}

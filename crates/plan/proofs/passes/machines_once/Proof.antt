@@ -1,15 +1,8 @@
-use mathlib.Core.Path.{_≡_, ap, _∙_}
-use mathlib.Core.Logic.{⊎-elim}
-use Prim.Native.Nat.{_≤_, _<_, _-_, _^_}
-use native.Mathlib.Omega.{arith}
-use borrow.Author.Needs.{needs}
-use denote.Ref.{now}
+use Rattle.plan.proofs.Common.{_≡_, ap, _∙_, ⊎-elim, _-_, _^_, _<_, _≤_, arith, needs, now, kept, counted}
 use Rattle.numbers.specs.law.Signed.{posPart}
 use Rattle.case.specs.law.Layout.{arcsOf}
-use Rattle.numbers.specs.inside.SignedLocals.{kept}
 use Rattle.plan.specs.declared.rows.ArcRow.{ArcRow}
 use Rattle.plan.specs.law.PlanRecords.{arcRow}
-use Rattle.plan.specs.inside.CaseSizes.{counted}
 use Rattle.plan.proofs.StationPasses.{OncePass, once-none, once-same, once-more, once-twice, once-last}
 use Rattle.plan.proofs.passes.machines_once.Statement.{statement}
 use Rattle.plan.proofs.passes.machines_once.Tie as tie

@@ -1,12 +1,5 @@
-use mathlib.Core.Path.{_≡_, sym, ap, _∙_}
-use Prim.Native.Nat.{_<_, _^_}
-use native.Mathlib.Omega.{arith}
-use borrow.Author.Needs.{needs}
-use denote.Ref.{now}
-use lib.IntN.{pos}
+use Rattle.plan.proofs.Common.{_≡_, sym, ap, _∙_, _^_, _<_, arith, needs, now, pos, leZ, kept}
 use lib.Pow.{pow-lt}
-use lib.Signed.{leZ}
-use Rattle.numbers.specs.inside.SignedLocals.{kept}
 use Rattle.numbers.specs.inside.ItemBits.{shifted}
 use Rattle.plan.specs.declared.rows.ArcRow.{ArcRow}
 use Rattle.plan.specs.law.PlanRecords.{activeIn}

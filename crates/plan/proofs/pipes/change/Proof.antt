@@ -1,12 +1,7 @@
-use denote.Ref.{now}
-use lib.IntN.{_-ℤ_}
-use mir.Syntax.{w64}
-use mir.Val.{toZ, ofZ}
-use Rattle.numbers.specs.inside.SignedLocals.{Held, held, held-fits, _-ʳ_}
+use Rattle.plan.proofs.Common.{needs, now, _-ℤ_, w64, toZ, ofZ, Held, held, held-fits, _-ʳ_}
 use Rattle.case.specs.law.Layout.{numberAt}
 use Rattle.plan.specs.law.Pipes.{change}
 use Rattle.plan.proofs.ArcLaws.{read}
-use borrow.Author.Needs.{needs}
 use Rattle.plan.proofs.pipes.change.Statement.{statement}
 use Rattle.plan.proofs.pipes.change.Tie as tie
 

@@ -1,12 +1,6 @@
-use mathlib.Core.Path.{ap₂, _∙_}
-use denote.Ref.{now}
-use lib.IntN.{_-ℤ_}
-use mir.Syntax.{w64}
-use mir.Val.{toZ, ofZ}
-use Rattle.numbers.specs.inside.SignedLocals.{Held, held, held-fits, kept}
+use Rattle.plan.proofs.Common.{ap₂, _∙_, needs, now, _-ℤ_, w64, toZ, ofZ, Held, held, held-fits, kept}
 use Rattle.plan.specs.law.Pipes.{duration}
 use Rattle.plan.specs.inside.CaseSizes.{duration-sized}
-use borrow.Author.Needs.{needs}
 use Rattle.plan.proofs.pipes.duration.Statement.{statement}
 use Rattle.plan.proofs.pipes.duration.Tie as tie
 

@@ -1,4 +1,4 @@
-use Rattle.numbers.specs.inside.SignedLocals.{held, held-fits, param, _+ʳ_, _-ʳ_, _*ʳ_}
+use Rattle.plan.proofs.Common.{held, held-fits, param, _+ʳ_, _-ʳ_, _*ʳ_}
 use Rattle.plan.proofs.pipes.imbalance.Statement.{statement}
 use Rattle.plan.proofs.pipes.imbalance.Tie as tie
 

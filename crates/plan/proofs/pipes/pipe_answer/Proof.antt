@@ -1,11 +1,7 @@
-use mathlib.Core.Path.{_≡_, sym, ap, _∙_}
-use mathlib.Core.Bool.{false}
-use borrow.Author.Tests.{ne-eqb}
-use denote.Ref.{now}
+use Rattle.plan.proofs.Common.{_≡_, sym, ap, _∙_, false, needs, ne-eqb, now}
 use Rattle.case.specs.declared.records.Arc.{Arc}
 use Rattle.plan.specs.law.Pipes.{isPipe, pipeMassKept, pipePressuresKept}
 use Rattle.plan.specs.law.ArcRules.{pipeQuestions}
-use borrow.Author.Needs.{needs}
 use Rattle.plan.proofs.pipes.pipe_answer.Statement.{statement}
 use Rattle.plan.proofs.pipes.pipe_answer.Tie as tie
 

@@ -1,21 +1,12 @@
-use mathlib.Core.Path.{_≡_, sym, ap, ap₂, _∙_}
-use mathlib.Core.Bool.{true}
-use Prim.Native.Nat.{_+_, _≤_}
-use native.Mathlib.Omega.{arith}
-use borrow.Author.Tests.{eq-eqb}
-use denote.Ref.{now}
-use lib.IntN.{pos, natAbs}
-use lib.Signed.{leZ}
-use mir.Syntax.{w64}
-use mir.Val.{toZ, ofZ}
+use Rattle.plan.proofs.Common.{_≡_, sym, ap, ap₂, _∙_, true, _+_, _≤_, arith, needs, eq-eqb, now, pos, natAbs, leZ, w64, toZ, ofZ, Held, held}
+use Rattle.plan.proofs.Common.{held-fits, param, literal, _*ʳ_, kept, counted}
 use Rattle.numbers.specs.law.Question.{answer, orElse}
 use Rattle.numbers.specs.inside.QuestionLaws.{orElse-yes}
-use Rattle.numbers.specs.inside.SignedLocals.{Held, held, held-fits, fit, param, literal, _*ʳ_, kept}
+use Rattle.numbers.specs.inside.SignedLocals.{fit}
 use Rattle.plan.specs.law.Pipes.{isPipe, pipeResidual, pressureBalance, pipeMassKept, pipePressuresKept}
 use Rattle.plan.specs.law.ArcRules.{pipeQuestions}
-use Rattle.plan.specs.inside.CaseSizes.{counted, tolerance-sized}
+use Rattle.plan.specs.inside.CaseSizes.{tolerance-sized}
 use Rattle.plan.proofs.ArcLaws.{read, read-bounded, imbalance-sized, balance-sized}
-use borrow.Author.Needs.{needs}
 use Rattle.plan.proofs.pipes.pipe_kept.Statement.{statement}
 use Rattle.plan.proofs.pipes.pipe_kept.Tie as tie
 

@@ -1,16 +1,8 @@
-use mathlib.Core.Path.{ap, _∙_}
-use Prim.Native.Nat.{_<_}
-use native.Mathlib.Omega.{arith}
-use denote.Ref.{now}
-use lib.IntN.{natAbs}
-use mir.Syntax.{w64}
-use mir.Val.{toZ, ofZ}
-use Rattle.numbers.specs.inside.SignedLocals.{Held, held}
+use Rattle.plan.proofs.Common.{ap, _∙_, _<_, arith, needs, now, natAbs, w64, toZ, ofZ, Held, held, counted}
 use Rattle.case.specs.law.Layout.{numberAt, nodesOf}
 use Rattle.plan.specs.law.Pipes.{pipeImbalance, pipeResidual}
-use Rattle.plan.specs.inside.CaseSizes.{counted, from-node, to-node}
+use Rattle.plan.specs.inside.CaseSizes.{from-node, to-node}
 use Rattle.plan.proofs.ArcLaws.{read-bounded, SumRead, sum-read}
-use borrow.Author.Needs.{needs}
 use Rattle.plan.proofs.pipes.pipe_residual.Statement.{statement}
 use Rattle.plan.proofs.pipes.pipe_residual.Tie as tie
 

@@ -1,20 +1,12 @@
-use mathlib.Core.Path.{ap, _∙_}
-use Prim.Native.Nat.{_<_}
-use native.Mathlib.Omega.{arith}
-use denote.Ref.{now}
-use lib.IntN.{pos}
-use mir.Syntax.{w64}
-use mir.Val.{toZ, ofZ}
-use Rattle.numbers.specs.inside.SignedLocals.{Held, held, held-fits, literal, _+ʳ_, _-ʳ_, _*ʳ_}
+use Rattle.plan.proofs.Common.{ap, _∙_, _<_, arith, needs, now, pos, w64, toZ, ofZ, Held, held, held-fits, literal, _+ʳ_, _-ʳ_, _*ʳ_, counted}
 use Rattle.case.specs.declared.records.Arc.{Arc}
 use Rattle.case.specs.declared.records.Pipe.{Pipe}
 use Rattle.case.specs.law.Records.{arcOf, pipeOf}
 use Rattle.plan.specs.declared.rows.ArcRow.{ArcRow}
 use Rattle.plan.specs.law.PlanRecords.{pressureIn, arcRow}
 use Rattle.plan.specs.law.Pipes.{pressureBalance}
-use Rattle.plan.specs.inside.CaseSizes.{counted, from-node, to-node, pipe-sized}
+use Rattle.plan.specs.inside.CaseSizes.{from-node, to-node, pipe-sized}
 use Rattle.plan.proofs.ArcLaws.{read}
-use borrow.Author.Needs.{needs}
 use Rattle.plan.proofs.pipes.pressure_balance.Statement.{statement}
 use Rattle.plan.proofs.pipes.pressure_balance.Tie as tie
 

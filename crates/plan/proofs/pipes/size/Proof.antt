@@ -1,11 +1,6 @@
-use mathlib.Core.Path.{ap}
-use Prim.Native.Nat.{_^_}
-use native.Mathlib.Omega.{arith}
+use Rattle.plan.proofs.Common.{ap, _^_, arith, pos, natAbs, w64, toZ, ofZ, Held, literal, _-ʳ_}
 use lib.Dec.{lt→ltb}
-use lib.IntN.{pos, natAbs}
-use mir.Syntax.{w64}
-use mir.Val.{toZ, ofZ}
-use Rattle.numbers.specs.inside.SignedLocals.{Held, held<, held-fits<, plain, literal, _-ʳ_, absʳ-neg, castu, castu-is}
+use Rattle.numbers.specs.inside.SignedLocals.{held<, held-fits<, plain, absʳ-neg, castu, castu-is}
 use Rattle.plan.proofs.pipes.size.Statement.{statement}
 use Rattle.plan.proofs.pipes.size.Tie as tie
 

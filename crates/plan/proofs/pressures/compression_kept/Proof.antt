@@ -1,12 +1,6 @@
-use mathlib.Core.Path.{_≡_, sym, ap, ap₂, _∙_, subst}
-use mathlib.Core.Bool.{true, false}
-use native.Mathlib.Omega.{arith}
-use denote.Ref.{now}
-use lib.IntN.{pos, _+ℤ_}
-use lib.Signed.{leZ}
-use mir.Syntax.{w64}
-use mir.Val.{toZ, ofZ}
-use Rattle.numbers.specs.inside.SignedLocals.{Held, held, held-fits, literal, _+ʳ_, _*ʳ_, kept}
+use Rattle.plan.proofs.Common.{_≡_, sym, ap, ap₂, _∙_, true, false, arith, needs, now, pos, _+ℤ_, leZ, w64, toZ, ofZ, Held, held, held-fits, literal}
+use Rattle.plan.proofs.Common.{_+ʳ_, _*ʳ_, kept, counted}
+use mathlib.Core.Path.{subst}
 use Rattle.case.specs.declared.records.Node.{Node}
 use Rattle.case.specs.law.Records.{artificialOf}
 use Rattle.plan.specs.declared.rows.ArcRow.{ArcRow}
@@ -15,9 +9,7 @@ use Rattle.plan.specs.law.Machines.{machineGain}
 use Rattle.plan.specs.law.Setting.{stationOffset}
 use Rattle.plan.specs.inside.Sizes.{MachinesSized}
 use Rattle.plan.specs.law.ArcPressures.{outBound, basePressure, ratioOf, compressionKept}
-use Rattle.plan.specs.inside.CaseSizes.{counted}
 use Rattle.plan.proofs.ArcLaws.{read, gain-sized}
-use borrow.Author.Needs.{needs}
 use Rattle.plan.proofs.pressures.compression_kept.Statement.{statement}
 use Rattle.plan.proofs.pressures.compression_kept.Tie as tie
 

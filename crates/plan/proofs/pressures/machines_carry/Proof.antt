@@ -1,22 +1,11 @@
-use mathlib.Core.Path.{_≡_, ap, ap₂, _∙_}
-use mathlib.Core.Bool.{true, false}
-use borrow.Author.Tests.{le-leb, lt-leb}
-use denote.Ref.{now}
-use lib.Dec.{leb}
-use lib.Signed.{leZ}
-use mir.Facts.{toZ-ofZ}
-use mir.Syntax.{w64}
-use mir.Val.{toZ, ofZ}
+use Rattle.plan.proofs.Common.{_≡_, ap, ap₂, _∙_, true, false, needs, le-leb, lt-leb, now, leb, leZ, w64, toZ, ofZ, toZ-ofZ, kept, counted}
 use Rattle.numbers.specs.law.Sets.{countOf}
 use Rattle.case.specs.declared.records.Artificial.{Artificial}
 use Rattle.case.specs.law.Records.{artificialOf}
-use Rattle.numbers.specs.inside.SignedLocals.{kept}
 use Rattle.plan.specs.declared.rows.ArcRow.{ArcRow}
 use Rattle.plan.specs.law.PlanRecords.{arcRow}
 use Rattle.plan.specs.law.Machines.{machineFlow}
 use Rattle.plan.specs.law.ArcMachines.{machinesCarry}
-use Rattle.plan.specs.inside.CaseSizes.{counted}
-use borrow.Author.Needs.{needs}
 use Rattle.plan.proofs.pressures.machines_carry.Statement.{statement}
 use Rattle.plan.proofs.pressures.machines_carry.Tie as tie
 

@@ -1,19 +1,11 @@
-use mathlib.Core.Path.{_≡_, ap, ap₂, _∙_}
-use Prim.Native.Nat.{_≤_}
-use native.Mathlib.Omega.{arith}
-use denote.Ref.{now}
-use mir.Syntax.{w64}
-use mir.Val.{toZ, ofZ}
+use Rattle.plan.proofs.Common.{_≡_, ap, ap₂, _∙_, _≤_, arith, needs, now, w64, toZ, ofZ, kept, counted}
 use Rattle.case.specs.declared.records.Arc.{Arc}
 use Rattle.case.specs.law.Records.{arcOf}
-use Rattle.numbers.specs.inside.SignedLocals.{kept}
 use Rattle.plan.specs.declared.rows.ArcRow.{ArcRow}
 use Rattle.plan.specs.law.PlanRecords.{arcRow}
 use Rattle.plan.specs.law.Setting.{settingOf, settingIn}
 use Rattle.plan.specs.law.ArcMachines.{settingMachines, machinesUsed}
-use Rattle.plan.specs.inside.CaseSizes.{counted}
 use Rattle.plan.proofs.ArcLaws.{machines-none}
-use borrow.Author.Needs.{needs}
 use Rattle.plan.proofs.pressures.machines_used.Statement.{statement}
 use Rattle.plan.proofs.pressures.machines_used.Tie as tie
 

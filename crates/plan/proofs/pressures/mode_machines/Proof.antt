@@ -1,15 +1,8 @@
-use mathlib.Core.Path.{_≡_, ap, _∙_}
-use denote.Ref.{now}
-use mir.Facts.{toZ-ofZ}
-use mir.Syntax.{w64}
-use mir.Val.{toZ, ofZ}
-use Rattle.numbers.specs.inside.SignedLocals.{kept}
+use Rattle.plan.proofs.Common.{_≡_, ap, _∙_, needs, now, w64, toZ, ofZ, toZ-ofZ, kept, counted}
 use Rattle.plan.specs.declared.rows.ArcRow.{ArcRow}
 use Rattle.plan.specs.law.PlanRecords.{arcRow}
 use Rattle.plan.specs.law.ArcMachines.{machinesCarry}
-use Rattle.plan.specs.inside.CaseSizes.{counted}
 use Rattle.plan.proofs.ArcLaws.{offset-is, offset-machines}
-use borrow.Author.Needs.{needs}
 use Rattle.plan.proofs.pressures.mode_machines.Statement.{statement}
 use Rattle.plan.proofs.pressures.mode_machines.Tie as tie
 

@@ -1,14 +1,6 @@
-use mathlib.Core.Path.{_≡_, _∙_}
-use Prim.Native.Nat.{_<_}
-use native.Mathlib.Omega.{arith}
-use denote.Ref.{now}
-use mir.Syntax.{w64}
-use mir.Val.{toZ, ofZ}
-use Rattle.numbers.specs.inside.SignedLocals.{kept}
+use Rattle.plan.proofs.Common.{_≡_, _∙_, _<_, arith, needs, now, w64, toZ, ofZ, kept, counted}
 use Rattle.plan.specs.law.PlanRecords.{pressureIn}
-use Rattle.plan.specs.inside.CaseSizes.{counted}
 use Rattle.plan.proofs.ArcLaws.{offset-is, compresses}
-use borrow.Author.Needs.{needs}
 use Rattle.plan.proofs.pressures.mode_pressures.Statement.{statement}
 use Rattle.plan.proofs.pressures.mode_pressures.Tie as tie
 

@@ -1,6 +1,4 @@
-use mathlib.Core.Path.{sym}
-use borrow.Author.Needs.{needs}
-use denote.Ref.{now}
+use Rattle.plan.proofs.Common.{sym, needs, now}
 use lib.ListN.{List·getD-eq-default}
 use Rattle.plan.proofs.pressures.offset_of.Statement.{statement}
 use Rattle.plan.proofs.pressures.offset_of.Tie as tie

@@ -1,10 +1,5 @@
-use mathlib.Core.Path.{_≡_, sym, _∙_}
-use mathlib.Core.Bool.{true, false}
-use mir.Syntax.{w64}
-use mir.Val.{toZ, ofZ}
-use Rattle.numbers.specs.inside.SignedLocals.{kept}
+use Rattle.plan.proofs.Common.{_≡_, sym, _∙_, true, false, needs, w64, toZ, ofZ, kept}
 use Rattle.plan.specs.law.Compared.{isZero}
-use borrow.Author.Needs.{needs}
 use Rattle.plan.proofs.pressures.out_bound.Statement.{statement}
 use Rattle.plan.proofs.pressures.out_bound.Tie as tie
 

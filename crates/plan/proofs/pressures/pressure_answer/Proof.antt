@@ -1,11 +1,7 @@
-use mathlib.Core.Path.{sym, ap, ap₂, _∙_}
-use Prim.Native.Nat.{_+_}
-use native.Mathlib.Omega.{arith}
+use Rattle.plan.proofs.Common.{sym, ap, ap₂, _∙_, _+_, arith, needs, counted}
 use Rattle.numbers.specs.law.Question.{answer, orElse}
 use Rattle.numbers.specs.inside.QuestionLaws.{orElse-yes}
 use Rattle.plan.specs.law.ArcRules.{pressureQuestions}
-use Rattle.plan.specs.inside.CaseSizes.{counted}
-use borrow.Author.Needs.{needs}
 use Rattle.plan.proofs.pressures.pressure_answer.Statement.{statement}
 use Rattle.plan.proofs.pressures.pressure_answer.Tie as tie
 

@@ -1,21 +1,11 @@
-use mathlib.Core.Path.{_≡_, sym, ap, ap₂, _∙_}
-use Prim.Native.Nat.{_<_}
-use mathlib.Core.Bool.{true, false}
-use native.Mathlib.Omega.{arith}
-use borrow.Author.Tests.{eq-eqb, ne-eqb}
-use denote.Ref.{now}
-use lib.Dec.{eqb}
-use mir.Syntax.{w64}
-use mir.Val.{toZ, ofZ}
+use Rattle.plan.proofs.Common.{_≡_, sym, ap, ap₂, _∙_, true, false, _<_, arith, needs, eq-eqb, ne-eqb, now, eqb, w64, toZ, ofZ, kept, counted}
 use Rattle.case.specs.declared.records.Arc.{Arc}
 use Rattle.case.specs.law.Records.{arcOf}
-use Rattle.numbers.specs.inside.SignedLocals.{kept}
 use Rattle.plan.specs.declared.rows.ArcRow.{ArcRow}
 use Rattle.plan.specs.law.PlanRecords.{pressureIn}
 use Rattle.plan.specs.law.Setting.{settingOf, settingIn}
 use Rattle.plan.specs.law.ArcPressures.{settingPressures, pressuresKept}
-use Rattle.plan.specs.inside.CaseSizes.{counted, from-node, to-node}
-use borrow.Author.Needs.{needs}
+use Rattle.plan.specs.inside.CaseSizes.{from-node, to-node}
 use Rattle.plan.proofs.pressures.pressures_kept.Statement.{statement}
 use Rattle.plan.proofs.pressures.pressures_kept.Tie as tie
 

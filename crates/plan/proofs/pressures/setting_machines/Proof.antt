@@ -1,15 +1,9 @@
-use mathlib.Core.Path.{_≡_, sym, ap, _∙_}
-use denote.Ref.{now}
-use mir.Syntax.{w64}
-use mir.Val.{toZ, ofZ}
-use Rattle.numbers.specs.inside.SignedLocals.{kept}
+use Rattle.plan.proofs.Common.{_≡_, sym, ap, _∙_, needs, now, w64, toZ, ofZ, kept, counted}
 use Rattle.plan.specs.declared.rows.ArcRow.{ArcRow}
 use Rattle.plan.specs.declared.setting.Setting.the-variants.{Active}
 use Rattle.plan.specs.law.PlanRecords.{arcRow}
 use Rattle.plan.specs.law.ArcMachines.{modeMachines}
-use Rattle.plan.specs.inside.CaseSizes.{counted}
 use Rattle.plan.proofs.ArcLaws.{compressing-kind}
-use borrow.Author.Needs.{needs}
 use Rattle.plan.proofs.pressures.setting_machines.Statement.{statement}
 use Rattle.plan.proofs.pressures.setting_machines.Tie as tie
 

@@ -1,13 +1,10 @@
-use mathlib.Core.Path.{sym, ap, _∙_}
-use Prim.Native.Nat.{_<_}
-use denote.Ref.{now}
+use Rattle.plan.proofs.Common.{sym, ap, _∙_, _<_, needs, now}
 use Rattle.case.specs.declared.records.Arc.{Arc}
 use Rattle.case.specs.law.Layout.{nodesOf}
 use Rattle.plan.specs.declared.setting.Setting.the-variants.{Active}
 use Rattle.plan.specs.law.ArcPressures.{modePressures}
 use Rattle.plan.specs.inside.CaseSizes.{from-node, to-node}
 use Rattle.plan.proofs.ArcLaws.{compressing-kind}
-use borrow.Author.Needs.{needs}
 use Rattle.plan.proofs.pressures.setting_pressures.Statement.{statement}
 use Rattle.plan.proofs.pressures.setting_pressures.Tie as tie
 

@@ -1,5 +1,4 @@
-use borrow.Author.Tests.{le-leb, lt-leb}
-use borrow.Author.Needs.{needs}
+use Rattle.plan.proofs.Common.{needs, le-leb, lt-leb}
 use Rattle.plan.specs.law.Setting.{combinedOf}
 use Rattle.plan.proofs.setting.combined.Statement.{statement}
 use Rattle.plan.proofs.setting.combined.Tie as tie

@@ -1,5 +1,4 @@
-use Prim.Native.Nat.{_-_}
-use borrow.Author.Tests.{eq-eqb, ne-eqb}
+use Rattle.plan.proofs.Common.{eq-eqb, ne-eqb}
 use Rattle.plan.specs.law.Setting.{directed}
 use Rattle.plan.proofs.setting.directed.Statement.{statement}
 use Rattle.plan.proofs.setting.directed.Tie as tie

@@ -1,14 +1,6 @@
-use mathlib.Core.Path.{_≡_, sym, _∙_}
-use mathlib.Core.Bool.{true, false}
-use borrow.Author.Tests.{eq-eqb, ne-eqb}
-use borrow.Author.Needs.{needs}
-use mir.Facts.{toZ-ofZ}
-use lib.IntN.{pos}
-use lib.Signed.{leZ}
+use Rattle.plan.proofs.Common.{_≡_, sym, _∙_, true, false, needs, eq-eqb, ne-eqb, eqb, pos, leZ, toZ-ofZ}
 use Rattle.plan.specs.law.Setting.{settingOf}
 use Rattle.numbers.specs.law.Signed.{posPart}
-use lib.Dec.{eqb}
-use Prim.Native.Nat.{_-_}
 use Rattle.plan.proofs.setting.setting_of.Statement.{statement}
 use Rattle.plan.proofs.setting.setting_of.Tie as tie
 

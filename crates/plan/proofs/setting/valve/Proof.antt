@@ -1,4 +1,4 @@
-use borrow.Author.Tests.{eq-eqb, ne-eqb}
+use Rattle.plan.proofs.Common.{eq-eqb, ne-eqb}
 use Rattle.plan.specs.law.Setting.{valveOf}
 use Rattle.plan.proofs.setting.valve.Statement.{statement}
 use Rattle.plan.proofs.setting.valve.Tie as tie

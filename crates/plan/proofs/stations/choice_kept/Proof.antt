@@ -1,22 +1,11 @@
-use mathlib.Core.Path.{_≡_, sym, ap, ap₂, _∙_}
-use mathlib.Core.Bool.{Bool}
-use Prim.Native.Nat.{ℕ, _<_, _^_}
-use native.Mathlib.Omega.{arith}
-use borrow.Author.Needs.{needs}
-use denote.Ref.{now}
-use lib.IntN.{ℤ, pos}
-use mir.Facts.{toZ-pos}
-use mir.Syntax.{w64}
-use mir.Val.{toZ, ofZ}
+use Rattle.plan.proofs.Common.{_≡_, sym, ap, ap₂, _∙_, Bool, ℕ, _^_, _<_, arith, needs, now, ℤ, pos, w64, toZ, ofZ, toZ-pos, kept, counted}
 use Rattle.numbers.specs.law.Signed.{posPart}
 use Rattle.case.specs.law.Records.{stationRow, stateRow, stationOf, stateOf}
 use Rattle.case.specs.declared.records.Station.{Station}
-use Rattle.numbers.specs.inside.SignedLocals.{kept}
 use Rattle.plan.specs.declared.rows.Choice.{Choice}
 use Rattle.plan.specs.law.PlanRecords.{choiceOf, stateIn}
 use Rattle.plan.specs.law.StationRules.{oneOf, activeSet, obeyed, choiceKept}
 use Rattle.plan.specs.inside.StationPass.{activeBits}
-use Rattle.plan.specs.inside.CaseSizes.{counted}
 use Rattle.plan.proofs.StationPasses.{active-bits}
 use Rattle.plan.proofs.stations.choice_kept.Statement.{statement}
 use Rattle.plan.proofs.stations.choice_kept.Tie as tie

@@ -1,8 +1,4 @@
-use mathlib.Core.Path.{ap, _∙_}
-use borrow.Author.Needs.{needs}
-use lib.IntN.{ℤ, pos}
-use lib.Signed.{leZ}
-use mir.Facts.{toZ-ofZ}
+use Rattle.plan.proofs.Common.{ap, _∙_, needs, ℤ, pos, leZ, toZ-ofZ}
 use Rattle.plan.specs.law.Compared.{isZero}
 use Rattle.plan.proofs.stations.fence_flow_kept.Statement.{statement}
 use Rattle.plan.proofs.stations.fence_flow_kept.Tie as tie

@@ -1,20 +1,12 @@
-use mathlib.Core.Path.{_≡_, refl, sym, ap, ap₂, _∙_}
-use mathlib.Core.Bool.{true}
-use Prim.Native.Nat.{_≤_, _<_, _-_}
-use native.Mathlib.Omega.{arith}
-use borrow.Author.Needs.{needs}
-use borrow.Author.Tests.{not-true, not-false}
-use denote.Ref.{now}
+use Rattle.plan.proofs.Common.{_≡_, refl, sym, ap, ap₂, _∙_, true, _-_, _<_, _≤_, arith, needs, not-true, not-false, now, kept, counted}
 use Rattle.numbers.specs.law.Signed.{posPart}
 use Rattle.case.specs.inside.CountLaws.{every-more, every-not}
 use Rattle.case.specs.law.Layout.{nodesOf}
 use Rattle.case.specs.law.Records.{directionRow, directionOf}
 use Rattle.case.specs.law.StationArcs.{every}
-use Rattle.numbers.specs.inside.SignedLocals.{kept}
 use Rattle.plan.specs.declared.rows.Choice.{Choice}
 use Rattle.plan.specs.law.PlanRecords.{directionIn}
 use Rattle.plan.specs.law.StationRules.{fenceKept, fenceFlowsKept}
-use Rattle.plan.specs.inside.CaseSizes.{counted}
 use Rattle.plan.proofs.StationParts.{fence-node}
 use Rattle.plan.proofs.stations.fence_flows_kept.Statement.{statement}
 use Rattle.plan.proofs.stations.fence_flows_kept.Tie as tie

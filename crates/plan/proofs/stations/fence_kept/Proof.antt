@@ -1,9 +1,5 @@
-use mathlib.Core.Path.{_≡_, sym, ap, _∙_}
-use borrow.Author.Needs.{needs}
-use lib.IntN.{ℤ}
-use mir.Facts.{toZ-ofZ}
+use Rattle.plan.proofs.Common.{_≡_, sym, ap, _∙_, needs, ℤ, toZ-ofZ, kept}
 use Rattle.numbers.specs.law.Sets.{memberOf}
-use Rattle.numbers.specs.inside.SignedLocals.{kept}
 use Rattle.plan.specs.law.StationRules.{fenceFlowKept, fenceNodeKept}
 use Rattle.plan.proofs.stations.fence_kept.Statement.{statement}
 use Rattle.plan.proofs.stations.fence_kept.Tie as tie

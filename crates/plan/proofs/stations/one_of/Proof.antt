@@ -1,8 +1,4 @@
-use mathlib.Core.Path.{_≡_, sym, ap, _∙_}
-use borrow.Author.Needs.{needs}
-use lib.IntN.{pos}
-use lib.Signed.{leZ}
-use mir.Facts.{toZ-ofZ}
+use Rattle.plan.proofs.Common.{_≡_, sym, ap, _∙_, needs, pos, leZ, toZ-ofZ}
 use Rattle.numbers.specs.law.Signed.{posPart}
 use Rattle.plan.proofs.stations.one_of.Statement.{statement}
 use Rattle.plan.proofs.stations.one_of.Tie as tie

@@ -1,12 +1,7 @@
-use mathlib.Core.Path.{_≡_, sym, ap, ap₂, _∙_}
-use borrow.Author.Needs.{needs}
-use denote.Ref.{now}
-use lib.IntN.{ℤ}
-use mir.Facts.{toZ-ofZ}
+use Rattle.plan.proofs.Common.{_≡_, sym, ap, ap₂, _∙_, needs, now, ℤ, toZ-ofZ, kept}
 use Rattle.numbers.specs.law.Sets.{memberOf, subsetOf, disjointOf}
 use Rattle.case.specs.law.Records.{stateRow}
 use Rattle.case.specs.declared.records.State.{State}
-use Rattle.numbers.specs.inside.SignedLocals.{kept}
 use Rattle.plan.specs.law.StationRules.{obeyed}
 use Rattle.plan.proofs.stations.state_obeyed.Statement.{statement}
 use Rattle.plan.proofs.stations.state_obeyed.Tie as tie

@@ -1,5 +1,4 @@
-use borrow.Author.Needs.{needs}
-use denote.Ref.{now}
+use Rattle.plan.proofs.Common.{needs, now}
 use Rattle.plan.proofs.StationParts.{station-asked}
 use Rattle.plan.proofs.stations.station_answer.Statement.{statement}
 use Rattle.plan.proofs.stations.station_answer.Tie as tie

@@ -1,14 +1,7 @@
-use mathlib.Core.Path.{_≡_, sym, _∙_}
-use mathlib.Core.Bool.{true, false}
-use Prim.Native.Nat.{_≤_, _<_, _-_}
-use native.Mathlib.Omega.{arith}
-use borrow.Author.Needs.{needs}
-use denote.Ref.{now}
-use lib.ListN.{length}
+use Rattle.plan.proofs.Common.{_≡_, sym, _∙_, true, false, _-_, _<_, _≤_, arith, needs, now, length, counted}
 use Rattle.numbers.specs.inside.ItemLaws.{rest, rest-on, rest-no, rest-end}
 use Rattle.numbers.specs.law.Question.{firstNo}
 use Rattle.case.specs.law.Layout.{stationsOf}
-use Rattle.plan.specs.inside.CaseSizes.{counted}
 use Rattle.plan.specs.law.StationRules.{stationQuestions, allStationQuestions}
 use Rattle.plan.proofs.StationPasses.{getD-any}
 use Rattle.plan.proofs.stations.station_answers.Statement.{statement}
