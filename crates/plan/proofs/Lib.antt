@@ -1,5 +1,6 @@
 -- The proofs of the plan's functions, each in its function's folder, and the laws that several of them cite.
 pub mod Common
+pub mod SignedReads
 pub mod Filled
 pub mod Adding
 pub mod ArcLaws

@@ -1,3 +1,4 @@
+-- A count is the positive part of the number that stands there.
 use Rattle.plan.proofs.Common.{ap, _∙_, needs, kept}
 use Rattle.numbers.specs.law.Signed.{posPart}
 use Rattle.plan.proofs.accepted.count.Statement.{statement}

@@ -1,7 +1,6 @@
-use Rattle.plan.proofs.Common.{_≡_, ap, _∙_, false, _&&_, ⊎-elim, _<_, _≤_, arith, needs, le-leb, lt-leb, leb, kept}
-use Rattle.plan.specs.law.ArcFlows.{flowAllowed, noFlowAgainst}
-use Rattle.plan.specs.law.Setting.{settingOf}
-use Rattle.plan.specs.declared.setting.Setting.{Setting}
+-- Kinds 1 and 2 may flow either way; of any other the setting that was read decides.
+use Rattle.plan.proofs.Common.{_≡_, false, _&&_, ⊎-elim, _<_, _≤_, arith, needs, le-leb, lt-leb, leb, kept}
+use Rattle.plan.specs.law.ArcFlows.{flowAllowed}
 use Rattle.plan.proofs.flows.flow_allowed.Statement.{statement}
 use Rattle.plan.proofs.flows.flow_allowed.Tie as tie
 
@@ -16,12 +15,13 @@ returns c =
 returns-2 : tie.Need-returns-2
 unfolding flowAllowed
 returns-2 c =
-    let s = c .before .before .before .before in
+    let j = c .before .before .before in
+    let s = j .before in
     let k = s .args .c .kind in
     let e : (leb 1 k && leb k 2) ≡ false =
-    ⊎-elim (λ w. let n : k < 1 = omega arith in rw (lt-leb 1 k n)) (λ w. let n : 1 ≤ k = omega arith in let m : 2 < k = omega arith in rw (le-leb 1 k n, lt-leb k 2 m)) (c .before .before .before .if1 .came) in
-    let t : c .before .setting-of .result ≡ settingOf k (s .args .r .setting) = simp (kept (s .args .r .setting) (c .before .before .struct-told .given .1 .1 .0 .1)) at (c .before .setting-of .ensures) in
-    rw e (c .no-flow-against .ensures ∙ ap (λ (x : Setting). noFlowAgainst (leb 3 k) x (s .args .r)) t)
+    ⊎-elim (λ w. let n : k < 1 = omega arith in rw (lt-leb 1 k n))
+    (λ w. let n : 1 ≤ k = omega arith in let m : 2 < k = omega arith in rw (le-leb 1 k n, lt-leb k 2 m)) (j .if1 .came) in
+    rw e (cc (kept (s .args .r .setting) (c .before .before .struct-told .given .1 .1 .0 .1)))
 
 pub flow-allowed-spec : {M : Type 1} → statement M
 flow-allowed-spec = tie.close (tie.spec (λ c κs. search needs) (λ c κs. search needs) returns returns-2)

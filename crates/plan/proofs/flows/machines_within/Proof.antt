@@ -1,6 +1,6 @@
-use Rattle.plan.proofs.Common.{_≡_, ap₂, _∙_, _&&_, _<_, _≤_, arith, needs, le-leb, lt-leb, pos, leZ, toZ-ofZ}
+-- Up to kind 4 an arc has no machines; above, its set is one of the own machines.
+use Rattle.plan.proofs.Common.{_<_, _≤_, arith, needs, le-leb, lt-leb, toZ-ofZ}
 use Rattle.plan.specs.law.ArcFlows.{machinesWithin}
-use Rattle.numbers.specs.law.Sets.{subsetOf}
 use Rattle.plan.proofs.flows.machines_within.Statement.{statement}
 use Rattle.plan.proofs.flows.machines_within.Tie as tie
 
@@ -9,19 +9,14 @@ unfolding machinesWithin
 returns c =
     let s = c .before .before in
     let k : s .args .kind ≤ 4 = omega arith in
-    rw (le-leb _ _ k) (simp (toZ-ofZ (s .fits .machines)) at (c .same .ensures))
+    rw (le-leb _ _ k) (cc (toZ-ofZ (s .fits .machines)))
 
 returns-2 : tie.Need-returns-2
 unfolding machinesWithin
 returns-2 c =
     let s = c .before .before .before .before in
     let k : 4 < s .args .kind = c .before .before .before .if1 .left in
-    let w1 : c .before .before .at-most .result ≡ leZ (pos 0) (s .args .machines) =
-    simp (toZ-ofZ (s .fits .machines)) at (c .before .before .at-most .ensures) in
-    let w2 : c .before .subset .result ≡ subsetOf (s .args .machines) (s .args .own) =
-    simp (toZ-ofZ (s .fits .machines), toZ-ofZ (s .fits .own)) at (c .before .subset .ensures) in
-    rw (lt-leb _ _ k) (c .both .ensures ∙ ap₂ _&&_ w1 w2)
+    rw (lt-leb _ _ k) (cc (toZ-ofZ (s .fits .machines), toZ-ofZ (s .fits .own)))
 
 pub machines-within-spec : {M : Type 1} → statement M
-machines-within-spec = tie.close (tie.spec
-    (λ c κs. search needs) (λ c κs. search needs) (λ c κs. search needs) (λ c κs. search needs) returns returns-2)
+machines-within-spec = tie.close (tie.spec (λ c κs. search needs) (λ c κs. search needs) (λ c κs. search needs) (λ c κs. search needs) returns returns-2)

@@ -1,3 +1,4 @@
+-- The setting's variant and way decide, whatever its mode.
 use Rattle.plan.proofs.Common.{needs}
 use Rattle.plan.proofs.flows.setting_allowed.Statement.{statement}
 use Rattle.plan.proofs.flows.setting_allowed.Tie as tie

@@ -1,5 +1,5 @@
--- `plan::nodes::demand_met` meets its contract. Assumes nothing.
-use Rattle.plan.proofs.Common.{needs, eq-eqb, ne-eqb, held, held-fits, param, _+ʳ_, _-ʳ_, kept}
+-- A junction has no demand to meet; elsewhere the flow with its two slacks is small enough to add up, and is compared.
+use Rattle.plan.proofs.Common.{eq-eqb, ne-eqb, needs, held, held-fits, param, _+ʳ_, _-ʳ_, kept}
 use Rattle.plan.specs.law.NodeRules.{demandMet}
 use Rattle.plan.proofs.nodes.demand_met.Statement.{statement}
 use Rattle.plan.proofs.nodes.demand_met.Tie as tie
@@ -26,9 +26,10 @@ returns c = rw (eq-eqb _ _ (c .if1 .taken))
 returns-2 : tie.Need-returns-2
 unfolding demandMet
 returns-2 c =
-    let s = c .before .before .before .before .before .before .before .before in
+    let e = c .before .before .before .before .before .before in
+    let s = e .before .before in
     let v = (held (held (param (s .pre .d) tt +ʳ param (s .pre .splus) tt) tt -ʳ param (s .pre .sminus) tt) tt) .val in
-    rw (ne-eqb _ _ (c .before .before .before .before .before .before .if1 .left)) (simp (v, kept (s .args .n .demand) (c .before .struct-told3 .given .1 .1 .1 .1 .1 .1 .0 .1)) at (c .same .ensures))
+    rw (ne-eqb _ _ (e .if1 .left)) (cc (v, kept (s .args .n .demand) (c .before .struct-told3 .given .1 .1 .1 .1 .1 .1 .0 .1)))
 
 pub demand-met-spec : {M : Type 1} → statement M
 demand-met-spec = tie.close (tie.spec add-same sub-same (λ c κs. search needs) returns returns-2)

@@ -1,3 +1,4 @@
+-- The arc's kind chooses the table of its settings.
 use Rattle.plan.proofs.Common.{_<_, _≤_, arith, needs, le-leb, lt-leb, ne-eqb}
 use Rattle.plan.specs.law.Setting.{activeOf}
 use Rattle.plan.proofs.setting.active.Statement.{statement}

@@ -1,3 +1,4 @@
+-- 1 is forward, 2 backward, and any other number unknown.
 use Rattle.plan.proofs.Common.{eq-eqb, ne-eqb}
 use Rattle.plan.specs.law.Setting.{directed}
 use Rattle.plan.proofs.setting.directed.Statement.{statement}
