@@ -1,3 +1,4 @@
+-- The arcs begin where the nodes end, and a case is too small for any offset to overflow.
 use Rattle.plan.proofs.Common.{_≡_, ap, _∙_, arith, now, counted}
 use Rattle.case.specs.law.Layout.{nodesOf, nodeAt, arcAt}
 use Rattle.case.specs.inside.CountsInRange.{arcs-begin}
@@ -8,7 +9,7 @@ use Rattle.plan.proofs.accepted.arc_at.Tie as tie
 nodes-are : (c : tie.After-count) → c .count .result ≡ nodesOf (now (c .before .args .case))
 nodes-are c = c .count .ensures
 
-first-is : (c : tie.After-node-at) → c .node-at .result ≡ nodeAt (now (c .before .before .args .case)) (nodesOf (now (c .before .before .args .case)))
+first-is : (c : tie.After-node-at) → let l = now (c .before .before .args .case) in c .node-at .result ≡ nodeAt l (nodesOf l)
 first-is c = c .node-at .ensures ∙ ap (nodeAt (now (c .before .before .args .case))) (nodes-are (c .before))
 
 mul-result : tie.Need-mul-result

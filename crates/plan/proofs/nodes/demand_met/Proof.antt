@@ -1,4 +1,4 @@
--- A junction has no demand to meet; elsewhere the flow with its two slacks is small enough to add up, and is compared.
+-- An inner node has no demand to meet; elsewhere the flow with its two slacks is small enough to add up, and is compared.
 use Rattle.plan.proofs.Common.{eq-eqb, ne-eqb, needs, held, held-fits, param, _+ʳ_, _-ʳ_, kept}
 use Rattle.plan.specs.law.NodeRules.{demandMet}
 use Rattle.plan.proofs.nodes.demand_met.Statement.{statement}

@@ -1,4 +1,4 @@
--- A junction has no slack; any other node has the limit that it is lent.
+-- The limit is 0 at an inner node, and at any other node the one that is lent.
 use Rattle.plan.proofs.Common.{eq-eqb, ne-eqb, toZ-ofZ}
 use Rattle.plan.proofs.nodes.slack_limit.Statement.{statement}
 use Rattle.plan.proofs.nodes.slack_limit.Tie as tie

@@ -1,11 +1,12 @@
-use Rattle.plan.proofs.Common.{_≡_, ap, ap₂, _∙_, _≤_, arith, needs, now, w64, toZ, ofZ, kept, counted}
+-- Only compressors and combined arcs compress; any other arc has no machines, whatever its setting.
+use Rattle.plan.proofs.Common.{_≡_, ap, ap₂, _∙_, _≤_, arith, needs, now, counted}
 use Rattle.case.specs.declared.records.Arc.{Arc}
 use Rattle.case.specs.law.Records.{arcOf}
-use Rattle.plan.specs.declared.rows.ArcRow.{ArcRow}
-use Rattle.plan.specs.law.PlanRecords.{arcRow}
+use Rattle.plan.specs.law.Compared.{isZero}
 use Rattle.plan.specs.law.Setting.{settingOf, settingIn}
 use Rattle.plan.specs.law.ArcMachines.{settingMachines, machinesUsed}
 use Rattle.plan.proofs.ArcLaws.{machines-none}
+use Rattle.plan.proofs.SignedReads.{setting-read, machines-read}
 use Rattle.plan.proofs.pressures.machines_used.Statement.{statement}
 use Rattle.plan.proofs.pressures.machines_used.Tie as tie
 
@@ -13,14 +14,8 @@ setting-is : (c : tie.After-setting-of) → let s = c .before .before .before .b
     c .setting-of .result ≡ settingIn (now (s .args .case)) (now (s .args .rows)) (s .args .e)
 setting-is c =
     let a = c .before .before .before in
-    let n = kept _ (c .before .struct-told2 .given .1 .1 .0 .1) ∙ ap (λ (x : ArcRow). x .setting) (a .before .arc-row .ensures) in
+    let n = setting-read (c .before .struct-told2 .given .1 .1 .0 .1) (a .before .arc-row .ensures) in
     c .setting-of .ensures ∙ ap₂ settingOf (ap (λ (x : Arc). x .kind) (a .arc .ensures)) n
-
-arc-row-requires : tie.Need-arc-row-requires
-arc-row-requires c κs = let a = c .before .pre in (counted (a .at .accepted), a .arc)
-
-setting-machines-requires : tie.Need-setting-machines-requires
-setting-machines-requires c κs = (c .before .before .before .before .before .before .pre, setting-is c)
 
 returns : tie.Need-returns
 returns c =
@@ -29,9 +24,8 @@ returns c =
     let s = r .before .before in
     let l = now (s .args .case) in
     let k : arcOf l (s .args .e) .kind ≤ 4 = omega (arith, ap (λ (x : Arc). x .kind) (a .arc .ensures), c .before .before .if1 .taken) in
-    let m : toZ w64 (ofZ w64 (r .arc-row .result .machines)) ≡ arcRow l (now (s .args .rows)) (s .args .e) .machines =
-    kept _ (c .before .struct-told .given .1 .1 .1 .0 .1) ∙ ap (λ (x : ArcRow). x .machines) (r .arc-row .ensures) in
-    rw (machines-none l (now (s .args .rows)) (s .args .e) k) (simp m at (c .same .ensures))
+    rw (machines-none l (now (s .args .rows)) (s .args .e) k)
+    (c .same .ensures ∙ ap isZero (machines-read (c .before .struct-told .given .1 .1 .1 .0 .1) (r .arc-row .ensures)))
 
 returns-2 : tie.Need-returns-2
 unfolding machinesUsed
@@ -42,5 +36,5 @@ returns-2 c =
 
 pub machines-used-spec : {M : Type 1} → statement M
 machines-used-spec = tie.close (tie.spec
-    arc-row-requires (λ c κs. search needs) (λ c κs. search needs) (λ c κs. search needs) setting-machines-requires
-    returns returns-2)
+    (λ c κs. let a = c .before .pre in (counted (a .at .accepted), a .arc)) (λ c κs. search needs) (λ c κs. search needs) (λ c κs. search needs)
+    (λ c κs. (c .before .before .before .before .before .before .pre, setting-is c)) returns returns-2)

@@ -1,3 +1,4 @@
+-- Past the end of the offsets the default is read, which is 0.
 use Rattle.plan.proofs.Common.{sym, needs, now}
 use lib.ListN.{List·getD-eq-default}
 use Rattle.plan.proofs.pressures.offset_of.Statement.{statement}

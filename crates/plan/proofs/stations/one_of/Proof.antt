@@ -1,3 +1,4 @@
+-- A negative number is no index, and any other is its own positive part.
 use Rattle.plan.proofs.Common.{_≡_, sym, ap, _∙_, needs, pos, leZ, toZ-ofZ}
 use Rattle.numbers.specs.law.Signed.{posPart}
 use Rattle.plan.proofs.stations.one_of.Statement.{statement}
