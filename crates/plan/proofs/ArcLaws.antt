@@ -1,17 +1,14 @@
--- What the functions of one arc share: signed reads, sizes of a pipe's two sides, the station of a compressing arc, and the order of an arc's questions.
--- Assumes nothing.
-use Rattle.plan.proofs.Common.{_≡_, refl, sym, ap, ap₂, _∙_, Bool, true, false, ℕ, _^_, _<_, _≤_, arith, leb, eqb, ℤ, pos, natAbs, _+ℤ_, _-ℤ_, leZ}
-use Rattle.plan.proofs.Common.{w64, toZ, ofZ, Held, held, literal, _+ʳ_, _-ʳ_, _*ʳ_}
-use mathlib.Core.Path.{subst}
+-- What the functions of one arc share: its ends, the sizes of a pipe's two sides, the station of a compressing arc, and the order of its questions.
+use Rattle.plan.proofs.Common.{_≡_, refl, sym, ap, ap₂, _∙_, Bool, true, false, ℕ, _<_, _≤_, arith, leb, eqb, ℤ, pos, natAbs, _+ℤ_, _-ℤ_, leZ}
+use Rattle.plan.proofs.Common.{w64, toZ, ofZ, counted, Held, literal, _+ʳ_, _-ʳ_, _*ʳ_}
 use mathlib.Core.Bool.{cond}
 use mathlib.Core.List.{List, _++_}
 use borrow.Author.Tests.{leb-false, eqb-false}
-use lib.Dec.{T, ltb}
 use lib.IntN.{_*ℤ_}
 use lib.ListN.{getD}
 use Rattle.numbers.specs.law.Signed.{posPart}
 use Rattle.numbers.specs.inside.SignedBounds.{Bounded}
-use Rattle.numbers.specs.inside.SignedLocals.{plain, loosen}
+use Rattle.numbers.specs.inside.SignedLocals.{loosen}
 use Rattle.numbers.specs.law.Sets.{memberOf}
 use Rattle.numbers.specs.inside.SumLaws.{abs-sum-le, abs-only-le}
 use Rattle.numbers.specs.law.Question.{Question, firstNo, orElse}
@@ -21,7 +18,7 @@ use Rattle.numbers.specs.declared.answer.Answer.the-variants.{Yes, No}
 use Rattle.case.specs.declared.records.Arc.{Arc}
 use Rattle.case.specs.declared.records.Pipe.{Pipe}
 use Rattle.case.specs.declared.records.Artificial.{Artificial}
-use Rattle.case.specs.law.Layout.{numberAt, nodesOf, machineCount}
+use Rattle.case.specs.law.Layout.{numberAt, nodesOf, arcsOf, machineCount}
 use Rattle.case.specs.law.Records.{arcOf, pipeOf, artificialOf, machineRow}
 use Rattle.plan.specs.declared.rows.ArcRow.{ArcRow}
 use Rattle.plan.specs.declared.setting.Way.{Way}
@@ -36,20 +33,24 @@ use Rattle.plan.specs.law.ArcMachines.{settingMachines, machinesUsed}
 use Rattle.plan.specs.law.Machines.{machineGain, gainPart}
 use Rattle.plan.specs.law.Pipes.{duration, change, pipeImbalance, pressureBalance}
 use Rattle.plan.specs.inside.Sizes.{MachinesSized}
-use Rattle.plan.specs.inside.Preconditions.{AtArc, AtPipe, Compresses}
+use Rattle.plan.specs.inside.Preconditions.{AcceptedCase, AtArc, AtPipe, Compresses}
+use Rattle.plan.proofs.SignedReads.{read, read-bounded, sized}
 use Rattle.plan.specs.inside.CaseSizes.{duration-sized, node-sized, from-node, to-node, pipe-sized, station-in, machines-sized}
 
--- ---- signed reads
+-- ---- the two ends of an arc that was read
 
--- a value in a local, of which it is known what it is and how large
-pub read : {r z : ℤ} {n : ℕ} → r ≡ z → Bounded z n → T (ltb n (2 ^ 63)) → Held (toZ w64 (ofZ w64 r)) z n
-read e b t = held (record { val = e; bound = b .bound }) t
+module _ {case : List ℤ} {e : ℕ} (a : AcceptedCase case) (p : e < arcsOf case) {c : Arc} (q : c ≡ arcOf case e) where
+  pub from-in : c .from < nodesOf case
+  from-in = rw q (from-node a e p)
 
-pub read-bounded : {r z : ℤ} {n : ℕ} → Held r z n → Bounded r n
-read-bounded {n = n} h = record { bound = subst (λ (y : ℤ). natAbs y ≤ n) (sym (h .val)) (h .bound) }
+  pub to-in : c .to < nodesOf case
+  to-in = rw q (to-node a e p)
 
-pub sized : {z : ℤ} {n : ℕ} → Bounded z n → Held z z n
-sized b = plain (b .bound)
+  pub from-small : c .from < 60
+  from-small = omega (arith, from-in, counted a .nodes)
+
+  pub to-small : c .to < 60
+  to-small = omega (arith, to-in, counted a .nodes)
 
 -- ---- 26: the ratio of a station's machines
 

@@ -16,5 +16,5 @@ returns c =
     cc (setting, machines, kept (a .x .machines) (own .struct-told2 .given .1 .1 .1 .1 .0 .1))
 
 pub arc-numbers-kept-spec : {M : Type 1} → statement M
-arc-numbers-kept-spec = tie.close (tie.spec 
+arc-numbers-kept-spec = tie.close (tie.spec
     (λ c κs. search needs) (λ c κs. search needs) (λ c κs. search needs) (λ c κs. search needs) (λ c κs. search needs) (λ c κs. search needs) returns)

@@ -1,12 +1,13 @@
--- The sum so far is that over the machines passed. Assumes nothing.
-use Rattle.plan.proofs.Common.{refl, ap, _∙_, ℕ, _-_, _<_, _≤_, arith, needs, now, ℤ, pos, w64, toZ, ofZ, toZ-ofZ, literal, _-ʳ_, kept}
+-- The sum so far is that over the machines passed, each small, and a station has at most 12.
+use Rattle.plan.proofs.Common.{refl, ap, _∙_, ℕ, _-_, _<_, _≤_, arith, needs, now, ℤ, pos, w64, toZ, ofZ, toZ-ofZ, Held, literal, _-ʳ_}
 use Rattle.numbers.specs.law.Sums.{sum}
 use Rattle.numbers.specs.inside.SumLaws.{abs-only-le}
 use Rattle.numbers.specs.law.Sets.{memberOf}
 use Rattle.case.specs.declared.records.Station.{Station}
 use Rattle.case.specs.law.Layout.{machineCount}
-use Rattle.plan.proofs.Adding.{Adding, start, fits, turn, end, got}
+use Rattle.plan.proofs.Adding.{Adding, start, fits, turn, end}
 use Rattle.plan.specs.law.Machines.{gainPart, machineGain}
+use Rattle.plan.proofs.SignedReads.{read, sized, as-told}
 use Rattle.plan.proofs.machines.machine_gain.Statement.{statement}
 use Rattle.plan.proofs.machines.machine_gain.Tie as tie
 
@@ -19,48 +20,41 @@ abbrev μ-loop : tie.MeasureT-loop
 loop-holds : tie.Need-loop-holds Inv-loop μ-loop
 loop-holds c = (omega (arith, c .before .pre .count, ap (λ (y : Station). y .machines) (c .station .ensures)), start)
 
-gain-part-requires : tie.Need-gain-part-requires Inv-loop μ-loop
-gain-part-requires c κs =
-    let h = c .before in
-    let s = h .before .before in
-    (s .pre, omega (arith, c .loop-test .taken, ap (λ (y : Station). y .machines) (h .before .station .ensures)))
+machine-in : (c : tie.In-loop Inv-loop μ-loop) → let a = c .before .before .before .args in c .before .loop .m < machineCount (now (a .case)) (a .offset)
+machine-in c = omega (arith, c .loop-test .taken, ap (λ (y : Station). y .machines) (c .before .before .station .ensures))
+
+part-is : (c : tie.After-gain-part Inv-loop μ-loop) → let h = c .before .before in let a = h .before .before .args in
+    Held (toZ w64 (ofZ w64 (c .gain-part .result))) (gainPart (now (a .case)) (a .offset) (toZ w64 (ofZ w64 (a .set))) (h .loop .m)) 11000
+unfolding gainPart
+part-is c =
+    let s = c .before .before .before .before in
+    let i = c .before .before .loop .m in
+    let q = machine-in (c .before) in
+    read (c .gain-part .ensures) (record { bound = abs-only-le (memberOf (toZ w64 (ofZ w64 (s .args .set))) i) _ ((sized (s .pre .ratio i q) -ʳ literal (pos 1000)) .bound) }) tt
 
 add-sum : tie.Need-add-sum Inv-loop μ-loop
-unfolding gainPart
 add-sum c =
     let g = c .before .before in
-    let h = g .before .before in
-    let s = h .before .before in
-    let i = h .loop .m in
-    let p = g .before .loop-test .taken in
-    let q : i < machineCount (now (s .args .case)) (s .args .offset) = omega (arith, p, ap (λ (y : Station). y .machines) (h .before .station .ensures)) in
-    let k = got (g .gain-part .ensures) (record { bound = abs-only-le (memberOf (toZ w64 (ofZ w64 (s .args .set))) i) _ ((got refl (s .pre .ratio i q) tt -ʳ literal (pos 1000)) .bound) }) tt in
-    fits (h .loop .inv .1) k p (omega (arith, h .loop .inv .0))
+    let v = g .before .before .loop .inv in
+    fits (v .1) (part-is g) (g .before .loop-test .taken) (omega (arith, v .0))
 
 loop-again : tie.Need-loop-again Inv-loop μ-loop
-unfolding gainPart
 loop-again c =
     let g = c .before .before in
-    let h = g .before .before in
-    let s = h .before .before in
-    let i = h .loop .m in
-    let p = g .before .loop-test .taken in
-    let q : i < machineCount (now (s .args .case)) (s .args .offset) = omega (arith, p, ap (λ (y : Station). y .machines) (h .before .station .ensures)) in
-    let k = got (g .gain-part .ensures) (record { bound = abs-only-le (memberOf (toZ w64 (ofZ w64 (s .args .set))) i) _ ((got refl (s .pre .ratio i q) tt -ʳ literal (pos 1000)) .bound) }) tt in
-    (h .loop .inv .0, turn (h .loop .inv .1) refl k p (omega (arith, h .loop .inv .0)))
+    let v = g .before .before .loop .inv in
+    (v .0, turn (v .1) refl (part-is g) (g .before .loop-test .taken) (omega (arith, v .0)))
 
 returns : tie.Need-returns Inv-loop μ-loop
 unfolding machineGain
 returns c =
     let h = c .before .before in
     let s = h .before .before in
-    let l = now (s .args .case) in
-    kept _ (c .struct-told2 .given .0 .1)
-    ∙ end (h .loop .inv .1) (c .before .loop-test .left)
-    ∙ ap (λ (n : ℕ). sum n (gainPart l (s .args .offset) (toZ w64 (ofZ w64 (s .args .set))))) (ap (λ (y : Station). y .machines) (h .before .station .ensures))
-    ∙ ap (λ (y : ℤ). sum (machineCount l (s .args .offset)) (gainPart l (s .args .offset) y)) (toZ-ofZ (s .fits .set))
+    let part = gainPart (now (s .args .case)) (s .args .offset) in
+    as-told (c .struct-told2 .given .0 .1) (end (h .loop .inv .1) (c .before .loop-test .left))
+    ∙ ap (λ (n : ℕ). sum n (part (toZ w64 (ofZ w64 (s .args .set))))) (ap (λ (y : Station). y .machines) (h .before .station .ensures))
+    ∙ ap (λ (y : ℤ). sum (machineCount (now (s .args .case)) (s .args .offset)) (part y)) (toZ-ofZ (s .fits .set))
 
 pub machine-gain-spec : {M : Type 1} → statement M
 machine-gain-spec = tie.close (tie.spec
-    Inv-loop μ-loop (λ c κs. search needs) loop-holds gain-part-requires add-sum (λ c. omega arith) (λ c. omega arith)
-    loop-again returns)
+    Inv-loop μ-loop (λ c κs. search needs) loop-holds (λ c κs. (c .before .before .before .pre, machine-in c)) add-sum (λ c. omega arith)
+    (λ c. omega arith) loop-again returns)

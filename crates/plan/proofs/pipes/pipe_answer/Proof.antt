@@ -1,3 +1,4 @@
+-- Only a pipe, which is an arc of kind 2, is asked 28 and 29.
 use Rattle.plan.proofs.Common.{_≡_, sym, ap, _∙_, false, needs, ne-eqb, now}
 use Rattle.case.specs.declared.records.Arc.{Arc}
 use Rattle.plan.specs.law.Pipes.{isPipe, pipeMassKept, pipePressuresKept}
@@ -6,7 +7,8 @@ use Rattle.plan.proofs.pipes.pipe_answer.Statement.{statement}
 use Rattle.plan.proofs.pipes.pipe_answer.Tie as tie
 
 pipe-kept-requires : tie.Need-pipe-kept-requires
-pipe-kept-requires c κs = record { at = c .before .before .pre; pipe = sym (ap (λ (x : Arc). x .kind) (c .before .arc .ensures)) ∙ c .match .keys1 }
+pipe-kept-requires c κs =
+    record { at = c .before .before .pre; pipe = sym (ap (λ (x : Arc). x .kind) (c .before .arc .ensures)) ∙ c .match .keys1 }
 
 returns : tie.Need-returns
 returns c = search needs

@@ -1,3 +1,4 @@
+-- The size of a number below 0 is that of its negative; above, the number itself is cast.
 use Rattle.plan.proofs.Common.{ap, _^_, arith, pos, natAbs, w64, toZ, ofZ, Held, literal, _-ʳ_}
 use lib.Dec.{lt→ltb}
 use Rattle.numbers.specs.inside.SignedLocals.{held<, held-fits<, plain, absʳ-neg, castu, castu-is}
