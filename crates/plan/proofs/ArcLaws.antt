@@ -1,8 +1,8 @@
--- What the functions of one arc share: its ends, the sizes of a pipe's two sides, the station of a compressing arc, and the order of its questions.
-use Rattle.plan.proofs.Common.{_≡_, refl, sym, ap, ap₂, _∙_, Bool, true, false, ℕ, _<_, _≤_, arith, leb, eqb, ℤ, pos, natAbs, _+ℤ_, _-ℤ_, leZ}
-use Rattle.plan.proofs.Common.{w64, toZ, ofZ, counted, Held, literal, _+ʳ_, _-ʳ_, _*ʳ_}
+-- What the functions of one arc share: its ends, the sizes of a pipe's two sides, and the station of a compressing arc.
+use Rattle.plan.proofs.Common.{_≡_, refl, ap, _∙_, Bool, true, false, ℕ, _<_, _≤_, arith, leb, eqb, ℤ, pos, natAbs, _+ℤ_, _-ℤ_, leZ, w64, toZ, ofZ}
+use Rattle.plan.proofs.Common.{Held, literal, _+ʳ_, _-ʳ_, _*ʳ_, counted}
 use mathlib.Core.Bool.{cond}
-use mathlib.Core.List.{List, _++_}
+use mathlib.Core.List.{List}
 use borrow.Author.Tests.{leb-false, eqb-false}
 use lib.IntN.{_*ℤ_}
 use lib.ListN.{getD}
@@ -11,10 +11,6 @@ use Rattle.numbers.specs.inside.SignedBounds.{Bounded}
 use Rattle.numbers.specs.inside.SignedLocals.{loosen}
 use Rattle.numbers.specs.law.Sets.{memberOf}
 use Rattle.numbers.specs.inside.SumLaws.{abs-sum-le, abs-only-le}
-use Rattle.numbers.specs.law.Question.{Question, firstNo, orElse}
-use Rattle.numbers.specs.inside.QuestionLaws.{firstNo-append, orElse-assoc, orElse-first}
-use Rattle.numbers.specs.declared.answer.Answer.{Answer}
-use Rattle.numbers.specs.declared.answer.Answer.the-variants.{Yes, No}
 use Rattle.case.specs.declared.records.Arc.{Arc}
 use Rattle.case.specs.declared.records.Pipe.{Pipe}
 use Rattle.case.specs.declared.records.Artificial.{Artificial}
@@ -179,22 +175,3 @@ module _ {case old rows : List ℤ} {i e : ℕ} (p : AtPipe case old rows i e) w
       let y = sized (a .pressures .each (arcOf case e .to) (to-node (a .accepted) e (a .arc))) in
       let h = literal (pos 1000000) *ʳ (y -ʳ x) +ʳ sized (z .f) *ʳ sized (f .a) +ʳ sized (z .g) *ʳ sized (f .b) +ʳ sized (z .h) *ʳ (x +ʳ y) in
       record { bound = omega (arith, h .bound) }
-
--- ---- the questions of an arc, the first four asked before the last two
-
-module _ (F P Q : List Question) {f p a : Answer} (ef : f ≡ firstNo F) (ep : p ≡ firstNo P) (ea : a ≡ orElse f p) where
-  joined : firstNo (F ++ (P ++ Q)) ≡ orElse a (firstNo Q)
-  joined =
-      firstNo-append F (P ++ Q)
-      ∙ ap₂ orElse (sym ef) (firstNo-append P Q ∙ ap (λ (y : Answer). orElse y (firstNo Q)) (sym ep))
-      ∙ sym (orElse-assoc f p (firstNo Q))
-      ∙ ap (λ (y : Answer). orElse y (firstNo Q)) (sym ea)
-
-  pub went-on : {q : Answer} → a ≡ Yes → q ≡ firstNo Q → q ≡ firstNo (F ++ (P ++ Q))
-  went-on y e = e ∙ sym (joined ∙ ap (λ (z : Answer). orElse z (firstNo Q)) y)
-
-  pub stopped : {n s v : ℕ} → a ≡ No n s v → a ≡ firstNo (F ++ (P ++ Q))
-  stopped y = y ∙ sym (joined ∙ ap (λ (z : Answer). orElse z (firstNo Q)) y)
-
-  pub first-four : a ≡ Yes → firstNo F ≡ Yes
-  first-four y = sym ef ∙ orElse-first f p (sym ea ∙ y)

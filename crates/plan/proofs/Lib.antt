@@ -3,6 +3,7 @@ pub mod Common
 pub mod SignedReads
 pub mod Filled
 pub mod Adding
+pub mod Questions
 pub mod ArcLaws
 pub mod NetFlows
 pub mod NodeParts

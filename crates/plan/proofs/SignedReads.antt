@@ -1,5 +1,5 @@
 -- Signed values read back out of locals and records: what was read is what stood there, and it is as large as that.
-use Rattle.plan.proofs.Common.{_≡_, sym, ap, _∙_, ℕ, _<_, _≤_, _^_, ℤ, natAbs, w64, toZ, ofZ, Held, held, kept}
+use Rattle.plan.proofs.Common.{_≡_, sym, ap, _∙_, ℕ, _^_, _<_, _≤_, ℤ, natAbs, w64, toZ, ofZ, Held, held, kept}
 use mathlib.Core.Path.{subst}
 use lib.Dec.{T, ltb}
 use lib.Signed.{mag}

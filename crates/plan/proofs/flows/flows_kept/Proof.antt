@@ -1,5 +1,5 @@
 -- The kind chooses the range of the two flows, and what the tests read are the row's flows and the arc's limit.
-use Rattle.plan.proofs.Common.{ne-eqb, needs, pos, held, held-fits, literal, param, _-ʳ_, kept}
+use Rattle.plan.proofs.Common.{needs, ne-eqb, pos, held, held-fits, param, literal, _-ʳ_, kept}
 use Rattle.plan.specs.law.ArcFlows.{flowsKept}
 use Rattle.plan.proofs.flows.flows_kept.Statement.{statement}
 use Rattle.plan.proofs.flows.flows_kept.Tie as tie

@@ -1,5 +1,5 @@
 -- An inner node has no demand to meet; elsewhere the flow with its two slacks is small enough to add up, and is compared.
-use Rattle.plan.proofs.Common.{eq-eqb, ne-eqb, needs, held, held-fits, param, _+ʳ_, _-ʳ_, kept}
+use Rattle.plan.proofs.Common.{needs, eq-eqb, ne-eqb, held, held-fits, param, _+ʳ_, _-ʳ_, kept}
 use Rattle.plan.specs.law.NodeRules.{demandMet}
 use Rattle.plan.proofs.nodes.demand_met.Statement.{statement}
 use Rattle.plan.proofs.nodes.demand_met.Tie as tie

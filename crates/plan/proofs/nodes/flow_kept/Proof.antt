@@ -1,5 +1,5 @@
 -- The kind chooses the test, and the flow that the test reads is the parameter.
-use Rattle.plan.proofs.Common.{ne-eqb, needs, toZ-ofZ}
+use Rattle.plan.proofs.Common.{needs, ne-eqb, toZ-ofZ}
 use Rattle.plan.specs.law.NodeRules.{boundaryFlowKept}
 use Rattle.plan.proofs.nodes.flow_kept.Statement.{statement}
 use Rattle.plan.proofs.nodes.flow_kept.Tie as tie

@@ -1,10 +1,10 @@
 -- Both residuals are small enough to be read as signed numbers; 28 and then 29 hold them against the tolerances.
-use Rattle.plan.proofs.Common.{_≡_, sym, ap, ap₂, _∙_, _+_, _≤_, true, arith, needs, eq-eqb, now, pos, natAbs, leZ, w64, toZ, ofZ, Held, held, held-fits, param, literal, _*ʳ_, counted}
-use Rattle.numbers.specs.law.Question.{answer, orElse}
-use Rattle.numbers.specs.inside.QuestionLaws.{orElse-yes}
+use Rattle.plan.proofs.Common.{_≡_, ap, ap₂, _∙_, true, _+_, _≤_, arith, needs, eq-eqb, now, pos, natAbs, leZ, w64, toZ, ofZ, Held, held, held-fits}
+use Rattle.plan.proofs.Common.{param, literal, _*ʳ_, counted}
 use Rattle.numbers.specs.inside.SignedLocals.{fit}
 use Rattle.plan.specs.law.Pipes.{isPipe, pipeResidual, pressureBalance, pipeMassKept, pipePressuresKept}
 use Rattle.plan.specs.law.ArcRules.{pipeQuestions}
+use Rattle.plan.proofs.Questions.{two-asked}
 use Rattle.plan.specs.inside.CaseSizes.{tolerance-sized}
 use Rattle.plan.proofs.ArcLaws.{imbalance-sized, balance-sized}
 use Rattle.plan.proofs.SignedReads.{read, read-bounded, as-told}
@@ -41,16 +41,13 @@ returns c =
     let d = t .before in
     let m = d .before .before in
     let s = m .before in
-    let i = s .args .i in
-    let e = s .args .e in
-    let k : isPipe (now (s .args .case)) e ≡ true = eq-eqb _ 2 (s .pre .pipe) in
+    let k : isPipe (now (s .args .case)) (s .args .e) ≡ true = eq-eqb _ 2 (s .pre .pipe) in
     let mass = param {z = pos (m .pipe-residual .result)} (record { bound = mass-small m }) tt .val ∙ ap pos (m .pipe-residual .ensures) in
     let end = param {z = pos (d .size .result)} (record { bound = ends-small d }) tt .val ∙ ap pos (ends-is d) in
     let most = held (literal (pos 1000000) *ʳ read (t .at .ensures) (tolerance-sized (s .pre .at .accepted)) tt) tt .val in
     let x = one .at-most .ensures ∙ ap₂ leZ mass (as-told (one .before .at2 .ok) (one .before .at2 .ensures)) in
     let y = two .at-most2 .ensures ∙ ap₂ leZ end most in
-    let asked = c .before .ask2 .ensures ∙ ap (λ b. answer b 29 (i + 1) e) y in
-    rw k (c .or-else .ensures ∙ ap₂ orElse (two .before .ask .ensures ∙ ap (λ b. answer b 28 (i + 1) e) x) (asked ∙ sym (orElse-yes _)))
+    rw k (two-asked 28 29 (s .args .i + 1) (s .args .e) x y (two .before .ask .ensures) (c .before .ask2 .ensures) (c .or-else .ensures))
 
 pub pipe-kept-spec : {M : Type 1} → statement M
 pipe-kept-spec = tie.close (tie.spec

@@ -1,8 +1,7 @@
--- 26 and then 27: the first "no" of two questions is that of the list.
-use Rattle.plan.proofs.Common.{sym, ap, ap₂, _∙_, _+_, _≤_, arith, needs, counted}
-use Rattle.numbers.specs.law.Question.{answer, orElse}
-use Rattle.numbers.specs.inside.QuestionLaws.{orElse-yes}
+-- 26 and then 27, each by the answer that was found.
+use Rattle.plan.proofs.Common.{_+_, _≤_, arith, needs, counted}
 use Rattle.plan.specs.law.ArcRules.{pressureQuestions}
+use Rattle.plan.proofs.Questions.{two-asked}
 use Rattle.plan.proofs.pressures.pressure_answer.Statement.{statement}
 use Rattle.plan.proofs.pressures.pressure_answer.Tie as tie
 
@@ -15,10 +14,9 @@ unfolding pressureQuestions
 returns c =
     let two = c .before in
     let one = two .before .before in
-    let s = one .before .before .before in
-    let a = one .ask .ensures ∙ ap (λ b. answer b 26 (s .args .i + 1) (s .args .e)) (one .before .pressures-kept .ensures) in
-    let b = two .ask2 .ensures ∙ ap (λ b. answer b 27 (s .args .i + 1) (s .args .e)) (two .before .machines-used .ensures) in
-    c .or-else .ensures ∙ ap₂ orElse a (b ∙ sym (orElse-yes _))
+    let a = one .before .before .before .args in
+    two-asked 26 27 (a .i + 1) (a .e) (one .before .pressures-kept .ensures) (two .before .machines-used .ensures)
+    (one .ask .ensures) (two .ask2 .ensures) (c .or-else .ensures)
 
 pub pressure-answer-spec : {M : Type 1} → statement M
 pressure-answer-spec = tie.close (tie.spec

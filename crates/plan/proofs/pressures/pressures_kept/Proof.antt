@@ -1,5 +1,5 @@
 -- An arc of kind 1 lets no pressure rise; any other is judged by its setting, read as the row has it.
-use Rattle.plan.proofs.Common.{_≡_, sym, ap, ap₂, _∙_, false, needs, eq-eqb, ne-eqb, now, eqb, leZ, arith, counted}
+use Rattle.plan.proofs.Common.{_≡_, sym, ap, ap₂, _∙_, false, arith, needs, eq-eqb, ne-eqb, now, eqb, leZ, counted}
 use Rattle.case.specs.declared.records.Arc.{Arc}
 use Rattle.case.specs.law.Records.{arcOf}
 use Rattle.plan.specs.law.PlanRecords.{pressureIn}
