@@ -194,11 +194,11 @@ pub keeping : {w : ℕ → Bool} {n : ℕ} → Keeping w 0 n
 keeping = record { upto = omega arith; so-far = refl }
 
 module _ {w : ℕ → Bool} {i n : ℕ} (k : Keeping w i n) where
-  pub keep-on : i < n → w i ≡ true → Keeping w (i + 1) n
-  keep-on p e = record { upto = omega arith; so-far = every-more i w (k .so-far) e }
+  pub keep-on : {one : Bool} → i < n → one ≡ w i → one ≡ true → Keeping w (i + 1) n
+  keep-on p e y = record { upto = omega arith; so-far = every-more i w (k .so-far) (sym e ∙ y) }
 
-  pub keep-no : i < n → w i ≡ false → false ≡ every n w
-  keep-no p e = sym (every-not n w i p e)
+  pub keep-no : {one : Bool} → i < n → one ≡ w i → one ≡ false → false ≡ every n w
+  keep-no p e y = sym (every-not n w i p (sym e ∙ y))
 
   pub keep-end : n ≤ i → true ≡ every n w
   keep-end p = let e : i ≡ n = omega (arith, k .upto) in sym (rw e at (k .so-far))

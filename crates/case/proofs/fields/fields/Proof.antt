@@ -30,9 +30,6 @@ loop-holds : tie.Need-loop-holds Inv-loop μ-loop
 unfolding fields
 loop-holds c = asking refl
 
-enum-told : tie.Need-enum-told Inv-loop μ-loop
-enum-told c = search needs
-
 returns : tie.Need-returns Inv-loop μ-loop
 returns c =
     let b = c .before .before in
@@ -49,5 +46,5 @@ returns-2 c = ranged (c .before .before) (asking-end (c .before .loop .inv) (c .
 
 pub fields-spec : {M : Type 1} → statement M
 fields-spec = tie.close (tie.spec
-    Inv-loop μ-loop loop-holds (λ c. omega arith) (λ c κs. search needs) enum-told (λ c. search needs) returns
+    Inv-loop μ-loop loop-holds (λ c. omega arith) (λ c κs. search needs) (λ c. search needs) (λ c. search needs) returns
     (λ c. omega arith) (λ c. omega arith) loop-again returns-2)

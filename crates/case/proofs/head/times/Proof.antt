@@ -26,9 +26,6 @@ loop-holds c = (asking refl, record { bound = omega arith })
 time-field-requires : tie.Need-time-field-requires Inv-loop μ-loop
 time-field-requires c κs = (omega arith, record { bound = omega (arith, c .before .loop .inv .1 .bound) })
 
-enum-told : tie.Need-enum-told Inv-loop μ-loop
-enum-told c = search needs
-
 returns : tie.Need-returns Inv-loop μ-loop
 returns c =
     let b = c .before .before in
@@ -47,5 +44,5 @@ returns-2 c = asking-end (c .before .loop .inv .0) (c .loop-test .left)
 
 pub times-spec : {M : Type 1} → statement M
 times-spec = tie.close (tie.spec
-    Inv-loop μ-loop loop-holds time-field-requires enum-told (λ c. search needs) returns (λ c. omega arith)
+    Inv-loop μ-loop loop-holds time-field-requires (λ c. search needs) (λ c. search needs) returns (λ c. omega arith)
     (λ c. omega arith) loop-again returns-2)

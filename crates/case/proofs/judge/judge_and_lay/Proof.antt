@@ -21,9 +21,6 @@ not-both y h = let z : _≡_ {A = ℕ} 0 1 = cc in omega arith
 passes : (c : tie.After-enum-told) → firstNo (listQuestions (now (c .before .before .before .args .case))) ≡ Yes
 passes c = sym (c .before .before .list-answer .ensures) ∙ c .enum-told .given .1
 
-enum-told : tie.Need-enum-told
-enum-told c = search needs
-
 lay-requires : tie.Need-lay-requires
 lay-requires c κs = let l = now (c .before .before .before .args .case) in (list-counted l (passes c), list-stations l (passes c))
 
@@ -59,4 +56,4 @@ returns-2 c =
 
 pub judge-and-lay-spec : {M : Type 1} → statement M
 judge-and-lay-spec = tie.close (tie.spec
-    (λ c κs. search needs) enum-told lay-requires rules-requires (λ c. search needs) returns returns-2)
+    (λ c κs. search needs) (λ c. search needs) lay-requires rules-requires (λ c. search needs) returns returns-2)

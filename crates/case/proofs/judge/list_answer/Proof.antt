@@ -8,9 +8,6 @@ use Rattle.case.proofs.Asked.{stopped, went}
 use Rattle.case.proofs.judge.list_answer.Statement.{statement}
 use Rattle.case.proofs.judge.list_answer.Tie as tie
 
-enum-told : tie.Need-enum-told
-enum-told c = search needs
-
 rows-requires : tie.Need-rows-requires
 rows-requires c κs = head-counted _ (sym (c .before .before .head .ensures) ∙ c .enum-told .given .1)
 
@@ -24,4 +21,4 @@ returns-2 c = stopped (headFields _) (rowQuestions _) (c .before .before .head .
 
 pub list-answer-spec : {M : Type 1} → statement M
 list-answer-spec = tie.close (tie.spec
-    (λ c κs. search needs) enum-told rows-requires (λ c. search needs) returns returns-2)
+    (λ c κs. search needs) (λ c. search needs) rows-requires (λ c. search needs) returns returns-2)

@@ -22,9 +22,6 @@ loop-holds c = asking refl
 node-fields-requires : tie.Need-node-fields-requires Inv-loop μ-loop
 node-fields-requires c κs = (omega arith, omega arith, c .before .before .pre .2)
 
-enum-told : tie.Need-enum-told Inv-loop μ-loop
-enum-told c = search needs
-
 returns : tie.Need-returns Inv-loop μ-loop
 returns c =
     let b = c .before .before in
@@ -40,5 +37,5 @@ returns-2 c = asking-end (c .before .loop .inv) (c .loop-test .left)
 
 pub node-rows-spec : {M : Type 1} → statement M
 node-rows-spec = tie.close (tie.spec
-    Inv-loop μ-loop loop-holds node-fields-requires enum-told (λ c. search needs) returns (λ c. omega arith)
+    Inv-loop μ-loop loop-holds node-fields-requires (λ c. search needs) (λ c. search needs) returns (λ c. omega arith)
     (λ c. omega arith) loop-again returns-2)

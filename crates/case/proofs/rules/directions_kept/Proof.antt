@@ -1,7 +1,7 @@
 -- The directions before `f` keep 16 (`Keeping`); count and sets are read back as they are.
 use mathlib.Core.Bool.{Bool}
 use mathlib.Core.List.{List}
-use mathlib.Core.Path.{_≡_, sym, ap, _∙_}
+use mathlib.Core.Path.{_≡_, ap}
 use Prim.Native.Nat.{ℕ, _-_}
 use native.Mathlib.Omega.{arith}
 use borrow.Author.Needs.{needs}
@@ -50,12 +50,12 @@ returns : tie.Need-returns Inv-loop μ-loop
 returns c =
     let b = c .before in
     let h = b .before .before in
-    told h (keep-no (h .loop .inv) (b .before .loop-test .taken) (sym (b .direction-kept .ensures) ∙ not-true _ (c .if1 .taken)))
+    told h (keep-no (h .loop .inv) (b .before .loop-test .taken) (b .direction-kept .ensures) (not-true _ (c .if1 .taken)))
 
 loop-again : tie.Need-loop-again Inv-loop μ-loop
 loop-again c =
     let b = c .before in
-    keep-on (b .before .before .loop .inv) (b .before .loop-test .taken) (sym (b .direction-kept .ensures) ∙ not-false _ (c .if1 .left))
+    keep-on (b .before .before .loop .inv) (b .before .loop-test .taken) (b .direction-kept .ensures) (not-false _ (c .if1 .left))
 
 returns-2 : tie.Need-returns-2 Inv-loop μ-loop
 returns-2 c = told (c .before) (keep-end (c .before .loop .inv) (c .loop-test .left))

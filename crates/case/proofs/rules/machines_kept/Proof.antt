@@ -1,7 +1,7 @@
 -- The station's arcs before `e` name only its own machines (`Keeping`); an arc of another station keeps the rule by itself.
-use mathlib.Core.Bool.{Bool}
+use mathlib.Core.Bool.{Bool, true, false}
 use mathlib.Core.Logic.{⊎-elim}
-use mathlib.Core.Path.{_≡_, sym, ap, _∙_}
+use mathlib.Core.Path.{_≡_, refl, sym, ap, _∙_}
 use Prim.Native.Nat.{_<_, _-_, _^_}
 use native.Mathlib.Omega.{arith}
 use borrow.Author.Needs.{needs}
@@ -47,20 +47,21 @@ returns c =
     let m = machines-is (t .struct-told .given .1 .1 .1 .1 .0 .1) (u .artificial .ensures) in
     let y = sym (b .belongs .ensures) ∙ u .before .if1 .taken in
     let z = simp m at (sym (c .before .subset .ensures) ∙ not-true _ (c .if2 .taken)) in
-    told (h .before) (keep-no (h .loop .inv) (b .before .loop-test .taken) (rw (y, z)))
+    told (h .before) (keep-no (h .loop .inv) {one = false} (b .before .loop-test .taken) (rw (y, z)) refl)
 
 loop-again : tie.Need-loop-again Inv-loop μ-loop
 unfolding machinesKept
 loop-again c =
     let b = c .before in
     let f = sym (b .belongs .ensures) in
-    keep-on (b .before .before .loop .inv) (b .before .loop-test .taken)
+    keep-on (b .before .before .loop .inv) {one = true} (b .before .loop-test .taken)
     (⊎-elim
     (λ x.
     let m = machines-is (x .2 .given .1 .1 .1 .1 .0 .1) (x .1 .ensures) in
     rw (f ∙ x .0 .taken, simp m at (sym (x .3 .ensures) ∙ not-false _ (x .4 .left))))
     (λ x. rw (f ∙ x .left))
     (c .if1 .came))
+    refl
 
 returns-2 : tie.Need-returns-2 Inv-loop μ-loop
 returns-2 c = told (c .before .before) (keep-end (c .before .loop .inv) (c .loop-test .left))

@@ -16,9 +16,6 @@ early : (c : tie.After-or-else3) → c .or-else3 .result ≡ firstNo (earlyRules
 unfolding earlyRules
 early c = simp firstNo-append (cc)
 
-enum-told : tie.Need-enum-told
-enum-told c = search needs
-
 state-sets-requires : tie.Need-state-sets-requires
 state-sets-requires c κs =
     let o = c .before .before in
@@ -36,4 +33,4 @@ returns-2 c = stopped (earlyRules _) (allStateSets _) (early (c .before .before)
 pub rules-spec : {M : Type 1} → statement M
 rules-spec = tie.close (tie.spec
     (λ c κs. search needs) (λ c κs. search needs) (λ c κs. search needs) (λ c κs. search needs) (λ c κs. search needs)
-    (λ c κs. search needs) (λ c κs. search needs) enum-told state-sets-requires (λ c. search needs) returns returns-2)
+    (λ c κs. search needs) (λ c κs. search needs) (λ c. search needs) state-sets-requires (λ c. search needs) returns returns-2)

@@ -31,9 +31,6 @@ asked b =
 loop-holds : tie.Need-loop-holds Inv-loop μ-loop
 loop-holds c = asking refl
 
-enum-told : tie.Need-enum-told Inv-loop μ-loop
-enum-told c = search needs
-
 returns : tie.Need-returns Inv-loop μ-loop
 returns c =
     let b = c .before .before in
@@ -52,5 +49,5 @@ returns-2 c = asking-end (c .before .loop .inv) (c .loop-test .left)
 pub machine-rows-spec : {M : Type 1} → statement M
 machine-rows-spec = tie.close (tie.spec
     Inv-loop μ-loop loop-holds (λ c. omega arith) (λ c. omega arith) (λ c κs. search needs) (λ c. omega arith)
-    (λ c κs. search needs) (λ c κs. search needs) enum-told (λ c. search needs) returns (λ c. omega arith)
+    (λ c κs. search needs) (λ c κs. search needs) (λ c. search needs) (λ c. search needs) returns (λ c. omega arith)
     (λ c. omega arith) loop-again returns-2)

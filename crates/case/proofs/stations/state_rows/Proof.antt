@@ -32,9 +32,6 @@ asked b =
 loop-holds : tie.Need-loop-holds Inv-loop μ-loop
 loop-holds c = asking refl
 
-enum-told : tie.Need-enum-told Inv-loop μ-loop
-enum-told c = search needs
-
 returns : tie.Need-returns Inv-loop μ-loop
 returns c =
     let b = c .before .before in
@@ -51,5 +48,5 @@ returns-2 c = asking-end (c .before .loop .inv) (c .loop-test .left)
 pub state-rows-spec : {M : Type 1} → statement M
 state-rows-spec = tie.close (tie.spec
     Inv-loop μ-loop (λ c κs. omega arith) (λ c. omega arith) (λ c. omega arith) (λ c. omega arith) loop-holds
-    (λ c. omega arith) (λ c. omega arith) (λ c κs. omega arith) enum-told (λ c. search needs) returns (λ c. omega arith)
+    (λ c. omega arith) (λ c. omega arith) (λ c κs. omega arith) (λ c. search needs) (λ c. search needs) returns (λ c. omega arith)
     (λ c. omega arith) loop-again returns-2)

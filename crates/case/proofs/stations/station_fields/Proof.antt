@@ -7,9 +7,6 @@ use Rattle.case.proofs.Asked.{stopped, went}
 use Rattle.case.proofs.stations.station_fields.Statement.{statement}
 use Rattle.case.proofs.stations.station_fields.Tie as tie
 
-enum-told : tie.Need-enum-told
-enum-told c = search needs
-
 part-rows-requires : tie.Need-part-rows-requires
 part-rows-requires c κs = (c .before .before .before .pre, station-counted _ _ (sym (c .before .before .station-head .ensures) ∙ c .enum-told .given .1))
 
@@ -27,4 +24,4 @@ returns-2 c =
 
 pub station-fields-spec : {M : Type 1} → statement M
 station-fields-spec = tie.close (tie.spec
-    (λ c κs. search needs) enum-told part-rows-requires (λ c. search needs) returns returns-2)
+    (λ c κs. search needs) (λ c. search needs) part-rows-requires (λ c. search needs) returns returns-2)

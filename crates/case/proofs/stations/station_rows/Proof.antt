@@ -34,9 +34,6 @@ loop-holds : tie.Need-loop-holds Inv-loop μ-loop
 unfolding allStationFields
 loop-holds c = (c .pre .1, omega (arith, c .pre .0), asking (c .pre .3))
 
-enum-told : tie.Need-enum-told Inv-loop μ-loop
-enum-told c = search needs
-
 returns : tie.Need-returns Inv-loop μ-loop
 returns c =
     let b = c .before .before in
@@ -74,5 +71,5 @@ returns-2 c =
 
 pub station-rows-spec : {M : Type 1} → statement M
 station-rows-spec = tie.close (tie.spec
-    Inv-loop μ-loop loop-holds (λ c κs. omega arith) enum-told (λ c. search needs) returns station-end-requires
+    Inv-loop μ-loop loop-holds (λ c κs. omega arith) (λ c. search needs) (λ c. search needs) returns station-end-requires
     (λ c. omega arith) (λ c. omega arith) loop-again (λ c κs. search needs) returns-2)

@@ -12,9 +12,6 @@ put-all-requires c κs =
     let z = s .before .before in
     fitting (now (z .before .before .args .list)) (now (z .before .before .args .bytes)) (sym (z .size-of .ensures) ∙ s .s .given .1) .fits
 
-enum-told : tie.Need-enum-told
-enum-told c = search needs
-
 returns : tie.Need-returns
 returns c =
     let p = c .before .before in
@@ -35,4 +32,4 @@ returns-2 c =
 
 pub write-spec : {M : Type 1} → statement M
 write-spec = tie.close (tie.spec
-    (λ c κs. search needs) (λ c. search needs) put-all-requires enum-told (λ c. search needs) returns returns-2)
+    (λ c κs. search needs) (λ c. search needs) put-all-requires (λ c. search needs) (λ c. search needs) returns returns-2)
