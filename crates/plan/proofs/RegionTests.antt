@@ -9,15 +9,10 @@ use Rattle.numbers.specs.law.Sets.{memberOf}
 use Rattle.plan.specs.law.RegionFigures.{figuresOf}
 use Rattle.plan.specs.law.Ledger.{lowestOf}
 use native.Mathlib.Omega.{arith}
-use Rattle.numbers.specs.law.Sums.{onlyN}
 use Rattle.plan.specs.law.Region.{inward}
 
 pub inward-same : {f g h k : Bool} {x y u w : ℤ} → f ≡ h → g ≡ k → x ≡ u → y ≡ w → inward f g x y ≡ inward h k u w
 inward-same {h = h} {k} {x} {y} {u} {w} p q r s = rw (p, q) (ap₂ (inward h k) r s)
-
-pub onlyN-most : (b : Bool) → onlyN b 1 ≤ 1
-onlyN-most true = omega arith
-onlyN-most false = omega arith
 
 -- ---- a search for the lowest item of a set
 

@@ -36,7 +36,7 @@ use Rattle.plan.specs.law.Step.{stepQuestions}
 use Rattle.plan.specs.law.Totals.{pipePart}
 use Rattle.plan.specs.inside.Sizes.{NodeSized, NodeRowSized, NodesSized, PressuresSized, ArcRowSized, FlowsSized}
 use Rattle.plan.specs.inside.Preconditions.{AcceptedCase, MachinesKept, ChoicesKept, StepKept}
-use Rattle.plan.specs.inside.CaseSizes.{node-sized, qmax-sized, mass-sized}
+use Rattle.plan.specs.inside.CaseSizes.{cond-sized, node-sized, qmax-sized, mass-sized}
 
 within-sized : (low x high : ℤ) (n : ℕ) → within low x high ≡ true → natAbs low ≤ n → natAbs high ≤ n → Bounded x n
 within-sized low x high n e h k =
@@ -47,15 +47,7 @@ within-sized low x high n e h k =
 -- ---- 21
 
 slack-limit : (kind : ℕ) (limit : ℤ) {n : ℕ} → natAbs limit ≤ n → natAbs (slackLimit kind limit) ≤ n
-slack-limit kind limit {n} h = go (eqb kind 0)
-  where
-    go : (b : Bool) → natAbs (cond b (pos 0) limit) ≤ n
-    go true = omega arith
-    go false = h
-
-cond-sized : (b : Bool) (x y : ℤ) {n : ℕ} → natAbs x ≤ n → natAbs y ≤ n → natAbs (cond b x y) ≤ n
-cond-sized true x y h k = h
-cond-sized false x y h k = k
+slack-limit kind limit h = cond-sized (eqb kind 0) (pos 0) limit (omega arith) h
 
 difference : {x y : ℤ} {m n : ℕ} → Bounded x m → Bounded y n → natAbs (x -ℤ y) ≤ m + n
 difference {x} {y} h k = omega (arith, taken x y, size x, size y, size (x -ℤ y), h .bound, k .bound)

@@ -15,7 +15,6 @@ use Rattle.numbers.specs.declared.answer.Answer.the-variants.{Yes}
 use Rattle.case.specs.law.Layout.{nodesOf, arcsOf, stationsOf, stepsOf, massTolerance, pressureTolerance, nodeAt, demandsAt, arcAt, stationAt}
 use Rattle.case.specs.law.Records.{nodeOf, arcOf, pipeOf, artificialOf, stationOf, directionOf, stateOf}
 use Rattle.case.specs.law.Field.{mostFlow}
-use Rattle.case.specs.law.NodeFields.{leastDemand, mostDemand}
 use Rattle.case.specs.law.StationFields.{firstItems}
 use Rattle.case.specs.law.StationArcs.{belongs, stationArcs}
 use Rattle.case.specs.law.Judged.{listQuestions}
@@ -33,19 +32,10 @@ use Rattle.plan.specs.inside.Preconditions.{AcceptedCase}
 sized : {low z high : ℤ} (n : ℕ) → Between low z high → natAbs low ≤ n → natAbs high ≤ n → Bounded z n
 sized {low} {z} {high} n r h k = record { bound = omega (ints, r .least, r .most, size low, size high, size z) }
 
-least-demand : (kind : ℕ) → natAbs (leastDemand kind) ≤ 10000000
-least-demand kind = go (eqb kind 2)
-  where
-    go : (b : Bool) → natAbs (cond b (negsuc 9999999) (pos 0)) ≤ 10000000
-    go true = omega arith
-    go false = omega arith
-
-most-demand : (kind : ℕ) → natAbs (mostDemand kind) ≤ 10000000
-most-demand kind = go (eqb kind 1)
-  where
-    go : (b : Bool) → natAbs (cond b mostFlow (pos 0)) ≤ 10000000
-    go true = omega arith
-    go false = omega arith
+-- a number that is chosen by a test
+pub cond-sized : (b : Bool) (x y : ℤ) {n : ℕ} → natAbs x ≤ n → natAbs y ≤ n → natAbs (cond b x y) ≤ n
+cond-sized true x y h k = h
+cond-sized false x y h k = k
 
 module _ {case : List ℤ} (c : AcceptedCase case) where
   facts : CaseRules case
@@ -85,7 +75,10 @@ module _ {case : List ℤ} (c : AcceptedCase case) where
           high = laws.between-bounded (r .high);
           actlow = laws.between-bounded (omega (ints, r .low, r .actlow));
           acthigh = laws.between-bounded (omega (ints, r .low, r .actlow, r .acthigh, r .high));
-          demand = sized 10000000 d (least-demand (nodeOf case v i .kind)) (most-demand (nodeOf case v i .kind));
+          demand =
+              let k = nodeOf case v i .kind in
+              let least = cond-sized (eqb k 2) (negsuc 9999999) (pos 0) {n = 10000000} (omega arith) (omega arith) in
+              sized 10000000 d least (cond-sized (eqb k 1) mostFlow (pos 0) (omega arith) (omega arith));
         }
 
     pub node-there : (i : ℕ) → i < stepsOf case → demandsAt (nodeAt case v) + i < length case

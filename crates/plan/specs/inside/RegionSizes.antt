@@ -4,15 +4,13 @@ use mathlib.Core.Bool.{Bool, true, false, cond, _&&_}
 use mathlib.Core.List.{List}
 use Prim.Native.Nat.{ℕ, _<_, _≤_}
 use native.Mathlib.Omega.{arith}
-use borrow.Author.Tests.{eqb-true}
 use native.Mathlib.Nat.{mul-le-mul, mul-le-mul-right}
 use lib.IntN.{ℤ, negℤ, natAbs, _+ℤ_, _-ℤ_}
-use Rattle.numbers.specs.inside.SignedBounds.{Bounded, abs-add, abs-neg, abs-mul}
+use Rattle.numbers.specs.inside.SignedBounds.{abs-add, abs-neg, abs-mul}
 use Rattle.numbers.specs.law.Sets.{memberOf}
-use Rattle.numbers.specs.law.Sums.{only, onlyN}
+use Rattle.numbers.specs.law.Sums.{onlyN}
 use Rattle.numbers.specs.inside.SumLaws.{abs-sum-le, abs-only-le, sumN-bound}
 use Rattle.case.specs.law.Layout.{numberAt, nodesOf, arcsOf}
-use Rattle.case.specs.law.Records.{arcOf, pipeOf}
 use Rattle.plan.specs.law.PlanRecords.{arcRow}
 use Rattle.plan.specs.law.Pipes.{duration, isPipe}
 use Rattle.plan.specs.law.Balance.{flowAtFrom, flowAtTo}
@@ -23,7 +21,8 @@ use Rattle.plan.specs.law.RegionResidual.{ownNode, ownPipe, ownNodes, ow
 use Rattle.plan.specs.inside.Preconditions.{AcceptedCase}
 use Rattle.plan.specs.inside.RegionBalance.{EndsAreNodes}
 use Rattle.plan.specs.inside.RegionPreconditions.{RegionPressures, RegionFlows, RegionStep}
-use Rattle.plan.specs.inside.CaseSizes.{counted, duration-sized, from-node, to-node, pipe-sized}
+use Rattle.plan.specs.inside.CaseSizes.{counted, cond-sized, duration-sized, from-node, to-node}
+use Rattle.plan.specs.inside.StepSizes.{only-le, only-small, pipe-gas}
 
 pub ends-nodes : {case : List ℤ} → AcceptedCase case → EndsAreNodes case
 ends-nodes c = record { from-node = from-node c; to-node = to-node c }
@@ -33,54 +32,24 @@ pub both-true : (a b : Bool) → a && b ≡ true → a ≡ true
 both-true true b h = refl
 both-true false b h = h
 
-only-small : (b : Bool) (z : ℤ) (x : ℕ) → (b ≡ true → natAbs z ≤ x) → natAbs (only b z) ≤ x
-only-small true z x h = h refl
-only-small false z x h = omega arith
-
-onlyN-small : (b : Bool) (n x : ℕ) → (b ≡ true → n ≤ x) → onlyN b n ≤ x
-onlyN-small true n x h = h refl
-onlyN-small false n x h = omega arith
-
 module _ {case p : List ℤ} (h : RegionPressures case p) where
   pub inner-gas-small : (set : ℤ) (e : ℕ) → e < arcsOf case → natAbs (innerGas case set (numberAt p) e) ≤ 40000000000000
   unfolding innerGas
   inner-gas-small set e l =
-      only-small (innerPipe case set e) _ 40000000000000 (λ k.
-      let c = pipeOf case e .c in
-      let x = numberAt p (arcOf case e .from) in
-      let y = numberAt p (arcOf case e .to) in
-      let f = h .sized .each (arcOf case e .from) (from-node (h .accepted) e l) in
-      let g = h .sized .each (arcOf case e .to) (to-node (h .accepted) e l) in
-      let d = pipe-sized (h .accepted) e l (eqb-true _ _ (both-true (isPipe case e) _ k)) .c in
-      let w : natAbs (x +ℤ y) ≤ 400000 = omega (arith, abs-add x y, f .bound, g .bound) in
-      omega (arith, abs-mul c (x +ℤ y), mul-le-mul (d .bound) w))
+      only-small (innerPipe case set e) _ 40000000000000 (λ k. pipe-gas (h .accepted) (h .sized) e l (both-true (isPipe case e) _ k))
+
+-- the flow at one end of an arc: of a pipe the flow there, of any other arc the difference
+end-small : (k : Bool) (x a b : ℤ) → natAbs x ≤ 10000000 → natAbs a ≤ 10000000 → natAbs b ≤ 10000000 → natAbs (cond k x (a -ℤ b)) ≤ 20000000
+end-small k x a b h m n = cond-sized k x (a -ℤ b) (omega arith) (omega (arith, abs-add a (negℤ b), abs-neg b))
 
 module _ {case rows : List ℤ} (h : RegionFlows case rows) where
-  from-small : (e : ℕ) → e < arcsOf case → natAbs (flowAtFrom case rows e) ≤ 20000000
+  pub from-small : (e : ℕ) → e < arcsOf case → natAbs (flowAtFrom case rows e) ≤ 20000000
   unfolding flowAtFrom
-  from-small e l =
-      let s = h .flows .each e l in
-      go (isPipe case e) (arcRow case rows e .a) (arcRow case rows e .b) (s .a .bound) (s .b .bound)
-    where
-      go : (k : Bool) (a b : ℤ) → natAbs a ≤ 10000000 → natAbs b ≤ 10000000 → natAbs (cond k a (a -ℤ b)) ≤ 20000000
-      go true a b m n = omega arith
-      go false a b m n = omega (arith, abs-add a (negℤ b), abs-neg b)
+  from-small e l = let s = h .flows .each e l in let r = arcRow case rows e in end-small (isPipe case e) (r .a) (r .a) (r .b) (s .a .bound) (s .a .bound) (s .b .bound)
 
-  to-small : (e : ℕ) → e < arcsOf case → natAbs (flowAtTo case rows e) ≤ 20000000
+  pub to-small : (e : ℕ) → e < arcsOf case → natAbs (flowAtTo case rows e) ≤ 20000000
   unfolding flowAtTo
-  to-small e l =
-      let s = h .flows .each e l in
-      go (isPipe case e) (arcRow case rows e .a) (arcRow case rows e .b) (s .a .bound) (s .b .bound)
-    where
-      go : (k : Bool) (a b : ℤ) → natAbs a ≤ 10000000 → natAbs b ≤ 10000000 → natAbs (cond k b (a -ℤ b)) ≤ 20000000
-      go true a b m n = omega arith
-      go false a b m n = omega (arith, abs-add a (negℤ b), abs-neg b)
-
-  pub from-sized : (e : ℕ) → e < arcsOf case → Bounded (flowAtFrom case rows e) 20000000
-  from-sized e l = record { bound = from-small e l }
-
-  pub to-sized : (e : ℕ) → e < arcsOf case → Bounded (flowAtTo case rows e) 20000000
-  to-sized e l = record { bound = to-small e l }
+  to-small e l = let s = h .flows .each e l in let r = arcRow case rows e in end-small (isPipe case e) (r .b) (r .a) (r .b) (s .b .bound) (s .a .bound) (s .b .bound)
 
   pub edge-small : (set : ℤ) (e : ℕ) → e < arcsOf case → natAbs (edgeFlow case set rows e) ≤ 20000000
   unfolding edgeFlow
@@ -122,15 +91,15 @@ module _ {case old rows : List ℤ} {i : ℕ} (h : RegionStep case old rows i) w
 
   pub own-node-small : (set : ℤ) (u : ℕ) → u < nodesOf case → ownNode case set rows i u ≤ 1000000
   unfolding ownNode
-  own-node-small set u l = onlyN-small (memberOf set u) _ 1000000 (λ k. h .kept .nodes u l)
+  own-node-small set u l = only-le (memberOf set u) _ (h .kept .nodes u l)
 
   pub own-pipe-small : (set : ℤ) (e : ℕ) → e < arcsOf case → ownPipe case set (numberAt old) rows i e ≤ 1000000
   unfolding ownPipe pipePart
-  own-pipe-small set e l = onlyN-small (innerPipe case set e) _ 1000000 (λ k. piped (isPipe case e) _ (both-true (isPipe case e) _ k) (h .kept .pipes e l))
+  own-pipe-small set e l = go (isPipe case e) (beginsIn case set e && endsIn case set e) _ (h .kept .pipes e l)
     where
-      piped : (b : Bool) (n : ℕ) → b ≡ true → onlyN b n ≤ 1000000 → n ≤ 1000000
-      piped true n e q = q
-      piped false n e q = let z : _≡_ {A = ℕ} 0 1 = cc in let f : ⊥ = omega arith in absurd f
+      go : (b w : Bool) (n : ℕ) → onlyN b n ≤ 1000000 → onlyN (b && w) n ≤ 1000000
+      go true w n q = only-le w n q
+      go false w n q = q
 
   pub residual-small : (set : ℤ) → regionResidual case set (numberAt old) rows i ≤ 180000000
   unfolding regionResidual ownNodes ownPipes

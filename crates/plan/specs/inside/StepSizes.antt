@@ -12,7 +12,7 @@ use Rattle.numbers.specs.inside.SignedLocals.{Held, plain, _+ʳ_, _*ʳ_}
 use Rattle.numbers.specs.law.Sums.{only, onlyN}
 use Rattle.numbers.specs.inside.SumLaws.{abs-sum-le, sumN-bound}
 use Rattle.case.specs.law.Layout.{numberAt, nodesOf, arcsOf, stationsOf, stepsOf}
-use Rattle.case.specs.law.Records.{arcOf, pipeOf, artificialOf, directionOf, stateOf}
+use Rattle.case.specs.law.Records.{arcOf, pipeOf, artificialOf}
 use Rattle.plan.specs.law.PlanRecords.{directionIn, stateIn, activeIn}
 use Rattle.plan.specs.inside.Sizes.{NodesSized, PressuresSized}
 use Rattle.plan.specs.inside.Preconditions.{AcceptedCase, AtPipe, ChoicesKept, StepKept}
@@ -39,9 +39,13 @@ first-no b w p = rw p
 pub second-no : {a b : Bool} (w : ℕ) → a ≡ true → b ≡ false → 0 ≡ onlyN (a && b) w
 second-no w p q = rw (p, q)
 
-only-le : {n : ℕ} (b : Bool) (w : ℕ) → w ≤ n → onlyN b w ≤ n
+pub only-le : {n : ℕ} (b : Bool) (w : ℕ) → w ≤ n → onlyN b w ≤ n
 only-le true w h = h
 only-le false w h = omega arith
+
+pub only-small : (b : Bool) (z : ℤ) (x : ℕ) → (b ≡ true → natAbs z ≤ x) → natAbs (only b z) ≤ x
+only-small true z x h = h refl
+only-small false z x h = omega arith
 
 sized : {z : ℤ} {n : ℕ} → Bounded z n → Held z z n
 sized h = plain (h .bound)
@@ -49,20 +53,16 @@ sized h = plain (h .bound)
 -- ---- the parts
 
 module _ {case : List ℤ} (c : AcceptedCase case) where
-  pub gas-sized : {p : ℕ → ℤ} → PressuresSized p (nodesOf case) → (e : ℕ) → e < arcsOf case → Bounded (gasPart case p e) 40000000000000
-  unfolding gasPart
-  gas-sized {p} h e q = go (isPipe case e) refl
-    where
-      x : ℤ
-      x = pipeOf case e .c *ℤ (p (arcOf case e .from) +ℤ p (arcOf case e .to))
+  pub pipe-gas : {p : ℕ → ℤ} → PressuresSized p (nodesOf case) → (e : ℕ) → e < arcsOf case → isPipe case e ≡ true
+      → natAbs (pipeOf case e .c *ℤ (p (arcOf case e .from) +ℤ p (arcOf case e .to))) ≤ 40000000000000
+  pipe-gas h e q k =
+      let a = h .each (arcOf case e .from) (from-node c e q) in
+      let b = h .each (arcOf case e .to) (to-node c e q) in
+      (sized (pipe-sized c e q (eqb-true (arcOf case e .kind) 2 k) .c) *ʳ (sized a +ʳ sized b)) .bound
 
-      go : (b : Bool) → isPipe case e ≡ b → Bounded (only b x) 40000000000000
-      go true k =
-          let a = h .each (arcOf case e .from) (from-node c e q) in
-          let b = h .each (arcOf case e .to) (to-node c e q) in
-          let s = pipe-sized c e q (eqb-true (arcOf case e .kind) 2 k) .c in
-          record { bound = (sized s *ʳ (sized a +ʳ sized b)) .bound }
-      go false k = record { bound = omega arith }
+  pub gas-small : {p : ℕ → ℤ} → PressuresSized p (nodesOf case) → (e : ℕ) → e < arcsOf case → natAbs (gasPart case p e) ≤ 40000000000000
+  unfolding gasPart
+  gas-small h e q = only-small (isPipe case e) _ 40000000000000 (pipe-gas h e q)
 
   pub activity-le : (was : Bool) (rows : List ℤ) (e : ℕ) → e < arcsOf case → activityCost case was rows e ≤ 1000000
   unfolding activityCost

@@ -2,7 +2,7 @@
 use mathlib.Core.Path.{_≡_, refl, ap, sym, _∙_}
 use mathlib.Core.Bool.{Bool, true, false}
 use mathlib.Core.List.{List, [], _∷_}
-use Prim.Native.Nat.{ℕ, _+_, _*_}
+use Prim.Native.Nat.{ℕ, _+_, _*_, _≤_}
 use native.Mathlib.Omega.{arith}
 use borrow.Author.Tests.{eqb-true}
 use lib.Dec.{eqb}
@@ -12,6 +12,7 @@ use lib.Seq.{take-at}
 use Rattle.numbers.specs.law.Told.{Told, gives, refuses, overlay}
 use Rattle.numbers.specs.law.Question.{firstNo, told}
 use Rattle.numbers.specs.inside.QuestionLaws.{firstNo-append, told-same}
+use Rattle.numbers.specs.inside.ReadingBounds.{count-within}
 use Rattle.numbers.specs.law.Reading.{Ending, all, no, readOf, endTold, readTold}
 use Rattle.numbers.specs.declared.answer.Answer.{Answer}
 use Rattle.numbers.specs.declared.answer.Answer.the-variants.{Yes, No}
@@ -88,14 +89,15 @@ module _ (bytes : List ℕ) (room : ℕ) where
   pub record ReadAll (count : ℕ) : Type 0 where
     pub ended : readOf bytes room .ended ≡ all
     pub counted : count ≡ length (readOf bytes room .stored)
+    pub within : count ≤ room
 
   pub read-all : {count : ℕ} → gives (pos count ∷ []) ≡ readTold (readOf bytes room) → ReadAll count
   unfolding readTold
   read-all {count} e = go (readOf bytes room .ended) refl e
     where
       go : (d : Ending) → readOf bytes room .ended ≡ d → gives (pos count ∷ []) ≡ endTold d (length (readOf bytes room .stored)) → ReadAll count
-      go all h e = record { ended = h; counted = ap (λ (t : Told). natAbs (getD (t .values) 0 (pos 0))) e }
-      go (no n p) h e = let v = ap (λ (t : Told). length (t .values)) e in let f : ⊥ = omega arith in absurd f
+      go all h k = record { ended = h; counted = ap (λ (t : Told). natAbs (getD (t .values) 0 (pos 0))) k; within = count-within bytes room count e }
+      go (no n p) h k = let v = ap (λ (t : Told). length (t .values)) k in let f : ⊥ = omega arith in absurd f
 
   pub read-no : {n p : ℕ} → refuses n 0 p ≡ readTold (readOf bytes room) → readOf bytes room .ended ≡ no n p
   unfolding readTold

@@ -49,7 +49,7 @@ use Rattle.plan.specs.declared.verdict.Verdict.the-variants.{Accepted, R
 use Rattle.plan.specs.declared.figures.Ledger.{Ledger}
 use Rattle.plan.specs.declared.figures.Ledger.the-variants.{Given}
 use Rattle.plan.specs.declared.figures.Ledger.the-variants as stopped
-use Rattle.plan.specs.inside.StepSizes.{choice-costs-le, activity-costs-le}
+use Rattle.plan.specs.inside.StepSizes.{only-le, choice-costs-le, activity-costs-le}
 
 -- the counts of a verdict are below b, and a refusal's number is not 0
 abbrev pub Fit : ℕ → Verdict → Type 0
@@ -180,11 +180,7 @@ FitLedger b (stopped.Refused n s p) = (n < b) × (s < b) × (p < b)
 
 count-most : (k : ℕ) (w : ℕ → Bool) → count k w ≤ k
 unfolding count
-count-most k w = let b = sumN-bound k 1 (λ i. onlyN (w i) 1) (λ i l. one (w i)) in omega (arith, b)
-  where
-    one : (x : Bool) → onlyN x 1 ≤ 1
-    one true = omega arith
-    one false = omega arith
+count-most k w = omega (arith, sumN-bound k 1 (λ i. onlyN (w i) 1) (λ i l. only-le (w i) 1 (omega arith)))
 
 module _ (case plan : List ℤ) (set s t : ℤ) where
   -- the figures of a region of an accepted plan

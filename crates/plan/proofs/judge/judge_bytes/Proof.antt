@@ -1,17 +1,12 @@
 -- The reading's end decides: all was read, and the list's front is judged with the plan's bytes; or a refusal, and the plan's list stays.
-use mathlib.Core.Path.{_≡_, ap, sym, _∙_}
-use mathlib.Core.List.{[], _∷_}
+use mathlib.Core.Path.{ap, sym, _∙_}
 use Prim.Native.Nat.{_≤_}
 use native.Mathlib.Omega.{arith}
 use borrow.Author.Needs.{needs}
 use denote.Ref.{now}
 use lib.ListN.{length}
 use lib.Seq.{length-take-le}
-use lib.IntN.{pos}
-use Rattle.numbers.specs.law.Told.{gives}
-use Rattle.numbers.specs.law.Reading.{readOf, readTold}
 use Rattle.numbers.specs.law.CodecTold.{readingTold}
-use Rattle.numbers.specs.inside.ReadingBounds.{count-within}
 use Rattle.plan.specs.inside.VerdictLaws.{ReadAll, read-all, read-no, read-front, case-read, list-of, case-unread, case-list}
 use Rattle.plan.proofs.judge.judge_bytes.Statement.{statement}
 use Rattle.plan.proofs.judge.judge_bytes.Tie as tie
@@ -20,16 +15,12 @@ abbrev begin : tie.After-read → tie.Start
 begin d = d .before .before .before .before
 
 -- the case bytes were read to the end
-told : (g : tie.After-got) → let a = begin (g .before .before .before) .args in
-    gives (pos (g .got .given .0 .0) ∷ []) ≡ readTold (readOf (now (a .casebytes)) (length (now (a .caselist))))
-told g = ap readingTold (sym (g .got .given .1)) ∙ g .before .before .before .read .ensures .0
-
 front : (g : tie.After-got) → let a = begin (g .before .before .before) .args in
     ReadAll (now (a .casebytes)) (length (now (a .caselist))) (g .got .given .0 .0)
-front g = read-all _ _ (told g)
+front g = read-all _ _ (ap readingTold (sym (g .got .given .1)) ∙ g .before .before .before .read .ensures .0)
 
 within : (g : tie.After-got) → g .got .given .0 .0 ≤ length (g .before .before .before .read .last .1 .0)
-within g = omega (arith, count-within _ _ _ (told g), g .before .before .before .read .kept .1 .0)
+within g = omega (arith, front g .within, g .before .before .before .read .kept .1 .0)
 
 slice-aggregate-judge-case-list : tie.Need-slice-aggregate-judge-case-list
 slice-aggregate-judge-case-list c = sym (length-take-le _ _ (within (c .before .before)))

@@ -3,7 +3,6 @@ use mathlib.Core.Path.{refl, ap, _∙_}
 use Prim.Native.Nat.{_-_}
 use native.Mathlib.Omega.{arith}
 use borrow.Author.Needs.{needs}
-use Prim.Native.Nat.{ℕ, _<_}
 use denote.Ref.{now}
 use Rattle.case.specs.declared.records.Station.{Station}
 use Rattle.case.specs.law.Layout.{stationsOf}
@@ -24,12 +23,10 @@ loop-holds c = start refl
 
 loop-again : tie.Need-loop-again Inv-loop μ-loop
 loop-again c =
-    let h = c .before .before .before in
-    let s = h .before in
-    let l = now (s .args .case) in
-    let p : h .loop .s < stationsOf l = omega (arith, c .before .before .loop-test .taken, s .pre .1 .stations) in
-    turn (h .loop .inv) p (s .pre .0 .stations)
-    (ap (λ (x : Station). x .state) (c .station .ensures) ∙ ap (λ (k : ℕ). stationRow l k .state) (s .pre .1 .offsets .each (h .loop .s) p))
+    let l = c .before .before .before in
+    let y = l .before .pre in
+    let e = c .station .ensures ∙ ap (stationRow (now (l .before .args .case))) (y .1 .offsets .each (l .loop .s) (omega arith)) in
+    turn (l .loop .inv) (omega arith) (y .0 .stations) (ap (λ (x : Station). x .state) e)
 
 returns : tie.Need-returns Inv-loop μ-loop
 returns c = end (c .before .loop .inv) (omega (arith, c .loop-test .left, c .before .before .pre .1 .stations))

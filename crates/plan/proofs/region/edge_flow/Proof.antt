@@ -8,12 +8,11 @@ use borrow.Author.Needs.{needs}
 use lib.IntN.{ℤ}
 use Rattle.case.specs.declared.records.Arc.{Arc}
 use Rattle.numbers.specs.law.Sets.{memberOf}
-use Rattle.numbers.specs.inside.SignedLocals.{Held}
+use Rattle.numbers.specs.inside.SignedLocals.{Held, held, kept}
 use Rattle.plan.specs.law.Balance.{flowAtFrom, flowAtTo}
 use Rattle.plan.specs.law.Region.{edgeFlow}
-use Rattle.plan.specs.inside.RegionSizes.{from-sized, to-sized, edge-small}
+use Rattle.plan.specs.inside.RegionSizes.{from-small, to-small}
 use Rattle.plan.proofs.RegionTests.{inward-same}
-use Rattle.plan.proofs.Adding.{got}
 use Rattle.plan.proofs.ArcLaws.{read-bounded}
 use Rattle.plan.proofs.region.edge_flow.Statement.{statement}
 use Rattle.plan.proofs.region.edge_flow.Tie as tie
@@ -21,11 +20,11 @@ use Rattle.plan.proofs.region.edge_flow.Tie as tie
 -- the arc's two flows, as they are read
 from-read : (f : tie.After-end-flows) → let s = f .before .before in
     Held (toZ w64 (ofZ w64 (f .end-flows .result .from))) (flowAtFrom (now (s .args .case)) (now (s .args .rows)) (s .args .e)) 20000000
-from-read f = let p = f .before .before .pre in got (f .end-flows .ensures .0) (from-sized (p .0) _ (p .1)) tt
+from-read f = let p = f .before .before .pre in held (record { val = f .end-flows .ensures .0; bound = from-small (p .0) _ (p .1) }) tt
 
 to-read : (f : tie.After-end-flows) → let s = f .before .before in
     Held (toZ w64 (ofZ w64 (f .end-flows .result .to))) (flowAtTo (now (s .args .case)) (now (s .args .rows)) (s .args .e)) 20000000
-to-read f = let p = f .before .before .pre in got (f .end-flows .ensures .1) (to-sized (p .0) _ (p .1)) tt
+to-read f = let p = f .before .before .pre in held (record { val = f .end-flows .ensures .1; bound = to-small (p .0) _ (p .1) }) tt
 
 inward-requires : tie.Need-inward-requires
 inward-requires c κs = read-bounded (from-read (c .before .before .before .before))
@@ -38,8 +37,7 @@ returns c =
     let s = f .before .before in
     let b = m .before .member .ensures ∙ ap₂ (λ (z : ℤ) (a : Arc). memberOf z (a .from)) (toZ-ofZ (s .fits .set)) (f .before .arc .ensures) in
     let d = m .member2 .ensures ∙ ap₂ (λ (z : ℤ) (a : Arc). memberOf z (a .to)) (toZ-ofZ (s .fits .set)) (f .before .arc .ensures) in
-    got {n = 20000000} (c .inward .ensures ∙ inward-same b d (from-read f .val) (to-read f .val))
-    (record { bound = edge-small (s .pre .0) (s .args .set) (s .args .e) (s .pre .1) }) tt .val
+    kept _ (c .inward .ok) ∙ c .inward .ensures ∙ inward-same b d (from-read f .val) (to-read f .val)
 
 pub edge-flow-spec : {M : Type 1} → statement M
 edge-flow-spec = tie.close (tie.spec

@@ -13,7 +13,7 @@ use Rattle.numbers.specs.law.Sums.{onlyN, count}
 use Rattle.case.specs.law.Layout.{arcsOf}
 use Rattle.plan.specs.law.Region.{innerPipe, innerPipes}
 use Rattle.plan.specs.inside.CaseSizes.{counted}
-use Rattle.plan.proofs.RegionTests.{onlyN-most}
+use Rattle.plan.specs.inside.StepSizes.{only-le}
 use Rattle.plan.proofs.Adding.{Tallying, begunN, one-fitsN, one-moreN, wholeN}
 use Rattle.plan.proofs.region.inner_pipes.Statement.{statement}
 use Rattle.plan.proofs.region.inner_pipes.Tie as tie
@@ -25,7 +25,7 @@ abbrev μ-loop : tie.MeasureT-loop
 μ-loop case set arcs n₀ e₀ n e = arcs - e
 
 loop-holds : tie.Need-loop-holds Inv-loop μ-loop
-loop-holds c = begunN (λ j l. onlyN-most (innerPipe (now (c .args .case)) (toZ w64 (ofZ w64 (c .args .set))) j)) (omega (arith, counted (c .pre .0) .arcs))
+loop-holds c = begunN (λ j l. only-le (innerPipe (now (c .args .case)) (toZ w64 (ofZ w64 (c .args .set))) j) 1 (omega arith)) (omega (arith, counted (c .pre .0) .arcs))
 
 counts : (c : tie.After-one-if Inv-loop μ-loop) → let l = c .before .before .before in let a = l .before .args in
     c .one-if .result ≡ onlyN (innerPipe (now (a .case)) (toZ w64 (ofZ w64 (a .set))) (l .loop .e)) 1

@@ -5,7 +5,7 @@ use Rattle.case.specs.law.Layout.{numberAt, arcsOf}
 use Rattle.plan.specs.inside.CaseSizes.{counted}
 use Rattle.plan.specs.law.Totals.{gasPart, gasAt}
 use Rattle.plan.proofs.Adding.{Summing, begun, one-fits, one-more, whole}
-use Rattle.plan.specs.inside.StepSizes.{gas-sized}
+use Rattle.plan.specs.inside.StepSizes.{gas-small}
 use Rattle.plan.proofs.totals.gas.Statement.{statement}
 use Rattle.plan.proofs.totals.gas.Tie as tie
 
@@ -16,7 +16,7 @@ abbrev μ-loop : tie.MeasureT-loop
 μ-loop case pressures arcs sum₀ e₀ sum e = arcs - e
 
 loop-holds : tie.Need-loop-holds Inv-loop μ-loop
-loop-holds c = begun (λ e l. gas-sized (c .pre .0) (c .pre .2) e l .bound) (omega (arith, counted (c .pre .0) .arcs))
+loop-holds c = begun (gas-small (c .pre .0) (c .pre .2)) (omega (arith, counted (c .pre .0) .arcs))
 
 pipe-gas-requires : tie.Need-pipe-gas-requires Inv-loop μ-loop
 pipe-gas-requires c κs = let s = c .before .before in (s .pre .0, omega (arith, c .loop-test .taken, s .pre .1), s .pre .2)
