@@ -45,11 +45,17 @@ end-small k x a b h m n = cond-sized k x (a -ℤ b) (omega arith) (omega (arith,
 module _ {case rows : List ℤ} (h : RegionFlows case rows) where
   pub from-small : (e : ℕ) → e < arcsOf case → natAbs (flowAtFrom case rows e) ≤ 20000000
   unfolding flowAtFrom
-  from-small e l = let s = h .flows .each e l in let r = arcRow case rows e in end-small (isPipe case e) (r .a) (r .a) (r .b) (s .a .bound) (s .a .bound) (s .b .bound)
+  from-small e l =
+      let s = h .flows .each e l in
+      let r = arcRow case rows e in
+      end-small (isPipe case e) (r .a) (r .a) (r .b) (s .a .bound) (s .a .bound) (s .b .bound)
 
   pub to-small : (e : ℕ) → e < arcsOf case → natAbs (flowAtTo case rows e) ≤ 20000000
   unfolding flowAtTo
-  to-small e l = let s = h .flows .each e l in let r = arcRow case rows e in end-small (isPipe case e) (r .b) (r .a) (r .b) (s .b .bound) (s .a .bound) (s .b .bound)
+  to-small e l =
+      let s = h .flows .each e l in
+      let r = arcRow case rows e in
+      end-small (isPipe case e) (r .b) (r .a) (r .b) (s .b .bound) (s .a .bound) (s .b .bound)
 
   pub edge-small : (set : ℤ) (e : ℕ) → e < arcsOf case → natAbs (edgeFlow case set rows e) ≤ 20000000
   unfolding edgeFlow

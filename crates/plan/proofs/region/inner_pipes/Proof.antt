@@ -25,7 +25,9 @@ abbrev μ-loop : tie.MeasureT-loop
 μ-loop case set arcs n₀ e₀ n e = arcs - e
 
 loop-holds : tie.Need-loop-holds Inv-loop μ-loop
-loop-holds c = begunN (λ j l. only-le (innerPipe (now (c .args .case)) (toZ w64 (ofZ w64 (c .args .set))) j) 1 (omega arith)) (omega (arith, counted (c .pre .0) .arcs))
+loop-holds c =
+    let inner = innerPipe (now (c .args .case)) (toZ w64 (ofZ w64 (c .args .set))) in
+    begunN (λ j l. only-le (inner j) 1 (omega arith)) (omega (arith, counted (c .pre .0) .arcs))
 
 counts : (c : tie.After-one-if Inv-loop μ-loop) → let l = c .before .before .before in let a = l .before .args in
     c .one-if .result ≡ onlyN (innerPipe (now (a .case)) (toZ w64 (ofZ w64 (a .set))) (l .loop .e)) 1

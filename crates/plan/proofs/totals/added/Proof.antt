@@ -1,6 +1,6 @@
 -- Each total is the old one with what the step adds; what a kept step adds is small, and so no sum is too large.
-use mathlib.Core.Path.{refl, sym, ap₂}
-use Prim.Native.Nat.{ℕ, _+_, _≤_}
+use mathlib.Core.Path.{refl, sym}
+use Prim.Native.Nat.{_+_, _≤_}
 use native.Mathlib.Omega.{arith}
 use borrow.Author.Needs.{needs}
 use denote.Ref.{now}
@@ -81,13 +81,12 @@ add-t23 c = let p = c .before .before .before .before .before .before .before .b
 returns : tie.Need-returns
 returns c =
     let p = c .before .before .before .before .before .before .before .before .before .before .before in
-    let t = begin p .args .totals in
     let a = p .before .before in
     record {
       pressure = held (pressure p) tt .val;
       demand = held (demand p) tt .val;
-      switching = ap₂ (λ (x y : ℕ). t .switching + (x + y)) (a .before .choice-costs .ensures) (a .activity-costs .ensures);
-      residual = ap₂ (λ (x y : ℕ). t .residual + (x + y)) (p .pipe-residuals .ensures) (begin p .pre .3);
+      switching = omega (arith, a .before .choice-costs .ensures, a .activity-costs .ensures);
+      residual = omega (arith, p .pipe-residuals .ensures, begin p .pre .3);
       opening = kept _ (c .struct-told5 .given .1 .1 .1 .1 .0 .1);
     }
 
