@@ -7,10 +7,12 @@ use native.Mathlib.Omega.{arith}
 use mathlib.Core.Bool.{Bool, true, false}
 use lib.Dec.{T, ltb}
 use lib.IntN.{ℤ, pos, natAbs, _+ℤ_}
+use lib.Signed.{mag}
 use mir.Syntax.{w64}
 use mir.Val.{SFits, Fits, toZ, ofZ}
-use Rattle.numbers.specs.inside.SignedLocals.{Held, held, renamed, held<, held-fits<, _+ʳ_}
+use Rattle.numbers.specs.inside.SignedLocals.{Held, held, kept, renamed, held<, held-fits<, _+ʳ_}
 use Rattle.numbers.specs.inside.SignedBounds.{Bounded}
+use Rattle.numbers.specs.law.Signed.{posPart}
 use Rattle.numbers.specs.law.Sums.{sum, sumN, only}
 
 -- ---- signed
@@ -54,6 +56,10 @@ module _ {r : ℤ} {f : ℕ → ℤ} {x n i : ℕ} (h : Adding r f x n i) where
 -- what is read of a value that is z, of which a bound is known
 pub got : {r z : ℤ} {n : ℕ} → r ≡ z → Bounded z n → T (ltb n (2 ^ 63)) → Held (toZ w64 (ofZ w64 r)) z n
 got e b t = held (record { val = e; bound = b .bound }) t
+
+-- a count that is read off a list of signed numbers
+pub count-read : {n : ℕ} {z y : ℤ} → n ≡ posPart (toZ w64 (ofZ w64 z)) → mag z < 2 ^ 63 → z ≡ y → n ≡ posPart y
+count-read e h k = e ∙ ap posPart (kept _ h ∙ k)
 
 -- the bound of every part, known before the loop; each part is then read back from a local
 pub record Summing (r : ℤ) (f : ℕ → ℤ) (x n i : ℕ) : Type 0 where

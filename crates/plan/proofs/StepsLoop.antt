@@ -23,8 +23,7 @@ use Rattle.plan.specs.declared.totals.Totals.{Totals}
 use Rattle.plan.specs.declared.verdict.Verdict.the-variants.{Accepted, Refused}
 use Rattle.plan.specs.law.PlanLayout.{stepAt, stepWidth, stepRows}
 use Rattle.plan.specs.law.PlanRecords.{pressureIn, activeIn, directionIn, stateIn}
-use Rattle.plan.specs.law.BeforeStep.{startPressure, startDirection, startState}
-use Rattle.plan.specs.law.BeforeStep.{pressureAt, activeAt, directionChosen, stateChosen}
+use Rattle.plan.specs.law.BeforeStep.{startPressure, startDirection, startState, pressureAt, activeAt, directionChosen, stateChosen}
 use Rattle.plan.specs.inside.PreviousHolds.{Carried, activeOf, indexOf}
 use Rattle.plan.specs.inside.Preconditions.{AcceptedCase, StepKept}
 use Rattle.plan.specs.inside.Sizes.{PressuresSized}

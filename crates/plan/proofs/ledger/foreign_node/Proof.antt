@@ -1,19 +1,19 @@
 -- A set of nodes and more has a lowest item past the case's nodes, which is looked for from there on; any other set has place 0.
-use mathlib.Core.Path.{_≡_, sym, ap, _∙_}
+use mathlib.Core.Path.{_≡_, sym, _∙_}
 use native.Mathlib.Omega.{arith}
 use borrow.Author.Needs.{needs}
 use mir.Facts.{toZ-ofZ}
 use denote.Ref.{now}
 use Rattle.case.specs.law.Layout.{nodesOf}
-use Rattle.numbers.specs.law.Signed.{posPart}
 use Rattle.plan.specs.law.Ledger.{isNodeSet, foreignNode}
 use Rattle.numbers.specs.inside.SignedLocals.{kept}
+use Rattle.plan.proofs.Adding.{count-read}
 use Rattle.plan.proofs.ledger.foreign_node.Statement.{statement}
 use Rattle.plan.proofs.ledger.foreign_node.Tie as tie
 
 -- the case's count of nodes
 nodes-is : (c : tie.After-index) → c .index .result ≡ nodesOf (now (c .before .before .before .before .before .args .case))
-nodes-is c = c .index .ensures ∙ ap posPart (kept _ (c .before .at .ok) ∙ c .before .at .ensures)
+nodes-is c = count-read (c .index .ensures) (c .before .at .ok) (c .before .at .ensures)
 
 in-range : (w : tie.After-within) → w .within .result ≡ isNodeSet (w .before .before .args .set)
 in-range w = let f = w .before .first-nodes in rw (toZ-ofZ (w .before .before .fits .set), kept _ (f .ok) ∙ f .ensures) at (w .within .ensures)

@@ -6,16 +6,16 @@ use borrow.Author.Needs.{needs}
 use mir.Facts.{toZ-ofZ}
 use denote.Ref.{now}
 use Rattle.case.specs.law.Layout.{nodesOf}
-use Rattle.numbers.specs.law.Signed.{posPart}
 use Rattle.case.specs.law.StationFields.{firstItems}
 use Rattle.plan.specs.law.Ledger.{isNodeSet, namesNodes}
 use Rattle.numbers.specs.inside.SignedLocals.{kept}
+use Rattle.plan.proofs.Adding.{count-read}
 use Rattle.plan.proofs.ledger.names_nodes.Statement.{statement}
 use Rattle.plan.proofs.ledger.names_nodes.Tie as tie
 
 -- the case's count of nodes
 nodes-is : (c : tie.After-index) → c .index .result ≡ nodesOf (now (c .before .before .args .case))
-nodes-is c = c .index .ensures ∙ ap posPart (kept _ (c .before .at .ok) ∙ c .before .at .ensures)
+nodes-is c = count-read (c .index .ensures) (c .before .at .ok) (c .before .at .ensures)
 
 few : (c : tie.After-index) → c .index .result ≤ 60
 few c = omega (arith, nodes-is c, c .before .before .pre)

@@ -15,21 +15,21 @@ use Rattle.plan.specs.inside.CaseSizes.{counted}
 use Rattle.plan.specs.law.Ledger.{regionQuestions}
 use Rattle.plan.specs.inside.LedgerVerdict.{times-kept}
 use Rattle.plan.specs.inside.LedgerAnswer.{in-order}
-use Rattle.numbers.specs.inside.SignedLocals.{kept}
 use Rattle.plan.proofs.RegionTests.{same-figures}
+use Rattle.plan.proofs.Adding.{count-read}
 use Rattle.plan.proofs.ledger.region_ledger.Statement.{statement}
 use Rattle.plan.proofs.ledger.region_ledger.Tie as tie
 
 -- the case's counts
 nodes-is : (c : tie.After-index) → c .index .result ≡ nodesOf (now (c .before .before .before .before .before .args .case))
-nodes-is c = c .index .ensures ∙ ap posPart (kept _ (c .before .at .ok) ∙ c .before .at .ensures)
+nodes-is c = count-read (c .index .ensures) (c .before .at .ok) (c .before .at .ensures)
 
 arcs-is : (c : tie.After-index2) → c .index2 .result ≡ arcsOf (now (c .before .before .before .before .before .before .before .args .case))
-arcs-is c = c .index2 .ensures ∙ ap posPart (kept _ (c .before .at2 .ok) ∙ c .before .at2 .ensures)
+arcs-is c = count-read (c .index2 .ensures) (c .before .at2 .ok) (c .before .at2 .ensures)
 
 stations-is : (c : tie.After-index3) → let s = c .before .before .before .before .before .before .before .before .before in
     c .index3 .result ≡ stationsOf (now (s .args .case))
-stations-is c = c .index3 .ensures ∙ ap posPart (kept _ (c .before .at3 .ok) ∙ c .before .at3 .ensures)
+stations-is c = count-read (c .index3 .ensures) (c .before .at3 .ok) (c .before .at3 .ensures)
 
 -- and that they are small
 few-arcs : (c : tie.After-index2) → (c .before .before .index .result ≤ 60) × (c .index2 .result ≤ 120)

@@ -2,22 +2,20 @@
 use mathlib.Core.Path.{_≡_, sym, ap, ap₂, _∙_}
 use native.Mathlib.Omega.{arith}
 use borrow.Author.Needs.{needs}
-use mir.Facts.{toZ-ofZ}
+use mir.Facts.{toZ-ofZ, toZ-pos}
 use mir.Syntax.{w64}
 use lib.IntN.{pos}
 use denote.Ref.{now}
 use lib.Signed.{leZ}
-use mir.Facts.{toZ-pos}
 use Rattle.case.specs.law.Layout.{stepsOf}
-use Rattle.numbers.specs.law.Signed.{posPart}
 use Rattle.plan.specs.law.Ledger.{timesOrdered}
-use Rattle.numbers.specs.inside.SignedLocals.{kept}
+use Rattle.plan.proofs.Adding.{count-read}
 use Rattle.plan.proofs.ledger.times_ordered.Statement.{statement}
 use Rattle.plan.proofs.ledger.times_ordered.Tie as tie
 
 -- the case's count of steps
 steps-is : (c : tie.After-index) → c .index .result ≡ stepsOf (now (c .before .before .args .case))
-steps-is c = c .index .ensures ∙ ap posPart (kept _ (c .before .at .ok) ∙ c .before .at .ensures)
+steps-is c = count-read (c .index .ensures) (c .before .at .ok) (c .before .at .ensures)
 
 cast-steps : tie.Need-cast-steps
 cast-steps c = record { sfits = omega (arith, steps-is c, c .before .before .pre) }

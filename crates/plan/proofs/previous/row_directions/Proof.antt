@@ -1,13 +1,12 @@
 -- The array holds the directions of the stations passed, and each turn sets that of the next station.
-use mathlib.Core.Path.{ap, _∙_}
+use mathlib.Core.Path.{ap}
 use Prim.Native.Nat.{_-_}
 use native.Mathlib.Omega.{arith}
 use borrow.Author.Needs.{needs}
-use Rattle.numbers.specs.law.Signed.{posPart}
-use Rattle.numbers.specs.inside.SignedLocals.{kept}
 use Rattle.plan.specs.declared.rows.Choice.{Choice}
 use Rattle.plan.specs.law.PlanRecords.{directionIn}
 use Rattle.plan.proofs.Filled.{Filling, start, turn, end}
+use Rattle.plan.proofs.Adding.{count-read}
 use Rattle.plan.proofs.previous.row_directions.Statement.{statement}
 use Rattle.plan.proofs.previous.row_directions.Tie as tie
 
@@ -25,7 +24,7 @@ loop-again c =
     let t = c .before .before .before in
     let y = t .before .before .pre in
     turn (t .before .loop .inv) (t .loop-test .taken) (omega (arith, y .0 .stations, y .1))
-    (c .index .ensures ∙ ap posPart (kept _ (c .before .struct-told .given .0 .1) ∙ ap (λ (x : Choice). x .direction) (c .before .before .choice-of .ensures)))
+    (count-read (c .index .ensures) (c .before .struct-told .given .0 .1) (ap (λ (x : Choice). x .direction) (c .before .before .choice-of .ensures)))
 
 returns : tie.Need-returns Inv-loop μ-loop
 returns c = end (c .before .loop .inv) (c .loop-test .left)

@@ -1,18 +1,18 @@
 -- Each number is read where the law places it: the count of nodes is the case's, and no offset is large.
-use mathlib.Core.Path.{_≡_, ap, _∙_}
+use mathlib.Core.Path.{_≡_, _∙_}
 use Prim.Native.Nat.{_<_, _≤_}
 use native.Mathlib.Omega.{arith}
 use denote.Ref.{now}
 use Rattle.numbers.specs.inside.SignedLocals.{kept}
 use borrow.Author.Needs.{needs}
 use Rattle.case.specs.law.Layout.{nodesOf}
-use Rattle.numbers.specs.law.Signed.{posPart}
+use Rattle.plan.proofs.Adding.{count-read}
 use Rattle.plan.proofs.rows.arc_row.Statement.{statement}
 use Rattle.plan.proofs.rows.arc_row.Tie as tie
 
 -- the case's count of nodes, which is small, as is the arc
 nodes-is : (c : tie.After-index) → c .index .result ≡ nodesOf (now (c .before .before .args .case))
-nodes-is c = c .index .ensures ∙ ap posPart (kept _ (c .before .at .ok) ∙ c .before .at .ensures)
+nodes-is c = count-read (c .index .ensures) (c .before .at .ok) (c .before .at .ensures)
 
 few : (c : tie.After-index) → (c .index .result ≤ 60) × (c .before .before .args .e < 120)
 few c = let p = c .before .before .pre in (omega (arith, nodes-is c, p .0 .nodes), omega (arith, p .0 .arcs, p .1))

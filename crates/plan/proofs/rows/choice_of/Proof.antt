@@ -1,21 +1,21 @@
 -- Each number is read where the law places it: the counts of nodes and arcs are the case's, and no offset is large.
-use mathlib.Core.Path.{_≡_, ap, _∙_}
+use mathlib.Core.Path.{_≡_, _∙_}
 use Prim.Native.Nat.{_<_, _≤_}
 use native.Mathlib.Omega.{arith}
 use denote.Ref.{now}
 use Rattle.numbers.specs.inside.SignedLocals.{kept}
 use borrow.Author.Needs.{needs}
 use Rattle.case.specs.law.Layout.{nodesOf, arcsOf}
-use Rattle.numbers.specs.law.Signed.{posPart}
+use Rattle.plan.proofs.Adding.{count-read}
 use Rattle.plan.proofs.rows.choice_of.Statement.{statement}
 use Rattle.plan.proofs.rows.choice_of.Tie as tie
 
 -- the case's counts of nodes and of arcs, which are small, as is the station
 nodes-is : (c : tie.After-index) → c .index .result ≡ nodesOf (now (c .before .before .args .case))
-nodes-is c = c .index .ensures ∙ ap posPart (kept _ (c .before .at .ok) ∙ c .before .at .ensures)
+nodes-is c = count-read (c .index .ensures) (c .before .at .ok) (c .before .at .ensures)
 
 arcs-is : (c : tie.After-index2) → c .index2 .result ≡ arcsOf (now (c .before .before .before .before .args .case))
-arcs-is c = c .index2 .ensures ∙ ap posPart (kept _ (c .before .at2 .ok) ∙ c .before .at2 .ensures)
+arcs-is c = count-read (c .index2 .ensures) (c .before .at2 .ok) (c .before .at2 .ensures)
 
 few : (c : tie.After-index2) → let a = c .before .before .before .before .args in
     (c .before .before .index .result ≤ 60) × (c .index2 .result ≤ 120) × (a .s < 8)

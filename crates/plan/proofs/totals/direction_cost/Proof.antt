@@ -3,21 +3,20 @@ use mathlib.Core.Path.{_≡_, sym, ap, _∙_}
 use Prim.Native.Nat.{ℕ}
 use borrow.Author.Needs.{needs}
 use denote.Ref.{now}
-use Rattle.numbers.specs.law.Signed.{posPart}
 use Rattle.case.specs.declared.records.Direction.{Direction}
 use Rattle.case.specs.law.Records.{directionRow, directionOf}
-use Rattle.numbers.specs.inside.SignedLocals.{kept}
 use Rattle.plan.specs.declared.rows.Choice.{Choice}
 use Rattle.plan.specs.law.PlanRecords.{directionIn}
 use Rattle.plan.specs.inside.CaseSizes.{counted}
 use Rattle.plan.specs.law.Totals.{directionCost}
 use Rattle.plan.specs.inside.StepSizes.{cost-same, cost-new}
+use Rattle.plan.proofs.Adding.{count-read}
 use Rattle.plan.proofs.totals.direction_cost.Statement.{statement}
 use Rattle.plan.proofs.totals.direction_cost.Tie as tie
 
 chosen : (b : tie.After-index) → let a = b .before .before .before .args in b .index .result ≡ directionIn (now (a .case)) (now (a .rows)) (a .s)
 chosen b =
-    b .index .ensures ∙ ap posPart (kept _ (b .before .struct-told .given .0 .1) ∙ ap (λ (x : Choice). x .direction) (b .before .before .choice-of .ensures))
+    count-read (b .index .ensures) (b .before .struct-told .given .0 .1) (ap (λ (x : Choice). x .direction) (b .before .before .choice-of .ensures))
 
 returns : tie.Need-returns
 unfolding directionCost
