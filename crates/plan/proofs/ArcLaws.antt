@@ -130,7 +130,9 @@ pub record SumRead (dt a b c x y z : ℤ) : Type 0 where
       × Bounded (toZ w64 (ofZ w64 c)) 100000000
       × Bounded (toZ w64 (ofZ w64 x)) 400000
       × Bounded (toZ w64 (ofZ w64 y)) 400000
-  pub total : Held (toZ w64 (ofZ w64 dt) *ℤ (toZ w64 (ofZ w64 a) -ℤ toZ w64 (ofZ w64 b)) -ℤ toZ w64 (ofZ w64 c) *ℤ (toZ w64 (ofZ w64 x) +ℤ toZ w64 (ofZ w64 y))) z 100000000000000
+  pub total : Held
+      (toZ w64 (ofZ w64 dt) *ℤ (toZ w64 (ofZ w64 a) -ℤ toZ w64 (ofZ w64 b)) -ℤ toZ w64 (ofZ w64 c) *ℤ (toZ w64 (ofZ w64 x) +ℤ toZ w64 (ofZ w64 y)))
+      z 100000000000000
 
 module _ {case old rows : List ℤ} {i e : ℕ} (p : AtPipe case old rows i e) where
   pub change-sized : (v : ℕ) → v < nodesOf case → Bounded (change (numberAt old) rows v) 400000
@@ -147,8 +149,8 @@ module _ {case old rows : List ℤ} {i e : ℕ} (p : AtPipe case old rows i e) w
       let a = read (ap (λ (u : ArcRow). u .a) er) (s .flows .a) tt in
       let b = read (ap (λ (u : ArcRow). u .b) er) (s .flows .b) tt in
       let c = read (ap (λ (u : Pipe). u .c) ek) (z .c) tt in
-      let f = read (ex ∙ ap (λ (u : Arc). change (numberAt old) rows (u .from)) en) (change-sized (arcOf case e .from) (from-node (s .accepted) e (s .arc))) tt in
-      let t = read (ey ∙ ap (λ (u : Arc). change (numberAt old) rows (u .to)) en) (change-sized (arcOf case e .to) (to-node (s .accepted) e (s .arc))) tt in
+      let f = read (ex ∙ ap (λ (u : Arc). change (numberAt old) rows (u .from)) en) (change-sized _ (from-node (s .accepted) e (s .arc))) tt in
+      let t = read (ey ∙ ap (λ (u : Arc). change (numberAt old) rows (u .to)) en) (change-sized _ (to-node (s .accepted) e (s .arc))) tt in
       record {
         sizes = (read-bounded d, read-bounded a, read-bounded b, read-bounded c, read-bounded f, read-bounded t);
         total = loosen 100000000000000 (omega arith) (d *ʳ (a -ʳ b) -ʳ c *ʳ (f +ʳ t));

@@ -1,5 +1,4 @@
 -- By 14 the artificial arcs at a station's node are all that station's, so the net flow into artificial arcs is the flow that 32 asks for.
--- Assumes nothing.
 use Rattle.plan.proofs.Common.{_≡_, refl, sym, ap, Bool, true, false, ℕ, _+_, _-_, _<_, _≤_, arith, eq-eqb, ne-eqb, leb, eqb, ℤ, counted}
 use mathlib.Core.List.{List}
 use mathlib.Core.Logic.{_⊎_, inl, inr}
@@ -50,7 +49,8 @@ module _ {case : List ℤ} (a : AcceptedCase case) (v : ℕ) (p : v < nodesOf ca
 
   module _ (rows : List ℤ) (s : ℕ) (l : s < stationsOf case) (h : memberOf (stationNodes case s) v ≡ true) where
     -- an artificial arc of another station does not end here
-    away : (e : ℕ) → e < arcsOf case → leb 3 (arcOf case e .kind) ≡ true → eqb (artificialOf case e .station) s ≡ false → (arcOf case e .from ≡ v) ⊎ (arcOf case e .to ≡ v) → ⊥
+    away : (e : ℕ) → e < arcsOf case → leb 3 (arcOf case e .kind) ≡ true → eqb (artificialOf case e .station) s ≡ false
+        → (arcOf case e .from ≡ v) ⊎ (arcOf case e .to ≡ v) → ⊥
     away e q k n d =
         let t = artificialOf case e .station in
         let b : belongs case t e ≡ true = rw (k, eq-eqb t t refl) in
@@ -61,7 +61,8 @@ module _ {case : List ℤ} (a : AcceptedCase case) (v : ℕ) (p : v < nodesOf ca
     unfolding artificialPart stationPart
     same-part e q = go (leb 3 (arcOf case e .kind)) refl (eqb (artificialOf case e .station) s) refl
       where
-        go : (b : Bool) → leb 3 (arcOf case e .kind) ≡ b → (d : Bool) → eqb (artificialOf case e .station) s ≡ d → artificialPart case rows v e ≡ stationPart case rows s v e
+        go : (b : Bool) → leb 3 (arcOf case e .kind) ≡ b → (d : Bool) → eqb (artificialOf case e .station) s ≡ d
+            → artificialPart case rows v e ≡ stationPart case rows s v e
         go false x d y = rw x
         go true x true y = rw (x, y)
         go true x false y =

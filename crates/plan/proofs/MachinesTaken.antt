@@ -1,5 +1,4 @@
--- The machines that a station's arcs have taken, as a set, arc by arc.
--- Assumes nothing.
+-- Machines taken as a set: while no arc has one that is taken, a machine is in the set as often as the arcs passed have it.
 use Rattle.plan.proofs.Common.{_≡_, refl, sym, _∙_, Bool, true, false, _&&_, ℕ, _+_, _-_, _^_, _<_, _≤_, arith, le-leb, leb, eqb, ℤ, pos, leZ}
 use mathlib.Core.Bool.{cond}
 use mathlib.Core.List.{List}
@@ -50,11 +49,13 @@ own-within kind own x {n} k o m p = go (leb kind 4) k
     go false e =
         let a = eqb-true _ _ (and-second (leZ (pos 0) x) (subsetOf x own) e) in
         let h : 2 ^ n - 1 < 2 ^ n = omega (arith, pow-pos n) in
-        omega (arith, subset-is (posPart x) (posPart own) a m, subset-is (posPart own) (posPart (firstItems n)) (eqb-true _ _ o) m, bit-high n (2 ^ n - 1) m h p)
+        let own-few = subset-is (posPart own) (posPart (firstItems n)) (eqb-true _ _ o) m in
+        omega (arith, subset-is (posPart x) (posPart own) a m, own-few, bit-high n (2 ^ n - 1) m h p)
 
 pub own-bits : {case rows : List ℤ} {s e : ℕ} → AcceptedCase case → MachinesKept case rows → s < stationsOf case → e < arcsOf case → belongs case s e ≡ true
     → (m : ℕ) → stationOf case s .machines ≤ m → bit (posPart (arcRow case rows e .machines)) m ≡ 0
-own-bits {case} {rows} {s} {e} a k p q b = own-within (arcOf case e .kind) (artificialOf case e .machines) (arcRow case rows e .machines) (k .each e q) (own-machines a s p e q b)
+own-bits {case} {rows} {s} {e} a k p q b =
+    own-within (arcOf case e .kind) (artificialOf case e .machines) (arcRow case rows e .machines) (k .each e q) (own-machines a s p e q b)
 
 -- ---- one arc more
 
@@ -78,7 +79,8 @@ module _ {case rows : List ℤ} {s t e : ℕ} (g : Taken case rows s t e) where
         go m false h = let n = eqb-false (bit x m) 1 h in omega (arith, lacks m h, g .each m, bit-or t x m, n)
 
     -- a machine that an arc before it has
-    pub taken-twice : e < arcsOf case → ((m : ℕ) → stationOf case s .machines ≤ m → bit x m ≡ 0) → x < 2 ^ 64 → (bitAnd x t ≡ 0 → ⊥) → false ≡ machinesOnce case rows s
+    pub taken-twice : e < arcsOf case → ((m : ℕ) → stationOf case s .machines ≤ m → bit x m ≡ 0) → x < 2 ^ 64 → (bitAnd x t ≡ 0 → ⊥)
+        → false ≡ machinesOnce case rows s
     unfolding machinesOnce
     taken-twice p own l n = go (every (stationOf case s .machines) (machineOnce case rows s)) refl
       where
@@ -89,7 +91,8 @@ module _ {case rows : List ℤ} {s t e : ℕ} (g : Taken case rows s t e) where
             at false i v h = omega (arith, own m (ltb-false m (stationOf case s .machines) i))
             at true i false h = let n = eqb-false (bit x m) 1 h in omega (arith, n)
             at true i true h =
-                let o = leb-true (count (arcsOf case) (onArc case rows s m)) 1 (every-at (stationOf case s .machines) (machineOnce case rows s) y m (ltb-true m (stationOf case s .machines) i)) in
+                let all = every-at (stationOf case s .machines) (machineOnce case rows s) y m (ltb-true m (stationOf case s .machines) i) in
+                let o = leb-true (count (arcsOf case) (onArc case rows s m)) 1 all in
                 let z : (e + 1) + (arcsOf case - (e + 1)) ≡ arcsOf case = omega (arith, p) in
                 let k = rw z at (count-grows (onArc case rows s m) (e + 1) (arcsOf case - (e + 1))) in
                 omega (arith, has m h, g .each m, o, k)
@@ -100,4 +103,5 @@ module _ {case rows : List ℤ} {s t e : ℕ} (g : Taken case rows s t e) where
 
 pub taken-once : {case rows : List ℤ} {s t : ℕ} → Taken case rows s t (arcsOf case) → true ≡ machinesOnce case rows s
 unfolding machinesOnce
-taken-once {case} {rows} {s} {t} g = sym (at-every (stationOf case s .machines) (machineOnce case rows s) (λ m p. le-leb (count (arcsOf case) (onArc case rows s m)) 1 (omega (arith, g .each m))))
+taken-once {case} {rows} {s} {t} g =
+    sym (at-every (stationOf case s .machines) (machineOnce case rows s) (λ m p. le-leb (count (arcsOf case) (onArc case rows s m)) 1 (omega (arith, g .each m))))

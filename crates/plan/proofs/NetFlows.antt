@@ -1,12 +1,9 @@
--- Net flows in an array, gathered arc by arc: what the array holds after one arc more.
--- Assumes nothing.
-use Rattle.plan.proofs.Common.{_≡_, refl, sym, ap, _∙_, Bool, true, false, ℕ, _+_, _^_, _<_, _≤_, arith, eqb, ℤ, pos, natAbs, _+ℤ_, _-ℤ_, length, w64}
-use Rattle.plan.proofs.Common.{toZ, ofZ, Held, held}
+-- Net flows in an array, gathered arc by arc: one arc more is two stores, one at each of its ends.
+use Rattle.plan.proofs.Common.{_≡_, refl, sym, ap, _∙_, Bool, true, false, ℕ, _+_, _<_, _≤_, arith, eqb, ℤ, pos, natAbs, _+ℤ_, _-ℤ_, length}
 use mathlib.Core.List.{List}
 use Prim.Native.Nat.{zero, suc}
 use native.Mathlib.Numerals.{add-one}
 use borrow.Author.Tests.{eqb-true, eqb-false}
-use lib.Dec.{T, ltb}
 use lib.IntN.{negℤ, +ℤ-idr}
 use lib.ListN.{getD, set, replicate}
 use lib.Seq.{getD-set-same, getD-set-other}
@@ -20,25 +17,18 @@ use Rattle.plan.specs.inside.NetFlow.{movedAt, NetSized}
 
 -- ---- one store
 
-module _ (net : List ℤ) (from : ℕ) (z x : ℤ) (l : from < length net) where
-  -- a store that adds x at one node
-  pub put-add : z ≡ numberAt net from +ℤ x → (i : ℕ) → numberAt (set net from z) i ≡ numberAt net i +ℤ only (eqb from i) x
-  put-add e i = go (eqb from i) refl
-    where
-      go : (b : Bool) → eqb from i ≡ b → numberAt (set net from z) i ≡ numberAt net i +ℤ only b x
-      go true p = let q = eqb-true from i p in rw (← q) (getD-set-same net from z (pos 0) l ∙ e)
-      go false p = getD-set-other net from i z (pos 0) (λ q. eqb-false from i p (sym q)) ∙ sym (+ℤ-idr (numberAt net i))
-
-  -- a store that takes x off at one node
-  pub put-sub : z ≡ numberAt net from -ℤ x → (i : ℕ) → numberAt (set net from z) i ≡ numberAt net i -ℤ only (eqb from i) x
-  put-sub e i = go (eqb from i) refl
-    where
-      go : (b : Bool) → eqb from i ≡ b → numberAt (set net from z) i ≡ numberAt net i -ℤ only b x
-      go true p = let q = eqb-true from i p in rw (← q) (getD-set-same net from z (pos 0) l ∙ e)
-      go false p = getD-set-other net from i z (pos 0) (λ q. eqb-false from i p (sym q)) ∙ sym (+ℤ-idr (numberAt net i))
+-- a store that adds x at one node, or takes it off; nothing is done at the others, where x counts as 0
+pub put : (f : ℤ → ℤ → ℤ) → ((y : ℤ) → f y (pos 0) ≡ y) → (net : List ℤ) (from : ℕ) (z x : ℤ) → from < length net → z ≡ f (numberAt net from) x
+    → (i : ℕ) → numberAt (set net from z) i ≡ f (numberAt net i) (only (eqb from i) x)
+put f zero-right net from z x l e i = go (eqb from i) refl
+  where
+    go : (b : Bool) → eqb from i ≡ b → numberAt (set net from z) i ≡ f (numberAt net i) (only b x)
+    go true p = let q = eqb-true from i p in rw (← q) (getD-set-same net from z (pos 0) l ∙ e)
+    go false p = getD-set-other net from i z (pos 0) (λ q. eqb-false from i p (sym q)) ∙ sym (zero-right (numberAt net i))
 
 -- what is added stays within the room
-pub room : (net : List ℤ) (from to : ℕ) (out : ℤ) → Bounded (numberAt net to) 1000000000000 → Bounded out 20000000 → Bounded (numberAt net to +ℤ only (eqb from to) out) 1000020000000
+pub room : (net : List ℤ) (from to : ℕ) (out : ℤ) → Bounded (numberAt net to) 1000000000000 → Bounded out 20000000
+    → Bounded (numberAt net to +ℤ only (eqb from to) out) 1000020000000
 room net from to out n o = record {
   bound = omega (arith, abs-add (numberAt net to) (only (eqb from to) out), abs-only-le (eqb from to) out (o .bound), n .bound);
 }
@@ -85,9 +75,3 @@ module _ {net : List ℤ} {f : ℕ → ℕ → ℤ} {e : ℕ} (g : Gathers net f
 -- what one arc puts to a node is at most twice its flow
 pub put-sized : (b d : Bool) {x y : ℤ} → Bounded x 20000000 → Bounded y 20000000 → natAbs (only b x -ℤ only d y) ≤ 40000000
 put-sized b d {x} {y} h k = omega (arith, abs-add (only b x) (negℤ (only d y)), abs-neg (only d y), abs-only-le b x (h .bound), abs-only-le d y (k .bound))
-
--- ---- values that are read back
-
--- a value that is known, read out of a local or a record
-pub read : {r z : ℤ} {n : ℕ} → r ≡ z → Bounded z n → T (ltb n (2 ^ 63)) → Held (toZ w64 (ofZ w64 r)) z n
-read e b t = held (record { val = e; bound = b .bound }) t

@@ -1,5 +1,4 @@
--- A node's net flow by what each arc puts to it.
--- Assumes nothing.
+-- A node's net flow is the sum of what each arc puts to it, so it is as large as 120 arcs can make it.
 use Rattle.plan.proofs.Common.{_≡_, refl, sym, _∙_, Bool, true, false, ℕ, _+_, _<_, _≤_, arith, eqb, ℤ, pos, natAbs, _-ℤ_, leZ, counted}
 use mathlib.Core.Bool.{cond}
 use mathlib.Core.List.{List, [], _∷_}
@@ -14,7 +13,8 @@ use Rattle.case.specs.law.Records.{arcOf}
 use Rattle.plan.specs.law.Compared.{asked}
 use Rattle.plan.specs.law.PlanRecords.{nodeRow}
 use Rattle.plan.specs.law.Pipes.{isPipe}
-use Rattle.plan.specs.law.Balance.{flowAtFrom, flowAtTo, outPart, inPart, outflow, inflow, netFlow, nodeImbalance, nodeResidual, balanceKept, balanceQuestions}
+use Rattle.plan.specs.law.Balance.{flowAtFrom, flowAtTo, outPart, inPart, outflow, inflow, netFlow}
+use Rattle.plan.specs.law.Balance.{nodeImbalance, nodeResidual, balanceKept, balanceQuestions}
 use Rattle.plan.specs.inside.Sizes.{FlowsSized}
 use Rattle.plan.specs.inside.Preconditions.{AcceptedCase, AtBalance}
 use Rattle.plan.specs.inside.CaseSizes.{duration-sized}
@@ -36,8 +36,8 @@ pub net-flow : (case rows : List ℤ) (i : ℕ) → sum (arcsOf case) (nodePart 
 unfolding nodePart outflow inflow netFlow
 net-flow case rows i = sum-sub (arcsOf case) (outPart case rows i) (inPart case rows i)
 
-pub node-part : (case rows : List ℤ) (e i : ℕ) {from to : ℕ} {out into : ℤ} → from ≡ arcOf case e .from → to ≡ arcOf case e .to → out ≡ flowAtFrom case rows e → into ≡ flowAtTo case rows e
-    → nodePart case rows i e ≡ only (eqb from i) out -ℤ only (eqb to i) into
+pub node-part : (case rows : List ℤ) (e i : ℕ) {from to : ℕ} {out into : ℤ} → from ≡ arcOf case e .from → to ≡ arcOf case e .to
+    → out ≡ flowAtFrom case rows e → into ≡ flowAtTo case rows e → nodePart case rows i e ≡ only (eqb from i) out -ℤ only (eqb to i) into
 unfolding nodePart outPart inPart
 node-part case rows e i p q r s = rw (p, q, r, s)
 
@@ -66,7 +66,8 @@ module _ {case rows : List ℤ} {i n : ℕ} {net : ℤ} (at : AtBalance case row
   unfolding nodeImbalance
   imbalance-sized =
       let d = nodeRow rows n .d in
-      omega (arith, abs-add (netFlow case rows n) (negℤ d), abs-neg d, net-sized (at .flows) (at .accepted) n .bound, at .node-rows .each n (at .node) .d .bound)
+      let net = net-sized (at .flows) (at .accepted) n .bound in
+      omega (arith, abs-add (netFlow case rows n) (negℤ d), abs-neg d, net, at .node-rows .each n (at .node) .d .bound)
 
   pub residual-sized : nodeResidual case rows i n ≤ 415584000000000
   unfolding nodeResidual

@@ -1,5 +1,4 @@
 -- One pass over a step's arcs for all stations: what arrays with a place for each of 8 stations hold after one arc more.
--- Assumes nothing.
 use Rattle.plan.proofs.Common.{_≡_, refl, sym, ap, _∙_, Bool, true, false, ℕ, _+_, _^_, _<_, _≤_, arith, eq-eqb, ne-eqb, leb, eqb, ℤ, length}
 use mathlib.Core.List.{List}
 use borrow.Author.Tests.{eqb-true, eqb-false, leb-true}
@@ -49,7 +48,8 @@ module _ (case : List ℤ) (e : ℕ) {o : ℕ} (q : o ≡ ownStation case e) whe
 
 -- ---- one store
 
-pub holds-put : {A : Type 0} {d : A} {xs : List A} {f g : ℕ → A} {s n : ℕ} {v : A} → Holds d xs f n → s < length xs → v ≡ g s → ((i : ℕ) → i < n → (i ≡ s → ⊥) → f i ≡ g i) → Holds d (set xs s v) g n
+pub holds-put : {A : Type 0} {d : A} {xs : List A} {f g : ℕ → A} {s n : ℕ} {v : A} → Holds d xs f n → s < length xs → v ≡ g s
+    → ((i : ℕ) → i < n → (i ≡ s → ⊥) → f i ≡ g i) → Holds d (set xs s v) g n
 holds-put {A} {d} {xs} {f} {g} {s} {n} {v} h l e k = record { each = λ i p. go i p (eqb i s) refl }
   where
     go : (i : ℕ) → i < n → (b : Bool) → eqb i s ≡ b → getD (set xs s v) i d ≡ g i
@@ -91,7 +91,8 @@ module _ {case rows : List ℤ} {sets counts : List ℕ} {e o : ℕ} (g : Active
   }
 
   -- a station's arc
-  pub active-more : o < 8 → {n v : ℕ} → n ≡ getD counts o 0 → v ≡ getD sets o 0 + onlyN (activeIn case rows e) (2 ^ n) → ActivePass case rows (set sets o v) (set counts o (n + 1)) (e + 1)
+  pub active-more : o < 8 → {n v : ℕ} → n ≡ getD counts o 0 → v ≡ getD sets o 0 + onlyN (activeIn case rows e) (2 ^ n)
+      → ActivePass case rows (set sets o v) (set counts o (n + 1)) (e + 1)
   active-more l {n} {v} c w =
       let y = own-yes case e q l in
       let k : n ≡ arcsBefore case o e = c ∙ g .counts-hold .each o l in
@@ -99,7 +100,8 @@ module _ {case rows : List ℤ} {sets counts : List ℕ} {e o : ℕ} (g : Active
         sets-long = length-set sets o v ∙ g .sets-long;
         counts-long = length-set counts o (n + 1) ∙ g .counts-long;
         counts-hold =
-            holds-put (g .counts-hold) (omega (arith, g .counts-long)) (ap (λ (m : ℕ). m + 1) k ∙ sym (before-yes case o e y)) (λ s p z. sym (before-no case s e (own-no case e q s p z)));
+            holds-put (g .counts-hold) (omega (arith, g .counts-long)) (ap (λ (m : ℕ). m + 1) k ∙ sym (before-yes case o e y))
+            (λ s p z. sym (before-no case s e (own-no case e q s p z)));
         sets-hold =
             holds-put (g .sets-hold) (omega (arith, g .sets-long)) (w ∙ rw (k, g .sets-hold .each o l) (sym (arcs-yes case o (activeIn case rows) e y)))
             (λ s p z. sym (arcs-no case s (activeIn case rows) e (own-no case e q s p z)));
@@ -108,8 +110,8 @@ module _ {case rows : List ℤ} {sets counts : List ℕ} {e o : ℕ} (g : Active
   -- there is room for one arc more
   pub active-few : AcceptedCase case → e < arcsOf case → o < 8 → getD counts o 0 < 30
   active-few a p l =
-      omega
-      (arith, g .counts-hold .each o l, before-yes case o e (own-yes case e q l), before-mono case o (e + 1) (arcsOf case) (omega (arith, p)), station-size a o (own-in case e q a p l))
+      let later = before-mono case o (e + 1) (arcsOf case) (omega (arith, p)) in
+      omega (arith, g .counts-hold .each o l, before-yes case o e (own-yes case e q l), later, station-size a o (own-in case e q a p l))
 
   pub active-small : o < 8 → getD sets o 0 < 2 ^ getD counts o 0
   active-small l = rw (g .counts-hold .each o l, g .sets-hold .each o l) (arcs-lt case o (activeIn case rows) e)
@@ -136,7 +138,8 @@ module _ {case rows : List ℤ} {s : ℕ} {b : Bool} {t e : ℕ} (g : OnceAt cas
     at-more : bitAnd x t ≡ 0 → OnceAt case rows s b (bitOr t x) (e + 1)
     at-more d = record { yes = λ y. taken-more (g .yes y) h w d; no = g .no }
 
-    at-twice : AcceptedCase case → MachinesKept case rows → s < stationsOf case → e < arcsOf case → x < 2 ^ 64 → (bitAnd x t ≡ 0 → ⊥) → machinesOnce case rows s ≡ false
+    at-twice : AcceptedCase case → MachinesKept case rows → s < stationsOf case → e < arcsOf case → x < 2 ^ 64 → (bitAnd x t ≡ 0 → ⊥)
+        → machinesOnce case rows s ≡ false
     at-twice a k p q l n = go b refl
       where
         go : (v : Bool) → b ≡ v → machinesOnce case rows s ≡ false
@@ -154,11 +157,15 @@ pub record OncePass (case rows : List ℤ) (once : List Bool) (taken : List ℕ)
   pub taken-long : length taken ≡ 8
   pub each : (s : ℕ) → s < 8 → OnceAt case rows s (getD once s true) (getD taken s 0) e
 
+not-both : {b : Bool} {A : Type 0} → b ≡ true → b ≡ false → A
+not-both y n = let z : _≡_ {A = ℕ} 0 1 = cc in let f : ⊥ = omega arith in absurd f
+
 pub once-none : (case rows : List ℤ) → OncePass case rows (replicate 8 true) (replicate 8 0) 0
 once-none case rows = record {
   once-long = length-replicate 8 true;
   taken-long = length-replicate {A = ℕ} 8 0;
-  each = λ s p. rw (getD-replicate 8 s true true p, getD-replicate {A = ℕ} 8 s 0 0 p) (record { yes = λ y. taken-none case rows s; no = λ (y : true ≡ false). let z : _≡_ {A = ℕ} 0 1 = cc in let f : ⊥ = omega arith in absurd f });
+  each = λ s p.
+      rw (getD-replicate 8 s true true p, getD-replicate {A = ℕ} 8 s 0 0 p) (record { yes = λ y. taken-none case rows s; no = λ y. not-both refl y });
 }
 
 module _ {case rows : List ℤ} {once : List Bool} {taken : List ℕ} {e o : ℕ} (g : OncePass case rows once taken e) (q : o ≡ ownStation case e) where
@@ -194,10 +201,12 @@ module _ {case rows : List ℤ} {once : List Bool} {taken : List ℕ} {e o : ℕ
         rw n at (put l (getD once o true) (bitOr (getD taken o 0) x) (at-more (g .each o l) (own-yes case e q l) w d))
 
     -- a machine that an arc before it has
-    pub once-twice : AcceptedCase case → MachinesKept case rows → e < arcsOf case → x < 2 ^ 64 → (bitAnd x (getD taken o 0) ≡ 0 → ⊥) → OncePass case rows (set once o false) (set taken o (bitOr (getD taken o 0) x)) (e + 1)
+    pub once-twice : AcceptedCase case → MachinesKept case rows → e < arcsOf case → x < 2 ^ 64 → (bitAnd x (getD taken o 0) ≡ 0 → ⊥)
+        → OncePass case rows (set once o false) (set taken o (bitOr (getD taken o 0) x)) (e + 1)
     once-twice a k p f n =
-        put l false (bitOr (getD taken o 0) x)
-        (record { yes = λ (y : false ≡ true). let z : _≡_ {A = ℕ} 0 1 = cc in let f : ⊥ = omega arith in absurd f; no = λ y. at-twice (g .each o l) (own-yes case e q l) w a k (own-in case e q a p l) p f n })
+        let no = at-twice (g .each o l) (own-yes case e q l) w a k (own-in case e q a p l) p f n in
+        put l false (bitOr (getD taken o 0) x) (record { yes = λ y. not-both y refl; no = λ y. no })
 
-pub once-last : {case rows : List ℤ} {once : List Bool} {taken : List ℕ} → OncePass case rows once taken (arcsOf case) → stationsOf case ≤ 8 → Holds true once (machinesOnce case rows) (stationsOf case)
+pub once-last : {case rows : List ℤ} {once : List Bool} {taken : List ℕ} → OncePass case rows once taken (arcsOf case) → stationsOf case ≤ 8
+    → Holds true once (machinesOnce case rows) (stationsOf case)
 once-last g l = record { each = λ s p. once-is (g .each s (omega arith)) }

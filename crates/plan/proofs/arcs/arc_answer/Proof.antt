@@ -30,7 +30,8 @@ pipe-answer-requires c κs =
     let p = o .before in
     let s = p .before .before .before in
     let a = s .pre .0 in
-    let y = first-four (flow s) (pressure s) (pipe s) (p .before .flow-answer .ensures) (p .pressure-answer .ensures) (o .or-else .ensures) (c .enum-told .given .1) in
+    let f = p .before .flow-answer .ensures in
+    let y = first-four (flow s) (pressure s) (pipe s) f (p .pressure-answer .ensures) (o .or-else .ensures) (c .enum-told .given .1) in
     record {
       accepted = a .at .accepted;
       step = a .at .step;

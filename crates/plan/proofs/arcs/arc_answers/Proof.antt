@@ -38,8 +38,8 @@ returns c =
     let t = b .before .before in
     let h = t .before in
     let s = h .before .before in
-    sym
-    (rest-no (questions s) (h .loop .e) (s .args .layout .arcs) (h .loop .inv .1) (t .loop-test .taken) (b .arc-answer .ensures) (c .enum-told2 .given .1))
+    sym (rest-no (questions s) (h .loop .e) (s .args .layout .arcs) (h .loop .inv .1) (t .loop-test .taken)
+    (b .arc-answer .ensures) (c .enum-told2 .given .1))
 
 add-e : tie.Need-add-e Inv-loop μ-loop
 add-e c = let p = c .before .before .before .before .before .before .before .pre .0 in omega (arith, p .laid .arcs, counted (p .accepted) .arcs)
@@ -51,7 +51,8 @@ loop-again c =
     let h = t .before in
     let s = h .before .before in (
       omega arith,
-      rest-on (questions s) (h .loop .e) (s .args .layout .arcs) (h .loop .inv .1) (t .loop-test .taken) (b .arc-answer .ensures) (c .enum-told .given .1),
+      rest-on (questions s) (h .loop .e) (s .args .layout .arcs) (h .loop .inv .1) (t .loop-test .taken)
+          (b .arc-answer .ensures) (c .enum-told .given .1),
     )
 
 returns-2 : tie.Need-returns-2 Inv-loop μ-loop

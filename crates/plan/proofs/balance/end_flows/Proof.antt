@@ -1,21 +1,22 @@
+-- A pipe has a flow at each end; any other arc has one flow, the difference of the two numbers of its row.
 use Rattle.plan.proofs.Common.{_≡_, sym, ap, _∙_, true, false, needs, eq-eqb, ne-eqb, now, w64, toZ, ofZ, Held, held, held-fits, _-ʳ_, counted}
 use Rattle.case.specs.declared.records.Arc.{Arc}
 use Rattle.plan.specs.declared.rows.ArcRow.{ArcRow}
 use Rattle.plan.specs.law.PlanRecords.{arcRow}
 use Rattle.plan.specs.law.Pipes.{isPipe}
 use Rattle.plan.specs.law.Balance.{flowAtFrom, flowAtTo}
-use Rattle.plan.proofs.NetFlows.{read}
+use Rattle.plan.proofs.SignedReads.{read}
 use Rattle.plan.proofs.balance.end_flows.Statement.{statement}
 use Rattle.plan.proofs.balance.end_flows.Tie as tie
 
-a-is : (c : tie.After-arc-row) → Held (toZ w64 (ofZ w64 (c .arc-row .result .a))) (arcRow (now (c .before .args .case)) (now (c .before .args .rows)) (c .before .args .e) .a) 10000000
+abbrev row-of : tie.Start → ArcRow
+row-of s = arcRow (now (s .args .case)) (now (s .args .rows)) (s .args .e)
+
+a-is : (c : tie.After-arc-row) → Held (toZ w64 (ofZ w64 (c .arc-row .result .a))) (row-of (c .before) .a) 10000000
 a-is c = let s = c .before in read (ap (λ (r : ArcRow). r .a) (c .arc-row .ensures)) (s .pre .2 .each (s .args .e) (s .pre .1) .a) tt
 
-b-is : (c : tie.After-arc-row) → Held (toZ w64 (ofZ w64 (c .arc-row .result .b))) (arcRow (now (c .before .args .case)) (now (c .before .args .rows)) (c .before .args .e) .b) 10000000
+b-is : (c : tie.After-arc-row) → Held (toZ w64 (ofZ w64 (c .arc-row .result .b))) (row-of (c .before) .b) 10000000
 b-is c = let s = c .before in read (ap (λ (r : ArcRow). r .b) (c .arc-row .ensures)) (s .pre .2 .each (s .args .e) (s .pre .1) .b) tt
-
-sub-flow : tie.Need-sub-flow
-sub-flow c = let r = c .before .before .before .before in held-fits (a-is r -ʳ b-is r) tt
 
 returns : tie.Need-returns
 unfolding flowAtFrom flowAtTo
@@ -38,4 +39,5 @@ returns-2 c =
 
 pub end-flows-spec : {M : Type 1} → statement M
 end-flows-spec = tie.close (tie.spec
-    (λ c κs. (counted (c .pre .0), c .pre .1)) (λ c κs. search needs) sub-flow returns returns-2)
+    (λ c κs. (counted (c .pre .0), c .pre .1)) (λ c κs. search needs)
+    (λ c. let r = c .before .before .before .before in held-fits (a-is r -ʳ b-is r) tt) returns returns-2)

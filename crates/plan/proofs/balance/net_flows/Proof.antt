@@ -1,12 +1,13 @@
+-- After each arc the array holds what the arcs passed put to each node.
 use Rattle.plan.proofs.Common.{_≡_, refl, sym, ap, _∙_, ℕ, _-_, _<_, _≤_, arith, now, length, w64, toZ, ofZ, Held, counted}
 use Rattle.numbers.specs.law.Sums.{sum}
 use Rattle.case.specs.law.Layout.{arcsOf}
-use Rattle.case.specs.law.Records.{arcOf}
 use Rattle.case.specs.declared.records.Arc.{Arc}
 use Rattle.plan.specs.law.Balance.{flowAtFrom, flowAtTo}
-use Rattle.plan.specs.inside.CaseSizes.{from-node, to-node}
-use Rattle.plan.proofs.NetFlows.{Gathers, gathers-none, gathers-more, gathers-sized, read}
+use Rattle.plan.proofs.ArcLaws.{from-small, to-small}
+use Rattle.plan.proofs.NetFlows.{Gathers, gathers-none, gathers-more, gathers-sized}
 use Rattle.plan.proofs.NodeParts.{nodePart, node-part, net-flow, from-sized, to-sized, part-sized}
+use Rattle.plan.proofs.SignedReads.{read, read-bounded}
 use Rattle.plan.proofs.balance.net_flows.Statement.{statement}
 use Rattle.plan.proofs.balance.net_flows.Tie as tie
 
@@ -20,57 +21,46 @@ abbrev μ-loop : tie.MeasureT-loop
 arc-in : (c : tie.In-loop Inv-loop μ-loop) → c .before .loop .e < arcsOf (now (c .before .before .args .case))
 arc-in c = rw (← (c .before .before .pre .1)) (c .loop-test .taken)
 
-from-is : (c : tie.After-end-flows Inv-loop μ-loop) → Held (toZ w64 (ofZ w64 (c .end-flows .result .from))) (flowAtFrom (now (c .before .before .before .before .args .case)) (now (c .before .before .before .before .args .rows)) (c .before .before .before .loop .e)) 20000000
+from-is : (c : tie.After-end-flows Inv-loop μ-loop) → let h = c .before .before .before in let a = h .before .args in
+    Held (toZ w64 (ofZ w64 (c .end-flows .result .from))) (flowAtFrom (now (a .case)) (now (a .rows)) (h .loop .e)) 20000000
 from-is c = let t = c .before .before in read (c .end-flows .ensures .0) (from-sized (t .before .before .pre .2) (t .before .loop .e) (arc-in t)) tt
 
-to-is : (c : tie.After-end-flows Inv-loop μ-loop) → Held (toZ w64 (ofZ w64 (c .end-flows .result .to))) (flowAtTo (now (c .before .before .before .before .args .case)) (now (c .before .before .before .before .args .rows)) (c .before .before .before .loop .e)) 20000000
+to-is : (c : tie.After-end-flows Inv-loop μ-loop) → let h = c .before .before .before in let a = h .before .args in
+    Held (toZ w64 (ofZ w64 (c .end-flows .result .to))) (flowAtTo (now (a .case)) (now (a .rows)) (h .loop .e)) 20000000
 to-is c = let t = c .before .before in read (c .end-flows .ensures .1) (to-sized (t .before .before .pre .2) (t .before .loop .e) (arc-in t)) tt
 
 loop-holds : tie.Need-loop-holds Inv-loop μ-loop
 loop-holds c = (omega arith, gathers-none (nodePart (now (c .args .case)) (now (c .args .rows))), refl)
 
-end-flows-requires : tie.Need-end-flows-requires Inv-loop μ-loop
-end-flows-requires c κs = let s = c .before .before .before in (s .pre .0, arc-in (c .before), s .pre .2)
-
-slice-aggregate-moved : tie.Need-slice-aggregate-moved Inv-loop μ-loop
-slice-aggregate-moved c = sym (c .before .before .before .before .loop .inv .2)
-
 moved-requires : tie.Need-moved-requires Inv-loop μ-loop
 moved-requires c κs =
     let f = c .before .before .before in
     let a = f .before in
-    let t = a .before in
-    let h = t .before in
+    let h = a .before .before in
     let s = h .before in
-    let e = h .loop .e in
-    let l = now (s .args .case) in
-    let n = counted (s .pre .0) in
-    let p = arc-in t in
-    let from : a .arc .result .from ≡ arcOf l e .from = ap (λ (x : Arc). x .from) (a .arc .ensures) in
-    let to : a .arc .result .to ≡ arcOf l e .to = ap (λ (x : Arc). x .to) (a .arc .ensures) in (
-      omega (arith, from, from-node (s .pre .0) e p, n .nodes),
-      omega (arith, to, to-node (s .pre .0) e p, n .nodes),
+    let p = arc-in (a .before) in (
+      from-small (s .pre .0) p (a .arc .ensures),
+      to-small (s .pre .0) p (a .arc .ensures),
       h .loop .inv .2,
-      rw (from-is f .val) (record { bound = from-is f .bound }),
-      rw (to-is f .val) (record { bound = to-is f .bound }),
-      gathers-sized (h .loop .inv .1) (omega (arith, h .loop .inv .0, s .pre .1, n .arcs)) (λ i k q. part-sized (s .pre .2) i k (omega (arith, q, p))),
+      read-bounded (from-is f),
+      read-bounded (to-is f),
+      gathers-sized (h .loop .inv .1) (omega (arith, h .loop .inv .0, s .pre .1, counted (s .pre .0) .arcs))
+          (λ i k q. part-sized (s .pre .2) i k (omega (arith, q, p))),
     )
 
 loop-again : tie.Need-loop-again Inv-loop μ-loop
 loop-again c =
-    let f = c .before .before .before .before .before in
+    let m = c .before in
+    let f = m .before .before .before .before in
     let a = f .before in
     let h = a .before .before in
     let s = h .before in
-    let e = h .loop .e in
-    let l = now (s .args .case) in
-    let r = now (s .args .rows) in
     let from = ap (λ (x : Arc). x .from) (a .arc .ensures) in
     let to = ap (λ (x : Arc). x .to) (a .arc .ensures) in (
       omega arith,
-      gathers-more (h .loop .inv .1) (a .arc .result .from) (a .arc .result .to) (toZ w64 (ofZ w64 (f .end-flows .result .from))) (toZ w64 (ofZ w64 (f .end-flows .result .to))) (c .before .moved .ensures .1)
-          (λ i. node-part l r e i from to (from-is f .val) (to-is f .val)),
-      c .before .moved .ensures .0,
+      gathers-more (h .loop .inv .1) (a .arc .result .from) (a .arc .result .to) _ _ (m .moved .ensures .1)
+          (λ i. node-part (now (s .args .case)) (now (s .args .rows)) (h .loop .e) i from to (from-is f .val) (to-is f .val)),
+      m .moved .ensures .0,
     )
 
 returns : tie.Need-returns Inv-loop μ-loop
@@ -80,9 +70,12 @@ returns c =
     let l = now (s .args .case) in
     let r = now (s .args .rows) in
     let e : h .loop .e ≡ arcsOf l = omega (arith, s .pre .1, h .loop .inv .0, c .loop-test .left) in
-    record { each = λ i p. h .loop .inv .1 .each i (omega (arith, p, counted (s .pre .0) .nodes)) ∙ ap (λ (n : ℕ). sum n (nodePart l r i)) e ∙ net-flow l r i }
+    record {
+      each = λ i p. h .loop .inv .1 .each i (omega (arith, p, counted (s .pre .0) .nodes)) ∙ ap (λ (n : ℕ). sum n (nodePart l r i)) e ∙ net-flow l r i;
+    }
 
 pub net-flows-spec : {M : Type 1} → statement M
 net-flows-spec = tie.close (tie.spec
-    Inv-loop μ-loop loop-holds (λ c κs. (c .before .before .pre .0, arc-in c)) end-flows-requires slice-aggregate-moved
-    moved-requires (λ c. omega arith) (λ c. omega arith) loop-again returns)
+    Inv-loop μ-loop loop-holds (λ c κs. (c .before .before .pre .0, arc-in c))
+    (λ c κs. let s = c .before .before .before in (s .pre .0, arc-in (c .before), s .pre .2))
+    (λ c. sym (c .before .before .before .before .loop .inv .2)) moved-requires (λ c. omega arith) (λ c. omega arith) loop-again returns)

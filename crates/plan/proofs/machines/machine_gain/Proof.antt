@@ -30,7 +30,8 @@ part-is c =
     let s = c .before .before .before .before in
     let i = c .before .before .loop .m in
     let q = machine-in (c .before) in
-    read (c .gain-part .ensures) (record { bound = abs-only-le (memberOf (toZ w64 (ofZ w64 (s .args .set))) i) _ ((sized (s .pre .ratio i q) -ʳ literal (pos 1000)) .bound) }) tt
+    let ratio = sized (s .pre .ratio i q) -ʳ literal (pos 1000) in
+    read (c .gain-part .ensures) (record { bound = abs-only-le (memberOf (toZ w64 (ofZ w64 (s .args .set))) i) _ (ratio .bound) }) tt
 
 add-sum : tie.Need-add-sum Inv-loop μ-loop
 add-sum c =

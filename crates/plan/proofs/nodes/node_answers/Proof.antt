@@ -28,7 +28,8 @@ returns c =
     let h = b .before .before in
     let s = h .before in
     rw (← s .pre .2)
-    (sym (rest-no (questions s) (h .loop .v) (s .args .nodes) (h .loop .inv .1) (b .before .loop-test .taken) (b .node-answer .ensures) (c .enum-told2 .given .1)))
+    (sym (rest-no (questions s) (h .loop .v) (s .args .nodes) (h .loop .inv .1) (b .before .loop-test .taken)
+    (b .node-answer .ensures) (c .enum-told2 .given .1)))
 
 add-v : tie.Need-add-v Inv-loop μ-loop
 add-v c = let t = c .before .before .before in let p = t .before .before .pre in omega (arith, counted (p .0) .nodes, p .2, t .loop-test .taken)
@@ -39,7 +40,8 @@ loop-again c =
     let h = b .before .before in
     let s = h .before in (
       omega arith,
-      rest-on (questions s) (h .loop .v) (s .args .nodes) (h .loop .inv .1) (b .before .loop-test .taken) (b .node-answer .ensures) (c .enum-told .given .1),
+      rest-on (questions s) (h .loop .v) (s .args .nodes) (h .loop .inv .1) (b .before .loop-test .taken)
+          (b .node-answer .ensures) (c .enum-told .given .1),
     )
 
 returns-2 : tie.Need-returns-2 Inv-loop μ-loop

@@ -23,4 +23,5 @@ returns c =
     ∙ ap₂ _&&_ (range .within .ensures ∙ p) (c .before .both .ensures ∙ ap₂ _&&_ (flow .flow-kept .ensures ∙ d) (slacks .slacks-kept .ensures))
 
 pub numbers-kept-spec : {M : Type 1} → statement M
-numbers-kept-spec = tie.close (tie.spec (λ c κs. search needs) (λ c κs. search needs) (λ c κs. search needs) (λ c κs. search needs) (λ c κs. search needs) returns)
+numbers-kept-spec = tie.close (tie.spec
+    (λ c κs. search needs) (λ c κs. search needs) (λ c κs. search needs) (λ c κs. search needs) (λ c κs. search needs) returns)

@@ -1,3 +1,4 @@
+-- After each arc the arrays hold, of every station, how many arcs it has and the set of those that are active.
 use Rattle.plan.proofs.Common.{_≡_, refl, ap, _∙_, ⊎-elim, ℕ, _-_, _<_, _≤_, arith, now, counted}
 use Rattle.case.specs.law.Layout.{arcsOf}
 use Rattle.case.specs.law.StationArcs.{arcSet}
@@ -58,7 +59,9 @@ returns c =
     let l = now (s .args .case) in
     let r = now (s .args .rows) in
     let e : h .loop .e ≡ arcsOf l = omega (arith, s .pre .1, h .loop .inv .0, c .loop-test .left) in
-    record { each = λ i p. h .loop .inv .1 .sets-hold .each i (omega (arith, p, counted (s .pre .0) .stations)) ∙ ap (λ (n : ℕ). arcSet l i (activeIn l r) n) e }
+    record {
+      each = λ i p. h .loop .inv .1 .sets-hold .each i (omega (arith, p, counted (s .pre .0) .stations)) ∙ ap (λ (n : ℕ). arcSet l i (activeIn l r) n) e;
+    }
 
 pub active-sets-spec : {M : Type 1} → statement M
 active-sets-spec = tie.close (tie.spec

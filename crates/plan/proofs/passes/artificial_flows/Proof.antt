@@ -1,3 +1,4 @@
+-- After each arc the array holds what the artificial arcs passed put to each node; any other arc puts nothing.
 use Rattle.plan.proofs.Common.{_≡_, refl, sym, ap, _∙_, ⊎-elim, ℕ, _-_, _<_, _≤_, arith, now, _-ℤ_, length, w64, toZ, ofZ, Held, held, held-fits, _-ʳ_}
 use Rattle.plan.proofs.Common.{counted}
 use Rattle.numbers.specs.law.Sums.{sum}
@@ -6,9 +7,10 @@ use Rattle.case.specs.declared.records.Arc.{Arc}
 use Rattle.plan.specs.declared.rows.ArcRow.{ArcRow}
 use Rattle.plan.specs.law.PlanRecords.{arcRow}
 use Rattle.plan.specs.inside.StationPass.{artificialPart, artificialFlow}
-use Rattle.plan.specs.inside.CaseSizes.{from-node, to-node}
-use Rattle.plan.proofs.NetFlows.{Gathers, gathers-none, gathers-same, gathers-more, gathers-sized, read}
+use Rattle.plan.proofs.ArcLaws.{from-small, to-small}
+use Rattle.plan.proofs.NetFlows.{Gathers, gathers-none, gathers-same, gathers-more, gathers-sized}
 use Rattle.plan.proofs.StationParts.{artificial-part, artificial-none, artificial-sized}
+use Rattle.plan.proofs.SignedReads.{read, read-bounded}
 use Rattle.plan.proofs.passes.artificial_flows.Statement.{statement}
 use Rattle.plan.proofs.passes.artificial_flows.Tie as tie
 
@@ -22,9 +24,12 @@ abbrev μ-loop : tie.MeasureT-loop
 arc-in : (c : tie.In-loop Inv-loop μ-loop) → c .before .loop .e < arcsOf (now (c .before .before .args .case))
 arc-in c = rw (← (c .before .before .pre .1)) (c .loop-test .taken)
 
+abbrev row-of : tie.In-loop Inv-loop μ-loop → ArcRow
+row-of t = let a = t .before .before .args in arcRow (now (a .case)) (now (a .rows)) (t .before .loop .e)
+
 -- its flow
-flow-is : (t : tie.In-loop Inv-loop μ-loop) (r : ArcRow) → r ≡ arcRow (now (t .before .before .args .case)) (now (t .before .before .args .rows)) (t .before .loop .e) →
-    Held (toZ w64 (ofZ w64 (r .a)) -ℤ toZ w64 (ofZ w64 (r .b))) (arcRow (now (t .before .before .args .case)) (now (t .before .before .args .rows)) (t .before .loop .e) .a -ℤ arcRow (now (t .before .before .args .case)) (now (t .before .before .args .rows)) (t .before .loop .e) .b) 20000000
+flow-is : (t : tie.In-loop Inv-loop μ-loop) (r : ArcRow) → r ≡ row-of t →
+    Held (toZ w64 (ofZ w64 (r .a)) -ℤ toZ w64 (ofZ w64 (r .b))) (row-of t .a -ℤ row-of t .b) 20000000
 flow-is t r e =
     let z = t .before .before .pre .2 .each (t .before .loop .e) (arc-in t) in
     read (ap (λ (x : ArcRow). x .a) e) (z .a) tt -ʳ read (ap (λ (x : ArcRow). x .b) e) (z .b) tt
@@ -32,32 +37,24 @@ flow-is t r e =
 loop-holds : tie.Need-loop-holds Inv-loop μ-loop
 loop-holds c = (omega arith, gathers-none (artificialPart (now (c .args .case)) (now (c .args .rows))), refl)
 
-arc-row-requires : tie.Need-arc-row-requires Inv-loop μ-loop
-arc-row-requires c κs = let t = c .before .before .before in (counted (t .before .before .pre .0), arc-in t)
-
 sub-flow : tie.Need-sub-flow Inv-loop μ-loop
 sub-flow c = let r = c .before .before in held-fits (flow-is (r .before .before .before .before) (r .arc-row .result) (r .arc-row .ensures)) tt
-
-slice-aggregate-moved : tie.Need-slice-aggregate-moved Inv-loop μ-loop
-slice-aggregate-moved c = sym (c .before .before .before .before .before .before .before .before .loop .inv .2)
 
 moved-requires : tie.Need-moved-requires Inv-loop μ-loop
 moved-requires c κs =
     let r = c .before .before .before in
     let a = r .before .before .before in
-    let t = a .before in
-    let h = t .before in
+    let h = a .before .before in
     let s = h .before in
-    let e = h .loop .e in
-    let n = counted (s .pre .0) in
-    let p = arc-in t in
-    let f = held (flow-is t (r .arc-row .result) (r .arc-row .ensures)) tt in (
-      omega (arith, ap (λ (x : Arc). x .from) (a .arc .ensures), from-node (s .pre .0) e p, n .nodes),
-      omega (arith, ap (λ (x : Arc). x .to) (a .arc .ensures), to-node (s .pre .0) e p, n .nodes),
+    let p = arc-in (a .before) in
+    let f = read-bounded (held (flow-is (a .before) (r .arc-row .result) (r .arc-row .ensures)) tt) in (
+      from-small (s .pre .0) p (a .arc .ensures),
+      to-small (s .pre .0) p (a .arc .ensures),
       h .loop .inv .2,
-      rw (f .val) (record { bound = f .bound }),
-      rw (f .val) (record { bound = f .bound }),
-      gathers-sized (h .loop .inv .1) (omega (arith, h .loop .inv .0, s .pre .1, n .arcs)) (λ i k q. artificial-sized (now (s .args .case)) (now (s .args .rows)) k i (s .pre .2) (omega (arith, q, p))),
+      f,
+      f,
+      gathers-sized (h .loop .inv .1) (omega (arith, h .loop .inv .0, s .pre .1, counted (s .pre .0) .arcs))
+          (λ i k q. artificial-sized (now (s .args .case)) (now (s .args .rows)) k i (s .pre .2) (omega (arith, q, p))),
     )
 
 loop-again : tie.Need-loop-again Inv-loop μ-loop
@@ -76,7 +73,10 @@ loop-again c =
       ⊎-elim
           (λ x.
           let v = toZ w64 (ofZ w64 (toZ w64 (ofZ w64 (x .1 .result .a)) -ℤ toZ w64 (ofZ w64 (x .1 .result .b)))) in
-          rw (x .7) (gathers-more (h .loop .inv .1) (a .arc .result .from) (a .arc .result .to) v v (x .5 .ensures .1) (λ i. artificial-part l r e i kind (x .0 .taken) from to ((held (flow-is t (x .1 .result) (x .1 .ensures)) tt) .val))))
+          let flow = held (flow-is t (x .1 .result) (x .1 .ensures)) tt .val in
+          rw (x .7)
+          (gathers-more (h .loop .inv .1) (a .arc .result .from) (a .arc .result .to) v v (x .5 .ensures .1)
+          (λ i. artificial-part l r e i kind (x .0 .taken) from to flow)))
           (λ x. rw (x .1) (gathers-same (h .loop .inv .1) (λ i. artificial-none l r e i kind (x .0 .left))))
           (c .if1 .came),
       ⊎-elim (λ x. rw (x .7) (x .5 .ensures .0)) (λ x. rw (x .1) (h .loop .inv .2)) (c .if1 .came),
@@ -94,5 +94,7 @@ returns c =
 
 pub artificial-flows-spec : {M : Type 1} → statement M
 artificial-flows-spec = tie.close (tie.spec
-    Inv-loop μ-loop loop-holds (λ c κs. (c .before .before .pre .0, arc-in c)) arc-row-requires sub-flow
-    slice-aggregate-moved moved-requires (λ c. omega arith) (λ c. omega arith) loop-again returns)
+    Inv-loop μ-loop loop-holds (λ c κs. (c .before .before .pre .0, arc-in c))
+    (λ c κs. let t = c .before .before .before in (counted (t .before .before .pre .0), arc-in t)) sub-flow
+    (λ c. sym (c .before .before .before .before .before .before .before .before .loop .inv .2)) moved-requires (λ c. omega arith) (λ c. omega arith)
+    loop-again returns)

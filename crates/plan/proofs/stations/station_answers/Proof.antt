@@ -64,8 +64,8 @@ returns c =
     let t = b .before .before in
     let h = t .before in
     let s = start h in
-    sym
-    (rest-no (questions s) (h .loop .s) (s .args .layout .stations) (h .loop .inv .1) (t .loop-test .taken) (b .station-answer .ensures) (c .enum-told2 .given .1))
+    sym (rest-no (questions s) (h .loop .s) (s .args .layout .stations) (h .loop .inv .1) (t .loop-test .taken)
+    (b .station-answer .ensures) (c .enum-told2 .given .1))
 
 loop-again : tie.Need-loop-again Inv-loop μ-loop
 loop-again c =
@@ -74,7 +74,8 @@ loop-again c =
     let h = t .before in
     let s = start h in (
       omega arith,
-      rest-on (questions s) (h .loop .s) (s .args .layout .stations) (h .loop .inv .1) (t .loop-test .taken) (b .station-answer .ensures) (c .enum-told .given .1),
+      rest-on (questions s) (h .loop .s) (s .args .layout .stations) (h .loop .inv .1) (t .loop-test .taken)
+          (b .station-answer .ensures) (c .enum-told .given .1),
     )
 
 returns-2 : tie.Need-returns-2 Inv-loop μ-loop
