@@ -1,12 +1,8 @@
 -- The digits of a signed number, by half of its unsigned one.
--- Assumes nothing.
-use mathlib.Core.Path.{_≡_, ap}
+use Rattle.line.proofs.Common.{_≡_, ap, _∷_, ℕ, _+_, _/_, arith, ℤ, pos}
 use mathlib.Core.Bool.{true, false}
-use mathlib.Core.List.{_∷_}
-use Prim.Native.Nat.{ℕ, _+_, _/_}
-use native.Mathlib.Omega.{arith}
 use borrow.Author.Tests.{ltb-true}
-use lib.IntN.{ℤ, pos, negsuc}
+use lib.IntN.{negsuc}
 use lib.Signed.{ltZ}
 use Rattle.numbers.specs.law.Mapping.{unsignedOf}
 use Rattle.line.specs.law.Decimal.{decimal, signed}

@@ -1,12 +1,9 @@
--- The numbers of a list, put into a lent line one after the other.
--- Assumes nothing.
-use mathlib.Core.Path.{_≡_, refl, ap, sym, _∙_}
-use mathlib.Core.List.{List, [], _∷_, _++_, append-assoc, append-nil}
-use Prim.Native.Nat.{ℕ, _+_, _*_, _≤_, _<_}
+-- The first i numbers stand in the line, each in at most 21 places, so that there is room for one more.
+use Rattle.line.proofs.Common.{_≡_, refl, sym, ap, _∙_, List, [], _∷_, _++_, ℕ, _+_, _<_, _≤_, arith, ℤ, pos, length, set, length-set}
+use mathlib.Core.List.{append-assoc, append-nil}
+use Prim.Native.Nat.{_*_}
 use native.Mathlib.Numerals.{add-one}
-use native.Mathlib.Omega.{arith}
-use lib.IntN.{ℤ, pos}
-use lib.ListN.{length, getD, take, set, length-set}
+use lib.ListN.{getD, take}
 use lib.Seq.{length-sets, take-suc, take-all}
 use Rattle.line.specs.law.Decimal.{signed}
 use Rattle.line.specs.law.Line.{spaced}

@@ -1,10 +1,7 @@
--- Digits written into a lent line, the last one first.
--- Assumes nothing.
-use mathlib.Core.Path.{_≡_, refl, ap, sym, _∙_}
-use mathlib.Core.List.{List, [], _∷_}
-use Prim.Native.Nat.{ℕ, suc, _+_, _-_, _/_, _≤_, _<_}
-use native.Mathlib.Omega.{arith}
-use lib.ListN.{length, set, length-set, length-append}
+-- Digits are written the last one first: once the digits of `rest` are written too, the line holds those of n.
+use Rattle.line.proofs.Common.{_≡_, refl, sym, ap, _∙_, List, [], _∷_, ℕ, _+_, _-_, _/_, _<_, _≤_, arith, length, set, length-set}
+use Prim.Native.Nat.{suc}
+use lib.ListN.{length-append}
 use lib.Seq.{sets, set-comm}
 use Rattle.numbers.specs.inside.OverlayLaws.{sets-append}
 use Rattle.line.specs.law.Decimal.{lastDigit, decimal}

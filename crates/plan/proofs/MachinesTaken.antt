@@ -104,4 +104,5 @@ module _ {case rows : List ℤ} {s t e : ℕ} (g : Taken case rows s t e) where
 pub taken-once : {case rows : List ℤ} {s t : ℕ} → Taken case rows s t (arcsOf case) → true ≡ machinesOnce case rows s
 unfolding machinesOnce
 taken-once {case} {rows} {s} {t} g =
-    sym (at-every (stationOf case s .machines) (machineOnce case rows s) (λ m p. le-leb (count (arcsOf case) (onArc case rows s m)) 1 (omega (arith, g .each m))))
+    let once : (m : ℕ) → machineOnce case rows s m ≡ true = λ m. le-leb (count (arcsOf case) (onArc case rows s m)) 1 (omega (arith, g .each m)) in
+    sym (at-every (stationOf case s .machines) (machineOnce case rows s) (λ m p. once m))

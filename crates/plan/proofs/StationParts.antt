@@ -39,7 +39,8 @@ module _ (case rows : List ℤ) (e i : ℕ) where
 -- ---- 32 of one node
 
 pub fence-node : {case : List ℤ} → AcceptedCase case → (rows : List ℤ) (s f v : ℕ) {chosen : Direction} {inside plain flow : ℤ} {r : Bool}
-    → v < nodesOf case → s < stationsOf case → chosen ≡ directionOf case s f → inside ≡ stationNodes case s → plain ≡ plainNodes case → flow ≡ artificialFlow case rows v
+    → v < nodesOf case → s < stationsOf case
+    → chosen ≡ directionOf case s f → inside ≡ stationNodes case s → plain ≡ plainNodes case → flow ≡ artificialFlow case rows v
     → r ≡ fenceNodeKept (inBoth inside plain) chosen v flow → r ≡ fenceKept case rows s f v
 fence-node {case} a rows s f v l m p q r t e = rw (p, q, r, t) at e ∙ fence-passed a v l rows s m (directionOf case s f)
 

@@ -1,5 +1,4 @@
 -- The digits of n are those of n / 10, if n has more than one, and then the last.
--- Assumes nothing.
 use mathlib.Core.Path.{_≡_, refl, ap}
 use mathlib.Core.Bool.{Bool, true, false}
 use mathlib.Core.List.{[], _∷_, _++_}

@@ -1,5 +1,4 @@
 -- The characters of a line: a number's are above the space. A refusal's line begins with `refused`.
--- Assumes nothing.
 use mathlib.Core.Path.{_≡_}
 use mathlib.Core.List.{List, [], _∷_, _++_}
 use Prim.Native.Nat.{ℕ, suc, _/_, _≤_, _<_}

@@ -1,5 +1,4 @@
--- A text put into a lent line.
--- Assumes nothing.
+-- A text put into a lent line: two that follow one another are one, and at the front it is an overlay.
 use mathlib.Core.Path.{_≡_, refl, ap, sym, _∙_}
 use mathlib.Core.List.{List, [], _∷_, _++_}
 use Prim.Native.Nat.{ℕ, _+_, _≤_, _<_}

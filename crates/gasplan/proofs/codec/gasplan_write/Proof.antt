@@ -1,9 +1,5 @@
-use mathlib.Core.Path.{refl, ap, sym, _∙_}
-use borrow.Author.Tests.{le-leb, lt-leb}
-use native.Mathlib.Omega.{arith}
-use borrow.Author.Needs.{needs}
-use denote.Ref.{now}
-use lib.ListN.{length}
+-- What was written is told by its case: the count, or the refusal, whose numbers are small; an `out` that is too short stays as it is.
+use Rattle.gasplan.proofs.Common.{refl, sym, ap, _∙_, arith, needs, le-leb, lt-leb, now, length}
 use Rattle.numbers.specs.law.CodecTold.{writingTold}
 use Rattle.numbers.specs.inside.GroupLaws.{write-within, write-refusal}
 use Rattle.gasplan.proofs.Coded.{coded}
@@ -18,7 +14,8 @@ count-requires c κs =
     let r = c .before .before in
     let d = r .before .before .before .before in
     let a = d .before .before .before .before .args in
-    (d .before .before .if1 .left, omega (arith, write-within (now (a .list)) (length (now (a .bytes))) _ (ap writingTold (sym (r .r .given .1)) ∙ d .write .ensures .0)))
+    let w = write-within (now (a .list)) (length (now (a .bytes))) _ (ap writingTold (sym (r .r .given .1)) ∙ d .write .ensures .0) in
+    (d .before .before .if1 .left, omega (arith, w))
 
 refusal-requires : tie.Need-refusal-requires
 refusal-requires c κs =

@@ -1,21 +1,15 @@
+-- An accepted case is told as 0; a refusal's numbers are small, so that they are told as they are.
 use Rattle.numbers.specs.law.Question.{told}
 use Rattle.numbers.specs.inside.SmallRefusals.{Small}
 use Rattle.case.specs.inside.SmallRefusals.{limit, case-small}
 use Rattle.plan.specs.inside.VerdictLaws.{case-answer}
 use Rattle.gasplan.proofs.Coded.{coded}
-use mathlib.Core.Path.{refl, ap, sym, subst, _∙_}
-use borrow.Author.Tests.{le-leb, lt-leb}
-use native.Mathlib.Omega.{arith}
-use denote.Ref.{now}
-use borrow.Author.Needs.{needs}
+use Rattle.gasplan.proofs.Common.{refl, sym, ap, subst, _∙_, arith, needs, le-leb, lt-leb, now}
 use Rattle.gasplan.proofs.judge.gasplan_case.Statement.{statement}
 use Rattle.gasplan.proofs.judge.gasplan_case.Tie as tie
 
 returns : tie.Need-returns
 returns c = rw (lt-leb _ _ (c .if1 .taken)) (refl, refl)
-
-enum-told : tie.Need-enum-told
-enum-told c = search needs
 
 refusal-requires : tie.Need-refusal-requires
 refusal-requires c κs =
@@ -36,11 +30,11 @@ returns-3 c =
     let r = k .before .before .before in
     let d = r .before .before in
     let a = d .before .before .args in
+    let e = ap told (sym (r .a .given .1)) ∙ d .judge-case .ensures in
     let w = subst (Small limit) (case-answer _ _ (d .judge-case .ensures) ∙ r .a .given .1) (case-small (now (a .case))) in
-    let x = coded (now (a .out)) (ap told (sym (r .a .given .1)) ∙ d .judge-case .ensures) (omega (arith, w .0)) (k .refusal .ensures .0) (k .refusal .ensures .1) in
-    rw (le-leb _ _ (d .before .if1 .left)) x
+    rw (le-leb _ _ (d .before .if1 .left)) (coded (now (a .out)) e (omega (arith, w .0)) (k .refusal .ensures .0) (k .refusal .ensures .1))
 
 pub gasplan-case-spec : {M : Type 1} → statement M
 gasplan-case-spec = tie.close (tie.spec
-    returns (λ c κs. search needs) enum-told (λ c. search needs) refusal-requires returns-2 (λ c. search needs)
+    returns (λ c κs. search needs) (λ c. search needs) (λ c. search needs) refusal-requires returns-2 (λ c. search needs)
     returns-3)

@@ -1,10 +1,7 @@
-use Rattle.numbers.specs.inside.SignedLocals.{kept}
-use mathlib.Core.Path.{refl, ap, _∙_}
-use borrow.Author.Tests.{lt-leb}
-use denote.Ref.{now}
+-- Every verdict fits what it is told by (`judge-fits`), so the answer is the verdict's own code and values.
+use Rattle.gasplan.proofs.Common.{refl, ap, _∙_, needs, lt-leb, now, kept}
 use Rattle.plan.specs.inside.VerdictSizes.{judge-fits}
 use Rattle.gasplan.specs.law.Out.{codeOf, outOf}
-use borrow.Author.Needs.{needs}
 use Rattle.gasplan.proofs.judge.gasplan_judge.Statement.{statement}
 use Rattle.gasplan.proofs.judge.gasplan_judge.Tie as tie
 

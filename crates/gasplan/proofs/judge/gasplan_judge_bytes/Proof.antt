@@ -1,11 +1,7 @@
-use Rattle.numbers.specs.inside.SignedLocals.{kept}
-use mathlib.Core.Path.{refl, ap, _∙_}
-use borrow.Author.Tests.{le-leb, lt-leb}
-use native.Mathlib.Omega.{arith}
-use denote.Ref.{now}
+-- Every verdict on bytes fits what it is told by (`bytes-fit`); the two lists hold what was read, whatever is told.
+use Rattle.gasplan.proofs.Common.{refl, ap, _∙_, arith, needs, le-leb, lt-leb, now, kept}
 use Rattle.plan.specs.inside.VerdictSizes.{bytes-fit}
 use Rattle.gasplan.specs.law.Out.{codeOf, outOf}
-use borrow.Author.Needs.{needs}
 use Rattle.gasplan.proofs.judge.gasplan_judge_bytes.Statement.{statement}
 use Rattle.gasplan.proofs.judge.gasplan_judge_bytes.Tie as tie
 
@@ -27,8 +23,10 @@ returns-2 c =
     let d = j .before .before .before .before in
     let out = now (d .before .before .before .args .out) in
     let e = j .judge-bytes .ensures .0 in
-    let t = k .tell-verdict .ensures in
-    (kept _ (k .tell-verdict .ok) ∙ t .0 ∙ ap (codeOf out) e, (t .1 ∙ ap (outOf out) e, (rw (le-leb _ _ (d .if1 .left)) (j .judge-bytes .ensures .1 .0), rw (le-leb _ _ (d .if1 .left)) (j .judge-bytes .ensures .1 .1))))
+    let t = k .tell-verdict in
+    let lists = j .judge-bytes .ensures .1 in
+    let long = le-leb _ _ (d .if1 .left) in
+    (kept (t .result) (t .ok) ∙ t .ensures .0 ∙ ap (codeOf out) e, (t .ensures .1 ∙ ap (outOf out) e, (rw long (lists .0), rw long (lists .1))))
 
 pub gasplan-judge-bytes-spec : {M : Type 1} → statement M
 gasplan-judge-bytes-spec = tie.close (tie.spec

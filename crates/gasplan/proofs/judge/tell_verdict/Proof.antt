@@ -1,29 +1,10 @@
-use native.Mathlib.Omega.{arith}
-use Rattle.numbers.specs.inside.SignedLocals.{kept}
-use mathlib.Core.Path.{ap, sym, subst}
-use Prim.Native.Nat.{_^_}
-use mir.Facts.{toZ-pos}
-use mir.Syntax.{w64}
-use borrow.Author.Tests.{le-leb}
-use denote.Ref.{now}
+-- A verdict that fits is told as it is: six totals if accepted, else the refusal's three numbers.
+use Rattle.gasplan.proofs.Common.{sym, ap, subst, _^_, arith, needs, le-leb, now, toZ-pos, w64, kept}
 use Rattle.plan.specs.law.Judged.{verdictTold}
 use Rattle.plan.specs.inside.VerdictSizes.{Fit}
 use Rattle.gasplan.proofs.Coded.{coded}
-use borrow.Author.Needs.{needs}
 use Rattle.gasplan.proofs.judge.tell_verdict.Statement.{statement}
 use Rattle.gasplan.proofs.judge.tell_verdict.Tie as tie
-
-cast-switching : tie.Need-cast-switching
-cast-switching c =
-    let v = c .before .before in
-    let w = subst (Fit (2 ^ 63)) (v .v .given .1) (v .before .before .pre .1) in
-    record { sfits = w .0 }
-
-cast-residual : tie.Need-cast-residual
-cast-residual c =
-    let v = c .before .before .before in
-    let w = subst (Fit (2 ^ 63)) (v .v .given .1) (v .before .before .pre .1) in
-    record { sfits = w .1 }
 
 refusal-requires : tie.Need-refusal-requires
 refusal-requires c κs =
@@ -41,9 +22,12 @@ returns c =
     let s = v .before .before in
     let w = subst (Fit (2 ^ 63)) (v .v .given .1) (s .pre .1) in
     let q = v .v .given .0 .0 in
-    let n = simp (kept (q .pressure) (g .0 .1), kept (q .demand) (g .1 .0 .1), toZ-pos w64 (w .0), toZ-pos w64 (w .1), kept (q .opening) (g .1 .1 .1 .1 .0 .1), kept (q .closing) (g .1 .1 .1 .1 .1 .0 .1)) at (k .six .ensures .1) in
-    let x = coded (now (s .args .out)) (ap verdictTold (sym (v .v .given .1))) (omega arith) (k .six .ensures .0) n in
-    rw (le-leb _ _ (s .pre .0)) x
+    let opening = kept (q .opening) (g .1 .1 .1 .1 .0 .1) in
+    let closing = kept (q .closing) (g .1 .1 .1 .1 .1 .0 .1) in
+    let pressure = kept (q .pressure) (g .0 .1) in
+    let demand = kept (q .demand) (g .1 .0 .1) in
+    let n = simp (pressure, demand, toZ-pos w64 (w .0), toZ-pos w64 (w .1), opening, closing) at (k .six .ensures .1) in
+    rw (le-leb _ _ (s .pre .0)) (coded (now (s .args .out)) (ap verdictTold (sym (v .v .given .1))) (omega arith) (k .six .ensures .0) n)
 
 returns-2 : tie.Need-returns-2
 returns-2 c =
@@ -51,10 +35,12 @@ returns-2 c =
     let v = k .before .before .before in
     let s = v .before .before in
     let w = subst (Fit (2 ^ 63)) (v .v2 .given .1) (s .pre .1) in
-    let x = coded (now (s .args .out)) (ap verdictTold (sym (v .v2 .given .1))) (w .0) (k .refusal .ensures .0) (k .refusal .ensures .1) in
-    rw (le-leb _ _ (s .pre .0)) x
+    rw (le-leb _ _ (s .pre .0))
+    (coded (now (s .args .out)) (ap verdictTold (sym (v .v2 .given .1))) (w .0) (k .refusal .ensures .0) (k .refusal .ensures .1))
 
 pub tell-verdict-spec : {M : Type 1} → statement M
 tell-verdict-spec = tie.close (tie.spec
-    (λ c. search needs) cast-switching cast-residual (λ c κs. search needs) (λ c. search needs) refusal-requires
-    (λ c. search needs) returns (λ c. search needs) returns-2)
+    (λ c. search needs)
+    (λ c. let v = c .before .before in record { sfits = subst (Fit (2 ^ 63)) (v .v .given .1) (v .before .before .pre .1) .0 })
+    (λ c. let v = c .before .before .before in record { sfits = subst (Fit (2 ^ 63)) (v .v .given .1) (v .before .before .pre .1) .1 })
+    (λ c κs. search needs) (λ c. search needs) refusal-requires (λ c. search needs) returns (λ c. search needs) returns-2)

@@ -1,11 +1,7 @@
-use Rattle.numbers.specs.inside.SignedLocals.{kept}
-use mathlib.Core.Path.{refl, ap, _∙_}
-use mir.Facts.{toZ-ofZ}
-use borrow.Author.Tests.{lt-leb}
-use denote.Ref.{now}
+-- Every ledger fits what it is told by (`ledger-fits`), and the three signed parameters are read as they are.
+use Rattle.gasplan.proofs.Common.{refl, ap, _∙_, needs, lt-leb, now, toZ-ofZ, kept}
 use Rattle.plan.specs.inside.VerdictSizes.{ledger-fits}
 use Rattle.gasplan.specs.law.Out.{codeOf, outOf}
-use borrow.Author.Needs.{needs}
 use Rattle.gasplan.proofs.ledger.gasplan_ledger.Statement.{statement}
 use Rattle.gasplan.proofs.ledger.gasplan_ledger.Tie as tie
 
@@ -16,7 +12,8 @@ tell-ledger-requires : tie.Need-tell-ledger-requires
 tell-ledger-requires c κs =
     let s = c .before .before .before in
     let a = s .args in
-    (c .before .before .if1 .left, ledger-fits (now (a .case)) (now (a .plan)) (a .set) (a .s) (a .t) (c .ledger .result) (simp (toZ-ofZ (s .fits .set), toZ-ofZ (s .fits .s), toZ-ofZ (s .fits .t)) at (c .ledger .ensures .0)))
+    let e = simp (toZ-ofZ (s .fits .set), toZ-ofZ (s .fits .s), toZ-ofZ (s .fits .t)) at (c .ledger .ensures .0) in
+    (c .before .before .if1 .left, ledger-fits (now (a .case)) (now (a .plan)) (a .set) (a .s) (a .t) (c .ledger .result) e)
 
 returns-2 : tie.Need-returns-2
 returns-2 c =

@@ -1,35 +1,10 @@
-use mathlib.Core.Path.{ap, sym, subst}
-use Prim.Native.Nat.{_^_}
-use native.Mathlib.Omega.{arith}
-use mir.Facts.{toZ-pos}
-use mir.Syntax.{w64}
-use borrow.Author.Tests.{le-leb}
-use denote.Ref.{now}
+-- A ledger that fits is told as it is: six figures if given, else the refusal's three numbers.
+use Rattle.gasplan.proofs.Common.{sym, ap, subst, _^_, arith, needs, le-leb, now, toZ-pos, w64, kept}
 use Rattle.plan.specs.law.Ledger.{ledgerTold}
-use Rattle.numbers.specs.inside.SignedLocals.{kept}
 use Rattle.plan.specs.inside.VerdictSizes.{FitLedger}
 use Rattle.gasplan.proofs.Coded.{coded}
-use borrow.Author.Needs.{needs}
 use Rattle.gasplan.proofs.ledger.tell_ledger.Statement.{statement}
 use Rattle.gasplan.proofs.ledger.tell_ledger.Tie as tie
-
-cast-nodes : tie.Need-cast-nodes
-cast-nodes c =
-    let v = c .before .before in
-    let w = subst (FitLedger (2 ^ 63)) (v .v .given .1) (v .before .before .pre .1) in
-    record { sfits = w .0 }
-
-cast-pipes : tie.Need-cast-pipes
-cast-pipes c =
-    let v = c .before .before .before in
-    let w = subst (FitLedger (2 ^ 63)) (v .v .given .1) (v .before .before .pre .1) in
-    record { sfits = w .1 }
-
-cast-residual : tie.Need-cast-residual
-cast-residual c =
-    let v = c .before .before .before .before in
-    let w = subst (FitLedger (2 ^ 63)) (v .v .given .1) (v .before .before .pre .1) in
-    record { sfits = w .2 }
 
 refusal-requires : tie.Need-refusal-requires
 refusal-requires c κs =
@@ -47,9 +22,11 @@ returns c =
     let s = v .before .before in
     let w = subst (FitLedger (2 ^ 63)) (v .v .given .1) (s .pre .1) in
     let q = v .v .given .0 .0 in
-    let n = simp (toZ-pos w64 (w .0), toZ-pos w64 (w .1), kept (q .opening) (g .1 .1 .0 .1), kept (q .closing) (g .1 .1 .1 .0 .1), kept (q .brought) (g .1 .1 .1 .1 .0 .1), toZ-pos w64 (w .2)) at (k .six .ensures .1) in
-    let x = coded (now (s .args .out)) (ap ledgerTold (sym (v .v .given .1))) (omega arith) (k .six .ensures .0) n in
-    rw (le-leb _ _ (s .pre .0)) x
+    let opening = kept (q .opening) (g .1 .1 .0 .1) in
+    let closing = kept (q .closing) (g .1 .1 .1 .0 .1) in
+    let brought = kept (q .brought) (g .1 .1 .1 .1 .0 .1) in
+    let n = simp (toZ-pos w64 (w .0), toZ-pos w64 (w .1), opening, closing, brought, toZ-pos w64 (w .2)) at (k .six .ensures .1) in
+    rw (le-leb _ _ (s .pre .0)) (coded (now (s .args .out)) (ap ledgerTold (sym (v .v .given .1))) (omega arith) (k .six .ensures .0) n)
 
 returns-2 : tie.Need-returns-2
 returns-2 c =
@@ -57,10 +34,13 @@ returns-2 c =
     let v = k .before .before .before in
     let s = v .before .before in
     let w = subst (FitLedger (2 ^ 63)) (v .v2 .given .1) (s .pre .1) in
-    let x = coded (now (s .args .out)) (ap ledgerTold (sym (v .v2 .given .1))) (w .0) (k .refusal .ensures .0) (k .refusal .ensures .1) in
-    rw (le-leb _ _ (s .pre .0)) x
+    rw (le-leb _ _ (s .pre .0))
+    (coded (now (s .args .out)) (ap ledgerTold (sym (v .v2 .given .1))) (w .0) (k .refusal .ensures .0) (k .refusal .ensures .1))
 
 pub tell-ledger-spec : {M : Type 1} → statement M
 tell-ledger-spec = tie.close (tie.spec
-    (λ c. search needs) cast-nodes cast-pipes cast-residual (λ c κs. search needs) (λ c. search needs) refusal-requires
-    (λ c. search needs) returns (λ c. search needs) returns-2)
+    (λ c. search needs)
+    (λ c. let v = c .before .before in record { sfits = subst (FitLedger (2 ^ 63)) (v .v .given .1) (v .before .before .pre .1) .0 })
+    (λ c. let v = c .before .before .before in record { sfits = subst (FitLedger (2 ^ 63)) (v .v .given .1) (v .before .before .pre .1) .1 })
+    (λ c. let v = c .before .before .before .before in record { sfits = subst (FitLedger (2 ^ 63)) (v .v .given .1) (v .before .before .pre .1) .2 })
+    (λ c κs. search needs) (λ c. search needs) refusal-requires (λ c. search needs) returns (λ c. search needs) returns-2)

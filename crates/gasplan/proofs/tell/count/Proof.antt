@@ -1,10 +1,5 @@
-use mir.Facts.{toZ-pos}
-use mir.Syntax.{w64}
-use native.Mathlib.Omega.{arith}
-use borrow.Author.Needs.{needs}
-use mathlib.Core.List.{[], _∷_}
-use lib.IntN.{pos}
-use denote.Ref.{now}
+-- One store at the front is the overlay of one value.
+use Rattle.gasplan.proofs.Common.{[], _∷_, arith, needs, now, pos, toZ-pos, w64}
 use Rattle.numbers.specs.inside.OverlayLaws.{overlay-sets}
 use Rattle.gasplan.proofs.tell.count.Statement.{statement}
 use Rattle.gasplan.proofs.tell.count.Tie as tie

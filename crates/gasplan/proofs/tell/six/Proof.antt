@@ -1,9 +1,5 @@
-use mir.Facts.{toZ-ofZ}
-use native.Mathlib.Omega.{arith}
-use borrow.Author.Needs.{needs}
-use mathlib.Core.List.{[], _∷_}
-use lib.ListN.{length-set}
-use denote.Ref.{now}
+-- Six stores at the front are the overlay of six values, which are read as they are.
+use Rattle.gasplan.proofs.Common.{[], _∷_, arith, needs, now, length-set, toZ-ofZ}
 use Rattle.numbers.specs.inside.OverlayLaws.{overlay-sets}
 use Rattle.gasplan.proofs.tell.six.Statement.{statement}
 use Rattle.gasplan.proofs.tell.six.Tie as tie
@@ -12,7 +8,8 @@ returns : tie.Need-returns
 returns c =
     let a = c .args in
     let f = c .fits in
-    (search needs, rw (toZ-ofZ (f .a), toZ-ofZ (f .b), toZ-ofZ (f .c), toZ-ofZ (f .d), toZ-ofZ (f .e), toZ-ofZ (f .f)) (overlay-sets (a .a ∷ a .b ∷ a .c ∷ a .d ∷ a .e ∷ a .f ∷ []) (now (a .out)) (omega (arith, c .pre))))
+    let put = overlay-sets (a .a ∷ a .b ∷ a .c ∷ a .d ∷ a .e ∷ a .f ∷ []) (now (a .out)) (omega (arith, c .pre)) in
+    (search needs, rw (toZ-ofZ (f .a), toZ-ofZ (f .b), toZ-ofZ (f .c), toZ-ofZ (f .d), toZ-ofZ (f .e), toZ-ofZ (f .f)) put)
 
 pub six-spec : {M : Type 1} → statement M
 six-spec = tie.close (tie.spec

@@ -1,9 +1,5 @@
 -- What the line holds at the end stays the same: the digits of `rest` are still to be written, the last of them at `i`.
-use mathlib.Core.Path.{ap, _∙_}
-use Prim.Native.Nat.{ℕ, _+_, _/_}
-use borrow.Author.Needs.{needs}
-use native.Mathlib.Omega.{arith}
-use lib.ListN.{length-set}
+use Rattle.line.proofs.Common.{ap, _∙_, ℕ, _+_, _/_, arith, needs, length-set}
 use Rattle.line.specs.inside.DigitLaws.{some-digit}
 use Rattle.line.proofs.Written.{Writing, writing, longer, write-turn, write-last}
 use Rattle.line.proofs.decimal.digits.Statement.{statement}
@@ -14,12 +10,6 @@ Inv-loop n line₀ at end rest₀ i₀ line rest i = Writing line₀ at n line r
 
 abbrev μ-loop : tie.MeasureT-loop
 μ-loop n line₀ at end rest₀ i₀ line rest i = rest
-
-add-end : tie.Need-add-end Inv-loop μ-loop
-add-end c = omega (arith, c .width .ensures, c .before .before .pre)
-
-sub-i : tie.Need-sub-i Inv-loop μ-loop
-sub-i c = omega (arith, c .width .ensures, some-digit (c .before .before .args .n))
 
 loop-holds : tie.Need-loop-holds Inv-loop μ-loop
 loop-holds c = writing _ _ _ _ (omega (arith, c .width .ensures, some-digit (c .before .before .args .n))) (c .before .before .pre)
@@ -50,6 +40,7 @@ returns c =
 
 pub digits-spec : {M : Type 1} → statement M
 digits-spec = tie.close (tie.spec
-    Inv-loop μ-loop (λ c κs. search needs) add-end sub-i loop-holds (λ c κs. search needs)
+    Inv-loop μ-loop (λ c κs. search needs) (λ c. omega (arith, c .width .ensures, c .before .before .pre))
+    (λ c. omega (arith, c .width .ensures, some-digit (c .before .before .args .n))) loop-holds (λ c κs. search needs)
     (λ c. c .before .before .loop .inv .room) sub-i-2 (λ c. omega arith) loop-again (λ c κs. search needs)
     (λ c. c .before .before .loop .inv .room) same-length returns)

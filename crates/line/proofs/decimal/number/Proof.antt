@@ -1,13 +1,6 @@
 -- Half of the unsigned number is the size of one from 0 on, and one less than the size of one below.
-use mathlib.Core.Path.{ap, _∙_}
-use mathlib.Core.List.{_∷_}
-use Prim.Native.Nat.{ℕ, _+_, _/_, _^_, _<_, _≤_}
-use borrow.Author.Needs.{needs}
-use native.Mathlib.Omega.{arith}
-use mir.Facts.{toZ-ofZ, sfits-lit}
-use lib.IntN.{pos}
-use lib.ListN.{length, length-set}
-use denote.Ref.{now}
+use Rattle.line.proofs.Common.{ap, _∙_, _∷_, ℕ, _+_, _/_, _^_, _<_, _≤_, arith, needs, now, pos, length, length-set, toZ-ofZ}
+use mir.Facts.{sfits-lit}
 use Rattle.numbers.specs.inside.SignedLocals.{lt←}
 use Rattle.line.specs.law.Decimal.{decimal}
 use Rattle.line.specs.claims.Decimal.{few-digits}

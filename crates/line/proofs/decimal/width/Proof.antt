@@ -1,9 +1,5 @@
 -- The digits that are counted and those of `rest` but the last are those of n.
-use mathlib.Core.Path.{_≡_, ap}
-use Prim.Native.Nat.{_+_, _^_, _<_}
-use borrow.Author.Needs.{needs}
-use native.Mathlib.Omega.{arith}
-use lib.ListN.{length}
+use Rattle.line.proofs.Common.{_≡_, ap, _+_, _^_, _<_, arith, needs, length}
 use Rattle.line.specs.law.Decimal.{decimal}
 use Rattle.line.specs.inside.DigitLaws.{one-digit}
 use Rattle.line.specs.claims.Decimal.{few-digits}

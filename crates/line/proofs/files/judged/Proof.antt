@@ -1,6 +1,5 @@
 -- What is told of the bytes fits, and is told as `bytesJudged` says.
-use native.Mathlib.Omega.{arith}
-use borrow.Author.Needs.{needs}
+use Rattle.line.proofs.Common.{arith, needs}
 use Rattle.plan.specs.inside.VerdictSizes.{bytes-fit}
 use Rattle.line.proofs.files.judged.Statement.{statement}
 use Rattle.line.proofs.files.judged.Tie as tie

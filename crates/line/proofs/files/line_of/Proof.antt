@@ -1,9 +1,5 @@
--- By the code's two tests; what is put at the front of the line is its overlay.
-use mathlib.Core.Path.{refl, sym, _∙_}
-use borrow.Author.Needs.{needs}
-use borrow.Author.Tests.{le-leb, lt-leb}
-use native.Mathlib.Omega.{arith}
-use denote.Ref.{now}
+-- The line is long enough and the files are not too long, or not; what is put at the front of the line is its overlay.
+use Rattle.line.proofs.Common.{refl, sym, _∙_, arith, needs, le-leb, lt-leb, now}
 use Rattle.line.specs.law.Files.{tooLong, filesLine}
 use Rattle.line.specs.inside.Put.{put-front, put-overlay, put-counts}
 use Rattle.line.proofs.files.line_of.Statement.{statement}

@@ -1,5 +1,5 @@
--- By the code's test of the first file.
-use borrow.Author.Tests.{le-leb, lt-leb}
+-- The first file is not too long, or it is; the second decides only in the first case.
+use Rattle.line.proofs.Common.{le-leb, lt-leb}
 use Rattle.line.proofs.files.within.Statement.{statement}
 use Rattle.line.proofs.files.within.Tie as tie
 

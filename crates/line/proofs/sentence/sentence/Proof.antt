@@ -1,9 +1,5 @@
 -- The word, the numbers and the end of the line, one after the other.
-use mathlib.Core.Path.{_∙_}
-use borrow.Author.Needs.{needs}
-use native.Mathlib.Omega.{arith}
-use lib.ListN.{length-set}
-use denote.Ref.{now}
+use Rattle.line.proofs.Common.{_∙_, arith, needs, now, length-set}
 use Rattle.line.specs.law.Line.{sentenceOf}
 use Rattle.line.specs.inside.Put.{put-front, put-both, put-one}
 use Rattle.line.proofs.sentence.sentence.Statement.{statement}

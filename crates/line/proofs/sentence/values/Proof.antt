@@ -1,10 +1,5 @@
 -- The first `i` numbers stand in the line, with a space in front of each.
-use Prim.Native.Nat.{_-_}
-use borrow.Author.Needs.{needs}
-use native.Mathlib.Omega.{arith}
-use lib.ListN.{length, length-set}
-use mir.Facts.{toZ-ofZ}
-use denote.Ref.{now}
+use Rattle.line.proofs.Common.{_+_, _-_, _≤_, arith, needs, now, length, length-set, toZ-ofZ}
 use Rattle.numbers.specs.inside.SignedLocals.{element}
 use Rattle.line.proofs.Spaced.{Spacing, spacing, space-room, space-turn, space-end}
 use Rattle.line.proofs.sentence.values.Statement.{statement}
@@ -19,18 +14,8 @@ abbrev μ-loop : tie.MeasureT-loop
 loop-holds : tie.Need-loop-holds Inv-loop μ-loop
 loop-holds c = spacing _ _ _ (c .before .pre)
 
-slice-write-line : tie.Need-slice-write-line Inv-loop μ-loop
-slice-write-line c = omega (arith, space-room (c .before .loop .inv) (c .loop-test .taken) (c .before .before .before .pre))
-
-add-number : tie.Need-add-number Inv-loop μ-loop
-add-number c =
-    let l = c .before .before in
-    omega (arith, space-room (l .before .loop .inv) (l .loop-test .taken) (l .before .before .before .pre))
-
-number-requires : tie.Need-number-requires Inv-loop μ-loop
-number-requires c κs =
-    let l = c .before .before in
-    simp length-set (omega (arith, space-room (l .before .loop .inv) (l .loop-test .taken) (l .before .before .before .pre)))
+room : (c : tie.In-loop Inv-loop μ-loop) → c .before .loop .at + 21 ≤ length (c .before .loop .line)
+room c = space-room (c .before .loop .inv) (c .loop-test .taken) (c .before .before .before .pre)
 
 loop-again : tie.Need-loop-again Inv-loop μ-loop
 loop-again c =
@@ -47,5 +32,6 @@ returns c =
 
 pub values-spec : {M : Type 1} → statement M
 values-spec = tie.close (tie.spec
-    Inv-loop μ-loop loop-holds slice-write-line (λ c. search needs) (λ c. search needs) add-number number-requires
-    (λ c. omega arith) (λ c. omega arith) loop-again (λ c. c .before .loop .inv .whole) returns)
+    Inv-loop μ-loop loop-holds (λ c. omega (arith, room c)) (λ c. search needs) (λ c. search needs) (λ c. omega (arith, room (c .before .before)))
+    (λ c κs. simp length-set (omega (arith, room (c .before .before)))) (λ c. omega arith) (λ c. omega arith) loop-again
+    (λ c. c .before .loop .inv .whole) returns)

@@ -1,7 +1,5 @@
 -- The six totals fit, so they are written as they are.
-use mir.Facts.{toZ-pos}
-use mir.Syntax.{w64}
-use borrow.Author.Needs.{needs}
+use Rattle.line.proofs.Common.{needs, toZ-pos, w64}
 use Rattle.numbers.specs.inside.SignedLocals.{kept}
 use Rattle.line.proofs.verdict.accepted.Statement.{statement}
 use Rattle.line.proofs.verdict.accepted.Tie as tie

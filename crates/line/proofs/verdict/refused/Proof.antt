@@ -1,7 +1,5 @@
 -- The three numbers fit, so they are written as they are; the first is not 0, so that they are a refusal.
-use mir.Facts.{toZ-pos}
-use mir.Syntax.{w64}
-use borrow.Author.Needs.{needs}
+use Rattle.line.proofs.Common.{needs, toZ-pos, w64}
 use Rattle.line.specs.inside.LineLaws.{refusal-line}
 use Rattle.line.proofs.verdict.refused.Statement.{statement}
 use Rattle.line.proofs.verdict.refused.Tie as tie

@@ -1,8 +1,5 @@
 -- Each case of the verdict has its own line.
-use mathlib.Core.Path.{_≡_, sym, subst}
-use Prim.Native.Nat.{ℕ, _^_}
-use mathlib.Core.List.{List}
-use borrow.Author.Needs.{needs}
+use Rattle.line.proofs.Common.{_≡_, sym, subst, List, ℕ, _^_, needs}
 use Rattle.plan.specs.law.Judged.{verdictTold}
 use Rattle.plan.specs.inside.VerdictSizes.{Fit}
 use Rattle.plan.specs.declared.verdict.Verdict.{Verdict}
