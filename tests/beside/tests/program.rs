@@ -89,7 +89,7 @@ fn a_missing_file_counts_as_empty() {
 fn totals_in_decimal() {
     let known = EDGES.iter().find(|(name, _)| *name == "totals");
     let (_, known) = known.expect("the edge of the totals");
-    let edge = known(&mut Rng::new(0), &Pair::default());
+    let [edge, _] = known(&mut Rng::new(0), &Pair::default());
     let (case, plan) = (encode(&edge.case).bytes, encode(&edge.plan).bytes);
     let wanted = "accepted 23 10 1123 216 36000 36098";
     prints([Some(&case), Some(&plan)], wanted);

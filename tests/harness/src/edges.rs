@@ -26,12 +26,17 @@ pub fn wrong(beside: &mut Beside, seeds: u64) -> Vec<Wrong> {
         wrong.extend(differences(beside, name, seeds, ask));
     }
     for &(name, edge) in EDGES {
-        let ask =
-            |beside: &mut Beside, rng: &mut Rng, pair: &Pair| plan(beside, &edge(rng, pair), name);
+        let ask = |beside: &mut Beside, rng: &mut Rng, pair: &Pair| {
+            let mut both = edge(rng, pair).into_iter();
+            both.try_for_each(|edge| plan(beside, &edge, name))
+        };
         wrong.extend(differences(beside, name, seeds, ask));
     }
     for &(name, edge) in LEDGER_EDGES {
-        let ask = |beside: &mut Beside, _: &mut Rng, _: &Pair| ledger(beside, &edge(), name);
+        let ask = |beside: &mut Beside, _: &mut Rng, _: &Pair| {
+            let mut both = edge().into_iter();
+            both.try_for_each(|edge| ledger(beside, &edge, name))
+        };
         wrong.extend(differences(beside, name, seeds, ask));
     }
     wrong

@@ -2,7 +2,7 @@
 
 use harness::{Beside, Judge, edges};
 
-const SEEDS: u64 = 200;
+const SEEDS: u64 = 48;
 
 #[test]
 fn every_edge_is_answered_as_worked_out() {

@@ -6,7 +6,8 @@ use crate::model::{
 };
 
 use super::super::refused;
-use super::{Edge, Expect};
+use super::turned::{turned, turned_expect};
+use super::{Both, Edge, Expect};
 
 pub struct Branch {
     pub pair: Pair,
@@ -125,18 +126,24 @@ impl Branch {
         self.pair.case.stations.len() - 1
     }
 
-    pub fn accepted(&self) -> Edge {
-        Edge {
-            case: self.pair.case.list(),
-            plan: self.pair.plan.list(),
-            expect: Expect::Accepted,
-        }
+    /// The edge and its turned form.
+    pub fn answered(&self, expect: Expect) -> Both {
+        let edge = |pair: &Pair, expect: Expect| Edge {
+            case: pair.case.list(),
+            plan: pair.plan.list(),
+            expect,
+        };
+        [
+            edge(&self.pair, expect),
+            edge(&turned(&self.pair), turned_expect(expect, &self.pair)),
+        ]
     }
 
-    pub fn refused(&self, number: u8, step: usize, place: usize) -> Edge {
-        Edge {
-            expect: Expect::Refused(refused(number, step, place)),
-            ..self.accepted()
-        }
+    pub fn accepted(&self) -> Both {
+        self.answered(Expect::Accepted)
+    }
+
+    pub fn refused(&self, number: u8, step: usize, place: usize) -> Both {
+        self.answered(Expect::Refused(refused(number, step, place)))
     }
 }

@@ -19,7 +19,8 @@
 //! | s+, s- | | 1 | 2 | 4 + 3 | 10 |
 
 use super::super::refused;
-use super::{Branch, Edge, Expect, LedgerEdge};
+use super::turned::turned_set;
+use super::{Both, Branch, Edge, Expect, LedgerEdge};
 use crate::model::{
     ACTIVE, C, INNER, NodeRow, PIPE, Pair, REGULATOR, SHORTCUT, SINK, SOURCE, VALVE, WEIGHT,
 };
@@ -46,7 +47,7 @@ const PIPES: [usize; 2] = [2, 5];
 const THE_REGULATOR: usize = 3;
 const THE_VALVE: usize = 4;
 
-fn known() -> Pair {
+fn known() -> Branch {
     let mut branch = Branch::alone(&[10, 30, 70], 100);
     branch.pair.case.pressure_tolerance = 1_000;
     let kinds = [SOURCE, INNER, SINK, INNER, INNER, SOURCE, SINK];
@@ -65,7 +66,7 @@ fn known() -> Pair {
     }
     rows(&mut branch);
     choices(&mut branch);
-    branch.pair
+    branch
 }
 
 fn rows(branch: &mut Branch) {
@@ -115,101 +116,101 @@ fn choices(branch: &mut Branch) {
     }
 }
 
-pub fn edge_totals(_: &mut Rng, _: &Pair) -> Edge {
-    let pair = known();
-    Edge {
-        case: pair.case.list(),
-        plan: pair.plan.list(),
-        expect: Expect::Totals([23, 10, 1_123, 216, 36_000, 36_098]),
-    }
+pub fn edge_totals(_: &mut Rng, _: &Pair) -> Both {
+    known().answered(Expect::Totals([23, 10, 1_123, 216, 36_000, 36_098]))
 }
 
-/// Every node.
-const ALL: i64 = 127;
+const NODES: usize = 7;
 
-fn figures(set: i64, s: i64, t: i64, figures: [i64; 6]) -> LedgerEdge {
-    let pair = known();
-    LedgerEdge {
-        case: pair.case.list(),
-        plan: pair.plan.list(),
+/// Every node.
+const ALL: i64 = (1 << NODES) - 1;
+
+fn drawn(set: i64, s: i64, t: i64, expect: Expect) -> [LedgerEdge; 2] {
+    let sets = [set, turned_set(set, NODES)];
+    let edge = |(edge, set): (Edge, i64)| LedgerEdge {
+        case: edge.case,
+        plan: edge.plan,
         set,
         s,
         t,
-        expect: Expect::Totals(figures),
-    }
+        expect,
+    };
+    let [one, other] = known().accepted();
+    [(one, sets[0]), (other, sets[1])].map(edge)
 }
 
-fn refused_by(number: u8, place: usize, set: i64, s: i64, t: i64) -> LedgerEdge {
-    LedgerEdge {
-        expect: Expect::Refused(refused(number, 0, place)),
-        ..figures(set, s, t, [0; 6])
-    }
+fn figures(set: i64, s: i64, t: i64, figures: [i64; 6]) -> [LedgerEdge; 2] {
+    drawn(set, s, t, Expect::Totals(figures))
 }
 
-pub fn edge_ledger_all() -> LedgerEdge {
+fn refused_by(number: u8, place: usize, set: i64, s: i64, t: i64) -> [LedgerEdge; 2] {
+    drawn(set, s, t, Expect::Refused(refused(number, 0, place)))
+}
+
+pub fn edge_ledger_all() -> [LedgerEdge; 2] {
     figures(ALL, 0, 3, [7, 2, 36_000, 36_098, 220, 216])
 }
 
-pub fn edge_ledger_no_step() -> LedgerEdge {
+pub fn edge_ledger_no_step() -> [LedgerEdge; 2] {
     figures(ALL, 2, 2, [7, 2, 36_043, 36_043, 0, 0])
 }
 
-pub fn edge_ledger_first_step() -> LedgerEdge {
+pub fn edge_ledger_first_step() -> [LedgerEdge; 2] {
     figures(ALL, 0, 1, [7, 2, 36_000, 36_007, 20, 33])
 }
 
-pub fn edge_ledger_middle_step() -> LedgerEdge {
+pub fn edge_ledger_middle_step() -> [LedgerEdge; 2] {
     figures(ALL, 1, 2, [7, 2, 36_007, 36_043, 40, 48])
 }
 
-pub fn edge_ledger_last_step() -> LedgerEdge {
+pub fn edge_ledger_last_step() -> [LedgerEdge; 2] {
     figures(ALL, 2, 3, [7, 2, 36_043, 36_098, 160, 135])
 }
 
 /// The edge pipe begins in the set.
-pub fn edge_ledger_pipe_out() -> LedgerEdge {
+pub fn edge_ledger_pipe_out() -> [LedgerEdge; 2] {
     figures(0b1, 0, 3, [1, 0, 0, 0, 40, 40])
 }
 
 /// The edge pipe ends in the set.
-pub fn edge_ledger_pipe_in() -> LedgerEdge {
+pub fn edge_ledger_pipe_in() -> [LedgerEdge; 2] {
     figures(0b100, 0, 3, [1, 0, 0, 0, -20, 20])
 }
 
 /// A pipe inside and a pipe that leaves, and the other way round.
-pub fn edge_ledger_first_pipe() -> LedgerEdge {
+pub fn edge_ledger_first_pipe() -> [LedgerEdge; 2] {
     figures(0b11, 0, 3, [2, 1, 14_000, 14_021, 120, 99])
 }
 
-pub fn edge_ledger_last_pipe() -> LedgerEdge {
+pub fn edge_ledger_last_pipe() -> [LedgerEdge; 2] {
     figures(0b110, 0, 3, [2, 1, 22_000, 22_077, 40, 57])
 }
 
 /// The regulator ends in the set, and the valve, on which gas flows backward, begins in it.
-pub fn edge_ledger_valve() -> LedgerEdge {
+pub fn edge_ledger_valve() -> [LedgerEdge; 2] {
     figures(0b100_0000, 0, 3, [1, 0, 0, 0, 70, 70])
 }
 
-pub fn edge_40_past_the_last_node() -> LedgerEdge {
+pub fn edge_40_past_the_last_node() -> [LedgerEdge; 2] {
     refused_by(40, 7, 0b1_1000_0001, 0, 3)
 }
 
-pub fn edge_40_last_bit() -> LedgerEdge {
+pub fn edge_40_last_bit() -> [LedgerEdge; 2] {
     refused_by(40, 59, 1 << 59, 3, 0)
 }
 
-pub fn edge_40_past_the_last_bit() -> LedgerEdge {
+pub fn edge_40_past_the_last_bit() -> [LedgerEdge; 2] {
     refused_by(40, 0, 1 << 60, 0, 3)
 }
 
-pub fn edge_41_below_0() -> LedgerEdge {
+pub fn edge_41_below_0() -> [LedgerEdge; 2] {
     refused_by(41, 0, ALL, -1, 3)
 }
 
-pub fn edge_41_turned() -> LedgerEdge {
+pub fn edge_41_turned() -> [LedgerEdge; 2] {
     refused_by(41, 0, ALL, 2, 1)
 }
 
-pub fn edge_41_past_the_last_step() -> LedgerEdge {
+pub fn edge_41_past_the_last_step() -> [LedgerEdge; 2] {
     refused_by(41, 0, ALL, 3, 4)
 }

@@ -3,7 +3,7 @@
 //! 60 nodes, 120 arcs, 8 stations and 48 steps of 1 s. Station s has the nodes 2s and 2s + 1, with 13 shortcuts between them, and the last station has the last arc
 //! too. The pipe, arc 118, goes from node 58 to node 59. E is 0.
 
-use super::{Branch, Edge, Expect};
+use super::{Both, Branch, Expect};
 use crate::model::{C, INNER, MOST_PRESSURE, PIPE, Pair, SHORTCUT, SINK, SOURCE, VALVE, WEIGHT};
 use crate::rng::Rng;
 
@@ -59,34 +59,31 @@ fn last_step(branch: &mut Branch) {
     (row.direction, row.state) = (7, 15);
 }
 
-pub fn edge_totals_largest(_: &mut Rng, _: &Pair) -> Edge {
+pub fn edge_totals_largest(_: &mut Rng, _: &Pair) -> Both {
     let gas = 100_000_000 * 2 * MOST_PRESSURE;
-    Edge {
-        expect: Expect::Totals([0, 0, 1_000_320, 0, gas, gas]),
-        ..largest().accepted()
-    }
+    largest().answered(Expect::Totals([0, 0, 1_000_320, 0, gas, gas]))
 }
 
-pub fn edge_14_node_59(_: &mut Rng, _: &Pair) -> Edge {
+pub fn edge_14_node_59(_: &mut Rng, _: &Pair) -> Both {
     let mut branch = largest();
     branch.pair.case.arcs[0].to = LAST_NODE;
     branch.pair.case.arcs[LAST_ARC].to = LAST_NODE;
     branch.refused(14, 0, LAST_NODE)
 }
 
-pub fn edge_21_node_59(_: &mut Rng, _: &Pair) -> Edge {
+pub fn edge_21_node_59(_: &mut Rng, _: &Pair) -> Both {
     let mut branch = largest();
     branch.pair.node_mut(STEPS, LAST_NODE).p += 1;
     branch.refused(21, STEPS, LAST_NODE)
 }
 
-pub fn edge_24_arc_119(_: &mut Rng, _: &Pair) -> Edge {
+pub fn edge_24_arc_119(_: &mut Rng, _: &Pair) -> Both {
     let mut branch = largest();
     branch.pair.arc_mut(STEPS, LAST_ARC).setting = 3;
     branch.refused(24, STEPS, LAST_ARC)
 }
 
-pub fn edge_30_station_7(_: &mut Rng, _: &Pair) -> Edge {
+pub fn edge_30_station_7(_: &mut Rng, _: &Pair) -> Both {
     let mut branch = largest();
     // The last state's off set has the last arc, the station's 14th.
     branch.pair.case.stations[LAST_STATION].states[15][2] = 1 << OWN_ARCS;
@@ -94,14 +91,14 @@ pub fn edge_30_station_7(_: &mut Rng, _: &Pair) -> Edge {
 }
 
 /// The pipe's to end is a fence node, in neither set, to which gas comes from the station.
-pub fn edge_32_node_59(_: &mut Rng, _: &Pair) -> Edge {
+pub fn edge_32_node_59(_: &mut Rng, _: &Pair) -> Both {
     let mut branch = largest();
     branch.pair.case.arcs[LAST_ARC].to = LAST_NODE;
     branch.pair.arc_mut(STEPS, LAST_ARC).a = 1;
     branch.refused(32, STEPS, LAST_STATION)
 }
 
-pub fn edge_33_node_59(_: &mut Rng, _: &Pair) -> Edge {
+pub fn edge_33_node_59(_: &mut Rng, _: &Pair) -> Both {
     let mut branch = largest();
     branch.pair.node_mut(STEPS, LAST_NODE).d = -2;
     branch.pair.case.nodes[LAST_NODE].demands[STEPS - 1] = -2;

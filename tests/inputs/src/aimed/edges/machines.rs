@@ -1,6 +1,6 @@
 //! Edges of 26 and 27 at arcs that compress, forward and backward.
 
-use super::{Branch, Edge};
+use super::{Both, Branch};
 use crate::model::{
     ArcRow, COMBINED, COMPRESSOR, MACHINES, MOST, MOST_PRESSURE, OUT_BOUND, Pair, SINK, SOURCE,
 };
@@ -70,19 +70,19 @@ impl Compression {
         }
     }
 
-    fn refused(&self, number: u8, step: usize) -> Edge {
+    fn refused(&self, number: u8, step: usize) -> Both {
         self.branch.refused(number, step, self.arc)
     }
 
     /// 1 mbar more at the out end, in the last step.
-    fn above(mut self) -> Edge {
+    fn above(mut self) -> Both {
         let steps = self.branch.steps();
         self.branch.pair.node_mut(steps, self.out_end).p = self.out + 1;
         self.refused(26, steps)
     }
 
     /// p0 of the in end is 1 mbar lower.
-    fn with_lower_p0(mut self) -> Edge {
+    fn with_lower_p0(mut self) -> Both {
         self.branch.pair.case.nodes[self.in_end].p0 -= 1;
         self.refused(26, 1)
     }
@@ -93,7 +93,7 @@ impl Compression {
     }
 
     /// 1 g/s more, in the last step.
-    fn with_more_flow(mut self) -> Edge {
+    fn with_more_flow(mut self) -> Both {
         let (steps, flow) = (self.branch.steps(), self.flow + 1);
         let row = self.branch.pair.arc_mut(steps, self.arc);
         *(if self.backward {
@@ -105,50 +105,50 @@ impl Compression {
     }
 }
 
-pub fn edge_26_ratio(rng: &mut Rng, pair: &Pair) -> Edge {
+pub fn edge_26_ratio(rng: &mut Rng, pair: &Pair) -> Both {
     Compression::new(rng, pair, false).branch.accepted()
 }
 
-pub fn edge_26_ratio_backward(rng: &mut Rng, pair: &Pair) -> Edge {
+pub fn edge_26_ratio_backward(rng: &mut Rng, pair: &Pair) -> Both {
     Compression::new(rng, pair, true).branch.accepted()
 }
 
-pub fn edge_26_past_the_ratio(rng: &mut Rng, pair: &Pair) -> Edge {
+pub fn edge_26_past_the_ratio(rng: &mut Rng, pair: &Pair) -> Both {
     Compression::new(rng, pair, false).above()
 }
 
-pub fn edge_26_past_the_ratio_backward(rng: &mut Rng, pair: &Pair) -> Edge {
+pub fn edge_26_past_the_ratio_backward(rng: &mut Rng, pair: &Pair) -> Both {
     Compression::new(rng, pair, true).above()
 }
 
-pub fn edge_26_p0_too_low(rng: &mut Rng, pair: &Pair) -> Edge {
+pub fn edge_26_p0_too_low(rng: &mut Rng, pair: &Pair) -> Both {
     Compression::new(rng, pair, false).with_lower_p0()
 }
 
-pub fn edge_26_p0_too_low_backward(rng: &mut Rng, pair: &Pair) -> Edge {
+pub fn edge_26_p0_too_low_backward(rng: &mut Rng, pair: &Pair) -> Both {
     Compression::new(rng, pair, true).with_lower_p0()
 }
 
-pub fn edge_26_at_the_out_bound(rng: &mut Rng, pair: &Pair) -> Edge {
+pub fn edge_26_at_the_out_bound(rng: &mut Rng, pair: &Pair) -> Both {
     let at = Compression::new(rng, pair, true);
     let out = at.out;
     at.with_out_bound(out).branch.accepted()
 }
 
-pub fn edge_26_past_the_out_bound(rng: &mut Rng, pair: &Pair) -> Edge {
+pub fn edge_26_past_the_out_bound(rng: &mut Rng, pair: &Pair) -> Both {
     let at = Compression::new(rng, pair, false);
     let out = at.out;
     at.with_out_bound(out - 1).refused(26, 1)
 }
 
-pub fn edge_26_past_the_out_bound_backward(rng: &mut Rng, pair: &Pair) -> Edge {
+pub fn edge_26_past_the_out_bound_backward(rng: &mut Rng, pair: &Pair) -> Both {
     let at = Compression::new(rng, pair, true);
     let out = at.out;
     at.with_out_bound(out - 1).refused(26, 1)
 }
 
 /// An out bound of 0 lets every pressure through that a node may have.
-pub fn edge_26_out_bound_0(rng: &mut Rng, pair: &Pair) -> Edge {
+pub fn edge_26_out_bound_0(rng: &mut Rng, pair: &Pair) -> Both {
     let Compression {
         mut branch,
         in_end,
@@ -171,33 +171,33 @@ fn level(rng: &mut Rng, pair: &Pair) -> Compression {
     level
 }
 
-pub fn edge_26_compressing_level(rng: &mut Rng, pair: &Pair) -> Edge {
+pub fn edge_26_compressing_level(rng: &mut Rng, pair: &Pair) -> Both {
     level(rng, pair).branch.accepted()
 }
 
-pub fn edge_26_compressing_1_down(rng: &mut Rng, pair: &Pair) -> Edge {
+pub fn edge_26_compressing_1_down(rng: &mut Rng, pair: &Pair) -> Both {
     let mut level = level(rng, pair);
     let steps = level.branch.steps();
     level.branch.pair.node_mut(steps, level.in_end).p += 1;
     level.refused(26, steps)
 }
 
-pub fn edge_27_most_passed(rng: &mut Rng, pair: &Pair) -> Edge {
+pub fn edge_27_most_passed(rng: &mut Rng, pair: &Pair) -> Both {
     let mut over = Compression::new(rng, pair, false);
     over.branch.pair.case.arcs[over.arc].more[MOST] = 1;
     over.refused(27, 1)
 }
 
-pub fn edge_27_flow_passed(rng: &mut Rng, pair: &Pair) -> Edge {
+pub fn edge_27_flow_passed(rng: &mut Rng, pair: &Pair) -> Both {
     Compression::new(rng, pair, false).with_more_flow()
 }
 
-pub fn edge_27_flow_passed_backward(rng: &mut Rng, pair: &Pair) -> Edge {
+pub fn edge_27_flow_passed_backward(rng: &mut Rng, pair: &Pair) -> Both {
     Compression::new(rng, pair, true).with_more_flow()
 }
 
 /// A combined arc that regulates, in the last step, and has a machine.
-pub fn edge_27_machine_of_an_arc_that_regulates(rng: &mut Rng, pair: &Pair) -> Edge {
+pub fn edge_27_machine_of_an_arc_that_regulates(rng: &mut Rng, pair: &Pair) -> Both {
     let mut idle = level(rng, pair);
     let steps = idle.branch.steps();
     for step in 1..=steps {

@@ -1,6 +1,6 @@
 //! Edges of 28 and 29: at the last pipe, E or H away and the least past it.
 
-use super::{Branch, Edge};
+use super::{Both, Branch};
 use crate::model::{C, F, G, H, Pair, SINK, SOURCE};
 use crate::model::{MOST_MASS_TOLERANCE, PIPE};
 use crate::rng::Rng;
@@ -21,20 +21,20 @@ fn moving(pair: &Pair, by: i64, past: i64) -> (Branch, usize) {
     (branch, arc)
 }
 
-pub fn edge_28_at_e(_: &mut Rng, pair: &Pair) -> Edge {
+pub fn edge_28_at_e(_: &mut Rng, pair: &Pair) -> Both {
     moving(pair, 1, 0).0.accepted()
 }
 
-pub fn edge_28_at_minus_e(_: &mut Rng, pair: &Pair) -> Edge {
+pub fn edge_28_at_minus_e(_: &mut Rng, pair: &Pair) -> Both {
     moving(pair, -1, 0).0.accepted()
 }
 
-pub fn edge_28_past_e(_: &mut Rng, pair: &Pair) -> Edge {
+pub fn edge_28_past_e(_: &mut Rng, pair: &Pair) -> Both {
     let (branch, arc) = moving(pair, -1, 1);
     branch.refused(28, branch.steps(), arc)
 }
 
-pub fn edge_28_past_minus_e(_: &mut Rng, pair: &Pair) -> Edge {
+pub fn edge_28_past_minus_e(_: &mut Rng, pair: &Pair) -> Both {
     let (branch, arc) = moving(pair, 1, 1);
     branch.refused(28, branch.steps(), arc)
 }
@@ -55,32 +55,32 @@ fn steep(pair: &Pair, sign: i64) -> (Branch, usize) {
 }
 
 /// The left side of 29 is past 1,000,000 × H by one field of the pipe alone.
-fn steeper(pair: &Pair, sign: i64, field: usize, value: i64) -> Edge {
+fn steeper(pair: &Pair, sign: i64, field: usize, value: i64) -> Both {
     let (mut branch, arc) = steep(pair, sign);
     branch.pair.case.arcs[arc].more[field] = value;
     branch.refused(29, 1, arc)
 }
 
-pub fn edge_29_at_h(_: &mut Rng, pair: &Pair) -> Edge {
+pub fn edge_29_at_h(_: &mut Rng, pair: &Pair) -> Both {
     steep(pair, -1).0.accepted()
 }
 
-pub fn edge_29_at_minus_h(_: &mut Rng, pair: &Pair) -> Edge {
+pub fn edge_29_at_minus_h(_: &mut Rng, pair: &Pair) -> Both {
     steep(pair, 1).0.accepted()
 }
 
-pub fn edge_29_past_h_by_f(_: &mut Rng, pair: &Pair) -> Edge {
+pub fn edge_29_past_h_by_f(_: &mut Rng, pair: &Pair) -> Both {
     steeper(pair, -1, F, 1)
 }
 
-pub fn edge_29_past_h_by_g(_: &mut Rng, pair: &Pair) -> Edge {
+pub fn edge_29_past_h_by_g(_: &mut Rng, pair: &Pair) -> Both {
     steeper(pair, -1, G, 1)
 }
 
-pub fn edge_29_past_h_by_slope(_: &mut Rng, pair: &Pair) -> Edge {
+pub fn edge_29_past_h_by_slope(_: &mut Rng, pair: &Pair) -> Both {
     steeper(pair, -1, H, 1)
 }
 
-pub fn edge_29_past_minus_h_by_slope(_: &mut Rng, pair: &Pair) -> Edge {
+pub fn edge_29_past_minus_h_by_slope(_: &mut Rng, pair: &Pair) -> Both {
     steeper(pair, 1, H, -1)
 }

@@ -2,17 +2,17 @@
 
 use super::super::bit;
 use super::case::crowd;
-use super::{Branch, Edge};
+use super::{Both, Branch};
 use crate::model::{
     ACTIVE, ArcRow, COMPRESSOR, ENTRY, EXIT, MACHINES, MOST, OFF, ON, PIPE, Pair, SHORTCUT, SINK,
-    SOURCE,
+    SOURCE, StationRow,
 };
 use crate::rng::Rng;
 
 const P: i64 = 50_000;
 
 /// 30 shortcuts, of which a set of the state names the last: it obeys but in the last step.
-fn last_arc_disobeys(pair: &Pair, set: usize, obeys: i64) -> Edge {
+fn last_arc_disobeys(pair: &Pair, set: usize, obeys: i64) -> Both {
     let mut branch = crowd(pair, 30);
     let (station, arc, steps) = (branch.last_station(), branch.last_arc(), branch.steps());
     branch.pair.case.stations[station].states[0][set] = bit(29);
@@ -24,11 +24,11 @@ fn last_arc_disobeys(pair: &Pair, set: usize, obeys: i64) -> Edge {
     branch.refused(30, steps, station)
 }
 
-pub fn edge_30_last_arc_on(_: &mut Rng, pair: &Pair) -> Edge {
+pub fn edge_30_last_arc_on(_: &mut Rng, pair: &Pair) -> Both {
     last_arc_disobeys(pair, ON, 1)
 }
 
-pub fn edge_30_last_arc_off(_: &mut Rng, pair: &Pair) -> Edge {
+pub fn edge_30_last_arc_off(_: &mut Rng, pair: &Pair) -> Both {
     last_arc_disobeys(pair, OFF, 0)
 }
 
@@ -53,25 +53,34 @@ fn choices(pair: &Pair) -> (Branch, usize) {
     (branch, station)
 }
 
-pub fn edge_30_last_choice(_: &mut Rng, pair: &Pair) -> Edge {
+pub fn edge_30_last_choice(_: &mut Rng, pair: &Pair) -> Both {
     choices(pair).0.accepted()
 }
 
-pub fn edge_30_past_the_last_direction(_: &mut Rng, pair: &Pair) -> Edge {
+fn chosen(pair: &Pair, change: impl Fn(&mut StationRow)) -> Both {
     let (mut branch, station) = choices(pair);
     let steps = branch.steps();
-    branch.pair.station_mut(steps, station).direction = 4;
+    change(branch.pair.station_mut(steps, station));
     branch.refused(30, steps, station)
 }
 
-pub fn edge_30_past_the_last_state(_: &mut Rng, pair: &Pair) -> Edge {
-    let (mut branch, station) = choices(pair);
-    let steps = branch.steps();
-    branch.pair.station_mut(steps, station).state = 16;
-    branch.refused(30, steps, station)
+pub fn edge_30_direction_below_0(_: &mut Rng, pair: &Pair) -> Both {
+    chosen(pair, |row| row.direction = -1)
 }
 
-pub fn edge_30_last_direction_unsupported(_: &mut Rng, pair: &Pair) -> Edge {
+pub fn edge_30_state_below_0(_: &mut Rng, pair: &Pair) -> Both {
+    chosen(pair, |row| (row.direction, row.state) = (0, -1))
+}
+
+pub fn edge_30_past_the_last_direction(_: &mut Rng, pair: &Pair) -> Both {
+    chosen(pair, |row| row.direction = 4)
+}
+
+pub fn edge_30_past_the_last_state(_: &mut Rng, pair: &Pair) -> Both {
+    chosen(pair, |row| row.state = 16)
+}
+
+pub fn edge_30_last_direction_unsupported(_: &mut Rng, pair: &Pair) -> Both {
     let (mut branch, station) = choices(pair);
     let steps = branch.steps();
     branch.pair.case.stations[station].states[15][0] = bit(3) - 1;
@@ -108,17 +117,17 @@ fn running(a: i64, b: i64, setting: i64, machines: i64) -> ArcRow {
     }
 }
 
-pub fn edge_31_one_each(_: &mut Rng, pair: &Pair) -> Edge {
+pub fn edge_31_one_each(_: &mut Rng, pair: &Pair) -> Both {
     two_compressors(pair, 1).0.accepted()
 }
 
 /// Machine 0 of one station is not machine 0 of the other.
-pub fn edge_31_two_stations(_: &mut Rng, pair: &Pair) -> Edge {
+pub fn edge_31_two_stations(_: &mut Rng, pair: &Pair) -> Both {
     two_compressors(pair, 2).0.accepted()
 }
 
 /// The last arc takes the first machine too, in the last step.
-pub fn edge_31_last_arc(_: &mut Rng, pair: &Pair) -> Edge {
+pub fn edge_31_last_arc(_: &mut Rng, pair: &Pair) -> Both {
     let (mut branch, [_, last]) = two_compressors(pair, 1);
     let steps = branch.steps();
     branch.pair.arc_mut(steps, last).machines = 1 | bit(11);
@@ -126,7 +135,7 @@ pub fn edge_31_last_arc(_: &mut Rng, pair: &Pair) -> Edge {
 }
 
 /// The arc before it takes the last machine too.
-pub fn edge_31_last_machine(_: &mut Rng, pair: &Pair) -> Edge {
+pub fn edge_31_last_machine(_: &mut Rng, pair: &Pair) -> Both {
     let (mut branch, [first, _]) = two_compressors(pair, 1);
     let steps = branch.steps();
     branch.pair.arc_mut(steps, first).machines = 1 | bit(11);
@@ -195,47 +204,47 @@ fn through(branch: &mut Branch, shortcuts: &[usize], net: i64) {
     }
 }
 
-fn passed(pair: &Pair, part: Part, net: i64) -> Edge {
+fn passed(pair: &Pair, part: Part, net: i64) -> Both {
     fence(pair, part, net).accepted()
 }
 
-fn failed(pair: &Pair, part: Part, net: i64) -> Edge {
+fn failed(pair: &Pair, part: Part, net: i64) -> Both {
     let branch = fence(pair, part, net);
     branch.refused(32, branch.steps(), branch.last_station())
 }
 
-pub fn edge_32_entry_in(_: &mut Rng, pair: &Pair) -> Edge {
+pub fn edge_32_entry_in(_: &mut Rng, pair: &Pair) -> Both {
     passed(pair, Part::Entry, 1)
 }
 
-pub fn edge_32_entry_still(_: &mut Rng, pair: &Pair) -> Edge {
+pub fn edge_32_entry_still(_: &mut Rng, pair: &Pair) -> Both {
     passed(pair, Part::Entry, 0)
 }
 
-pub fn edge_32_entry_out(_: &mut Rng, pair: &Pair) -> Edge {
+pub fn edge_32_entry_out(_: &mut Rng, pair: &Pair) -> Both {
     failed(pair, Part::Entry, -1)
 }
 
-pub fn edge_32_exit_out(_: &mut Rng, pair: &Pair) -> Edge {
+pub fn edge_32_exit_out(_: &mut Rng, pair: &Pair) -> Both {
     passed(pair, Part::Exit, -1)
 }
 
-pub fn edge_32_exit_still(_: &mut Rng, pair: &Pair) -> Edge {
+pub fn edge_32_exit_still(_: &mut Rng, pair: &Pair) -> Both {
     passed(pair, Part::Exit, 0)
 }
 
-pub fn edge_32_exit_in(_: &mut Rng, pair: &Pair) -> Edge {
+pub fn edge_32_exit_in(_: &mut Rng, pair: &Pair) -> Both {
     failed(pair, Part::Exit, 1)
 }
 
-pub fn edge_32_neither_still(_: &mut Rng, pair: &Pair) -> Edge {
+pub fn edge_32_neither_still(_: &mut Rng, pair: &Pair) -> Both {
     passed(pair, Part::Neither, 0)
 }
 
-pub fn edge_32_neither_in(_: &mut Rng, pair: &Pair) -> Edge {
+pub fn edge_32_neither_in(_: &mut Rng, pair: &Pair) -> Both {
     failed(pair, Part::Neither, 1)
 }
 
-pub fn edge_32_neither_out(_: &mut Rng, pair: &Pair) -> Edge {
+pub fn edge_32_neither_out(_: &mut Rng, pair: &Pair) -> Both {
     failed(pair, Part::Neither, -1)
 }
