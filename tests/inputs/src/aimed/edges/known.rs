@@ -191,8 +191,21 @@ pub fn edge_ledger_valve() -> [LedgerEdge; 2] {
     figures(0b100_0000, 0, 3, [1, 0, 0, 0, 70, 70])
 }
 
+pub fn edge_ledger_no_node() -> [LedgerEdge; 2] {
+    figures(0, 0, 3, [0; 6])
+}
+
+/// Past the last node, alone and above every node.
 pub fn edge_40_past_the_last_node() -> [LedgerEdge; 2] {
-    refused_by(40, 7, 0b1_1000_0001, 0, 3)
+    refused_by(40, NODES, 1 << NODES, 0, 3)
+}
+
+pub fn edge_40_past_every_node() -> [LedgerEdge; 2] {
+    refused_by(40, NODES, (4 << NODES) - 1, 0, 3)
+}
+
+pub fn edge_40_two_past_the_last_node() -> [LedgerEdge; 2] {
+    refused_by(40, NODES + 1, 2 << NODES, 0, 3)
 }
 
 pub fn edge_40_last_bit() -> [LedgerEdge; 2] {

@@ -242,6 +242,12 @@ pub const LEDGER_EDGES: &[(&str, LedgerEdgeOf)] = &[
     ("ledger last pipe", known::edge_ledger_last_pipe),
     ("ledger valve", known::edge_ledger_valve),
     ("40 past the last node", known::edge_40_past_the_last_node),
+    ("40 past every node", known::edge_40_past_every_node),
+    (
+        "40 two past the last node",
+        known::edge_40_two_past_the_last_node,
+    ),
+    ("ledger no node", known::edge_ledger_no_node),
     ("40 last bit", known::edge_40_last_bit),
     ("40 past the last bit", known::edge_40_past_the_last_bit),
     ("41 below 0", known::edge_41_below_0),
