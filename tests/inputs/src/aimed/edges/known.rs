@@ -1,7 +1,8 @@
 //! A network of three steps whose totals and ledger figures were worked out by hand.
 //!
-//! Steps of 10, 20 and 40 s. A pipe goes from node 0 to 1 (c is 7) and another, the last arc, from 1 to 2 (c is 11); a regulator goes from 0 to 6, the last node,
-//! and an open valve from 6 to 5; nodes 3 and 4 are a station's, with two shortcuts between them.
+//! Steps of 10, 20 and 40 s. A pipe goes from node 0 to 1 (c is 7) and another, the last arc, from 1 to 2 (c is 11).
+//! A regulator goes from 0 to 6, the last node, and an open valve from 6 to 5. Nodes 3 and 4 are a station's, with two
+//! shortcuts between them.
 //!
 //! | | at 0 | step 1 | step 2 | step 3 | sum |
 //! |---|---|---|---|---|---|

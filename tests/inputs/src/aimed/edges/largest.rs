@@ -1,7 +1,7 @@
 //! The largest case, in which only the last items do something, and only in the last step.
 //!
-//! 60 nodes, 120 arcs, 8 stations and 48 steps of 1 s. Station s has the nodes 2s and 2s + 1, with 13 shortcuts between them, and the last station has the last arc
-//! too. The pipe, arc 118, goes from node 58 to node 59. E is 0.
+//! 60 nodes, 120 arcs, 8 stations and 48 steps of 1 s. Station s has the nodes 2s and 2s + 1, with 13 shortcuts between
+//! them, and the last station has the last arc too. The pipe, arc 118, goes from node 58 to node 59. E is 0.
 
 use super::{Both, Branch, Expect};
 use crate::model::{C, INNER, MOST_PRESSURE, PIPE, Pair, SHORTCUT, SINK, SOURCE, VALVE, WEIGHT};

@@ -150,8 +150,8 @@ enum Part {
     Neither,
 }
 
-/// A pipe to the only fence node, the last node, and two shortcuts on from it, with `net` going into the station in the last step and nothing before it. The direction
-/// is the last of two; the other one has the fence node in another part.
+/// A pipe to the only fence node, the last node, and two shortcuts on from it, with `net` going into the station in the
+/// last step and nothing before it. The direction is the last of two; the other has the fence node in another part.
 fn fence(pair: &Pair, part: Part, net: i64) -> Branch {
     let mut branch = Branch::beside(pair, 3, 3, 1);
     let ends = if net < 0 {
