@@ -1,15 +1,13 @@
 -- What the questions that have let a count pass say of it, and so where rows begin and that offsets fit.
 -- Assumes nothing.
-use mathlib.Core.Path.{_≡_, ap, _∙_}
+use Rattle.case.proofs.Common.{arith, _∙_, _≡_, ap, firstNo}
 use mathlib.Core.List.{List}
 use Prim.Native.Nat.{ℕ, _+_, _*_, _<_, _≤_}
 use native.Mathlib.Nat.{add-zero, mul-le-mul}
 use native.Mathlib.Numerals.{add-one}
-use native.Mathlib.Omega.{arith}
 use lib.IntN.{ℤ, pos, _+ℤ_}
 use Rattle.numbers.specs.inside.SignedParts.{ints, added, size}
 use Rattle.numbers.specs.inside.SignedBounds.{Bounded}
-use Rattle.numbers.specs.law.Question.{firstNo}
 use Rattle.numbers.specs.declared.answer.Answer.the-variants.{Yes}
 use Rattle.case.specs.law.Layout.{countAt, timeAt, directionCount, stateCount, machineCount}
 use Rattle.case.specs.law.Records.{timeOf, timeBefore}

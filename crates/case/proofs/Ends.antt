@@ -2,13 +2,10 @@
 -- Assumes nothing.
 use mathlib.Core.Bool.{Bool, true, false}
 use mathlib.Core.List.{List}
-use mathlib.Core.Path.{_≡_, sym, ap, _∙_}
+use Rattle.case.proofs.Common.{arith, _∙_, _≡_, ap, sym, w64, toZ}
 use Prim.Native.Nat.{ℕ, _+_, _<_, _≤_, _^_}
-use native.Mathlib.Omega.{arith}
 use lib.IntN.{ℤ, pos}
 use mir.Facts.{toZ-pos}
-use mir.Syntax.{w64}
-use mir.Val.{toZ}
 use Rattle.case.specs.law.StationNodes.{withEnds, endsOf}
 use Rattle.case.specs.inside.CountLaws.{ends-none, ends-yes, ends-no, ends-lt}
 

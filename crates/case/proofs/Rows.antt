@@ -1,12 +1,10 @@
 -- Where rows begin, from the counts as they were read, and the questions of one row.
 -- Assumes nothing.
-use mathlib.Core.Path.{_≡_}
+use Rattle.case.proofs.Common.{arith, _≡_, firstNo-append}
 use mathlib.Core.List.{List}
 use Prim.Native.Nat.{ℕ, _+_, _*_, _≤_}
-use native.Mathlib.Omega.{arith}
 use lib.IntN.{ℤ}
 use Rattle.numbers.specs.law.Question.{firstNo, orElse}
-use Rattle.numbers.specs.inside.QuestionLaws.{firstNo-append}
 use Rattle.numbers.specs.declared.answer.Answer.{Answer}
 use Rattle.case.specs.law.Layout.{nodesOf, arcsOf, stationsOf, stepsOf, nodeAt, arcAt, directionCount, directionAt, stateAt, machineAt, stationAt}
 use Rattle.case.specs.inside.Counts.{Counts, Counted}

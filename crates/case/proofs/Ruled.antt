@@ -1,9 +1,8 @@
 -- One item of a rule has one question, which is answered by what was found of the item; the layout says of it what the case does.
 -- Assumes nothing.
-use mathlib.Core.Path.{_≡_, refl, sym, ap, _∙_}
+use Rattle.case.proofs.Common.{_∙_, _≡_, ap, sym, refl, ℕ, _<_, _≤_}
 use mathlib.Core.Bool.{Bool, true, false}
 use mathlib.Core.List.{List, [], _∷_}
-use Prim.Native.Nat.{ℕ, _<_, _≤_}
 use borrow.Author.Tests.{le-leb, lt-leb}
 use lib.IntN.{ℤ}
 use Rattle.numbers.specs.law.Sets.{memberOf}

@@ -1,14 +1,9 @@
 -- A loop that adds up f 0 .. f (n - 1), none above x in size, keeps the sum so far and its bound; one turn adds a part, and so the sum always fits.
-use mathlib.Core.Path.{_≡_, refl, sym, ap, _∙_}
-use Prim.Native.Nat.{ℕ, _+_, _*_, _^_, _<_, _≤_}
+use Rattle.plan.proofs.Common.{_≡_, refl, sym, ap, _∙_, Bool, true, false, ℕ, _+_, _*_, _^_, _<_, _≤_, arith, ℤ, pos, natAbs, _+ℤ_, w64}
 use native.Mathlib.Nat.{mul-le-mul-right}
 use native.Mathlib.Numerals.{add-one}
-use native.Mathlib.Omega.{arith}
-use mathlib.Core.Bool.{Bool, true, false}
 use lib.Dec.{T, ltb}
-use lib.IntN.{ℤ, pos, natAbs, _+ℤ_}
 use lib.Signed.{mag}
-use mir.Syntax.{w64}
 use mir.Val.{SFits, Fits, toZ, ofZ}
 use Rattle.numbers.specs.inside.SignedLocals.{Held, held, kept, renamed, held<, held-fits<, _+ʳ_}
 use Rattle.numbers.specs.inside.SignedBounds.{Bounded}

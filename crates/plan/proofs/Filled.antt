@@ -1,8 +1,6 @@
 -- A loop that fills an array of `size` places with f at 0 .. n - 1 keeps the places passed; a turn sets one place and leaves those before it.
-use mathlib.Core.Path.{_≡_, _∙_}
+use Rattle.plan.proofs.Common.{_≡_, _∙_, ℕ, _+_, _<_, _≤_, arith}
 use mathlib.Core.List.{List}
-use Prim.Native.Nat.{ℕ, _+_, _<_, _≤_}
-use native.Mathlib.Omega.{arith}
 use lib.ListN.{length, set, length-set}
 use Rattle.case.specs.law.LayoutOf.{Holds}
 use Rattle.case.specs.inside.HoldsLaws.{holds-none, holds-more, holds-to}

@@ -1,14 +1,11 @@
 -- What goes by equal parts is equal, and a search for the lowest item goes on from item to item.
-use mathlib.Core.Path.{_≡_, ap₂}
-use mathlib.Core.Bool.{Bool, true, false}
+use Rattle.plan.proofs.Common.{_≡_, ap₂, Bool, true, false, arith, ℤ}
 use mathlib.Core.List.{List}
-use lib.IntN.{ℤ}
 use Prim.Native.Nat.{ℕ, suc, _+_, _-_, _<_, _≤_}
 use native.Mathlib.Numerals.{add-one}
 use Rattle.numbers.specs.law.Sets.{memberOf}
 use Rattle.plan.specs.law.RegionFigures.{figuresOf}
 use Rattle.plan.specs.law.Ledger.{lowestOf}
-use native.Mathlib.Omega.{arith}
 use Rattle.plan.specs.law.Region.{inward}
 
 pub inward-same : {f g h k : Bool} {x y u w : ℤ} → f ≡ h → g ≡ k → x ≡ u → y ≡ w → inward f g x y ≡ inward h k u w

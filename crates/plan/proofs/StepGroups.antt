@@ -1,8 +1,6 @@
 -- The first no of a step's questions is that of the first group that has one: nodes, arcs, stations, balance.
-use mathlib.Core.Path.{_≡_, sym, _∙_}
+use Rattle.plan.proofs.Common.{_≡_, sym, _∙_, ℕ, ℤ}
 use mathlib.Core.List.{List, _++_}
-use Prim.Native.Nat.{ℕ}
-use lib.IntN.{ℤ}
 use Rattle.numbers.specs.law.Question.{firstNo, orElse}
 use Rattle.numbers.specs.inside.QuestionLaws.{firstNo-append}
 use Rattle.numbers.specs.declared.answer.Answer.{Answer}

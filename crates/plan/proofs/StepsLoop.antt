@@ -1,11 +1,8 @@
 -- The loop over the steps, over plain lists: what holds before the step with index i, one turn, and both ways out.
-use mathlib.Core.Path.{_≡_, refl, sym, ap, ap₂, _∙_}
+use Rattle.plan.proofs.Common.{_≡_, refl, sym, ap, ap₂, _∙_, ℕ, _+_, _-_, _*_, _<_, _≤_, arith, ℤ, pos, natAbs, _+ℤ_}
 use mathlib.Core.List.{List}
-use Prim.Native.Nat.{ℕ, _+_, _*_, _-_, _<_, _≤_}
 use native.Mathlib.Nat.{mul-le-mul}
 use native.Mathlib.Numerals.{add-one}
-use native.Mathlib.Omega.{arith}
-use lib.IntN.{ℤ, pos, natAbs, _+ℤ_}
 use lib.ListN.{take, drop}
 use Rattle.numbers.specs.inside.SignedBounds.{abs-add}
 use Rattle.numbers.specs.law.Question.{firstNo}

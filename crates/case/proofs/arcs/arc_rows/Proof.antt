@@ -1,14 +1,9 @@
 -- The rows before `e` have no "no" (`Asking`); a row has the questions of its ends, and then those of its kind.
-use mathlib.Core.Path.{_≡_, refl}
+use Rattle.case.proofs.Common.{needs, arith, _≡_, refl, now, firstNo, Asking, asking, asking-on, asking-no, asking-end}
 use Prim.Native.Nat.{_-_, _+_, _*_}
-use native.Mathlib.Omega.{arith}
-use borrow.Author.Needs.{needs}
-use denote.Ref.{now}
 use Rattle.numbers.specs.law.Items.{over}
-use Rattle.numbers.specs.law.Question.{firstNo}
 use Rattle.case.specs.law.ArcFields.{arcFields}
 use Rattle.case.proofs.Rows.{arc-asked, arc-row}
-use Rattle.numbers.specs.inside.ItemLaws.{Asking, asking, asking-on, asking-no, asking-end}
 use Rattle.case.proofs.arcs.arc_rows.Statement.{statement}
 use Rattle.case.proofs.arcs.arc_rows.Tie as tie
 

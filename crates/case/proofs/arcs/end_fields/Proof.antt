@@ -1,10 +1,7 @@
 -- The last node goes by the count that was read; the answers of the three groups of fields are put together.
-use mathlib.Core.Path.{ap, _∙_}
-use borrow.Author.Needs.{needs}
-use Rattle.numbers.specs.inside.QuestionLaws.{firstNo-append}
+use Rattle.case.proofs.Common.{needs, _∙_, ap, firstNo-append, kept-is}
 use Rattle.case.specs.law.ArcFields.{endFields}
 use Rattle.case.specs.law.Field.{lastOf}
-use Rattle.numbers.specs.inside.SignedLocals.{kept-is}
 use Rattle.case.proofs.arcs.end_fields.Statement.{statement}
 use Rattle.case.proofs.arcs.end_fields.Tie as tie
 

@@ -1,11 +1,6 @@
 -- The kind that was read picks the group of fields, in the same order of tests as the law's.
-use mathlib.Core.Path.{_≡_, sym, _∙_}
-use Prim.Native.Nat.{_≤_}
-use native.Mathlib.Omega.{arith}
-use borrow.Author.Needs.{needs}
+use Rattle.case.proofs.Common.{needs, arith, _∙_, _≡_, sym, now, _≤_, firstNo-append}
 use borrow.Author.Tests.{le-leb, lt-leb, ne-eqb}
-use denote.Ref.{now}
-use Rattle.numbers.specs.inside.QuestionLaws.{firstNo-append}
 use Rattle.case.specs.law.ArcFields.{kindFields}
 use Rattle.case.specs.law.Layout.{countAt}
 use Rattle.case.proofs.Asked.{chain}

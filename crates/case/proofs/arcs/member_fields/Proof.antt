@@ -1,10 +1,7 @@
 -- The last station goes by the count that was read and both ways by the kind; the answers of the four fields are put together.
-use mathlib.Core.Path.{ap, _∙_}
-use borrow.Author.Needs.{needs}
-use Rattle.numbers.specs.inside.QuestionLaws.{firstNo-append}
+use Rattle.case.proofs.Common.{needs, _∙_, ap, firstNo-append, kept-is}
 use Rattle.case.specs.law.ArcFields.{leastBothWays, memberFields}
 use Rattle.case.specs.law.Field.{lastOf}
-use Rattle.numbers.specs.inside.SignedLocals.{kept-is}
 use Rattle.case.proofs.arcs.member_fields.Statement.{statement}
 use Rattle.case.proofs.arcs.member_fields.Tie as tie
 

@@ -1,6 +1,5 @@
 -- The answers of the four groups of fields are put together (`firstNo-append`).
-use borrow.Author.Needs.{needs}
-use Rattle.numbers.specs.inside.QuestionLaws.{firstNo-append}
+use Rattle.case.proofs.Common.{needs, firstNo-append}
 use Rattle.case.specs.law.ArcFields.{pipeFields}
 use Rattle.case.proofs.arcs.pipe_fields.Statement.{statement}
 use Rattle.case.proofs.arcs.pipe_fields.Tie as tie

@@ -1,11 +1,8 @@
 -- A field that is there has one question left, whether it is in its range; bounds and number are read back as they are.
 use mathlib.Core.Bool.{_&&_}
-use mathlib.Core.Path.{_≡_, _∙_}
-use borrow.Author.Needs.{needs}
+use Rattle.case.proofs.Common.{needs, _∙_, _≡_, now, toZ-ofZ}
 use borrow.Author.Tests.{lt-ltb, le-ltb}
-use denote.Ref.{now}
 use lib.Signed.{leZ}
-use mir.Facts.{toZ-ofZ}
 use Rattle.numbers.specs.inside.QuestionLaws.{orElse-yes}
 use Rattle.case.specs.law.Field.{field}
 use Rattle.case.specs.law.Layout.{numberAt}

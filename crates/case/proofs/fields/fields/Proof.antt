@@ -1,15 +1,7 @@
 -- The fields before `j` have no "no" (`Asking`), in a range that is read back from two locals.
-use mathlib.Core.Path.{_≡_, refl}
-use Prim.Native.Nat.{_-_}
-use native.Mathlib.Omega.{arith}
-use borrow.Author.Needs.{needs}
-use denote.Ref.{now}
-use mir.Facts.{toZ-ofZ}
-use mir.Syntax.{w64}
-use mir.Val.{toZ, ofZ}
-use Rattle.numbers.specs.law.Question.{firstNo}
+use Rattle.case.proofs.Common.{needs, arith, _≡_, refl, now, _-_, firstNo, w64, toZ, ofZ, Asking, asking, asking-on, asking-no, asking-end}
+use Rattle.case.proofs.Common.{toZ-ofZ}
 use Rattle.case.specs.law.Field.{fields, nextField}
-use Rattle.numbers.specs.inside.ItemLaws.{Asking, asking, asking-on, asking-no, asking-end}
 use Rattle.numbers.specs.declared.answer.Answer.{Answer}
 use Rattle.case.proofs.fields.fields.Statement.{statement}
 use Rattle.case.proofs.fields.fields.Tie as tie

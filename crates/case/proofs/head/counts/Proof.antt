@@ -1,6 +1,5 @@
 -- The answers of the five counts are put together (`firstNo-append`).
-use borrow.Author.Needs.{needs}
-use Rattle.numbers.specs.inside.QuestionLaws.{firstNo-append}
+use Rattle.case.proofs.Common.{needs, firstNo-append}
 use Rattle.case.specs.law.HeadFields.{countFields}
 use Rattle.case.proofs.head.counts.Statement.{statement}
 use Rattle.case.proofs.head.counts.Tie as tie

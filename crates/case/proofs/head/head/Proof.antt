@@ -1,6 +1,5 @@
 -- The answers of the counts and of the two tolerances are put together (`firstNo-append`).
-use borrow.Author.Needs.{needs}
-use Rattle.numbers.specs.inside.QuestionLaws.{firstNo-append}
+use Rattle.case.proofs.Common.{needs, firstNo-append}
 use Rattle.case.specs.law.HeadFields.{headFields, toleranceFields}
 use Rattle.case.proofs.head.head.Statement.{statement}
 use Rattle.case.proofs.head.head.Tie as tie

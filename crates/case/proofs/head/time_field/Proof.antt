@@ -1,9 +1,5 @@
 -- The time before is at most 48 days, so that neither bound of the range overflows.
-use borrow.Author.Needs.{needs}
-use denote.Ref.{now}
-use lib.IntN.{pos}
-use mir.Syntax.{w64}
-use mir.Val.{toZ, ofZ}
+use Rattle.case.proofs.Common.{needs, now, w64, toZ, ofZ, pos}
 use Rattle.numbers.specs.inside.SignedLocals.{Held, held, held-fits, literal, _+ʳ_}
 use Rattle.case.specs.law.Records.{timeBefore}
 use Rattle.case.specs.law.TimeFields.{timeField}

@@ -1,16 +1,11 @@
 -- The times before `i` have no "no" (`Asking`), so that each step has added at most a day to the time before.
-use mathlib.Core.Path.{refl, sym, _∙_}
+use Rattle.case.proofs.Common.{needs, arith, _∙_, sym, refl, now, firstNo, Asking, asking, asking-on, asking-no, asking-end}
 use Prim.Native.Nat.{_-_, _*_}
-use native.Mathlib.Omega.{arith}
-use borrow.Author.Needs.{needs}
-use denote.Ref.{now}
 use Rattle.numbers.specs.law.Items.{over}
-use Rattle.numbers.specs.law.Question.{firstNo}
 use Rattle.numbers.specs.inside.SignedBounds.{Bounded}
 use Rattle.case.specs.law.Records.{timeBefore}
 use Rattle.case.specs.law.TimeFields.{timeField}
 use Rattle.case.proofs.Counting.{time-grows}
-use Rattle.numbers.specs.inside.ItemLaws.{Asking, asking, asking-on, asking-no, asking-end}
 use Rattle.case.proofs.head.times.Statement.{statement}
 use Rattle.case.proofs.head.times.Tie as tie
 

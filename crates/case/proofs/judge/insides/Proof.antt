@@ -1,18 +1,10 @@
 -- The array holds the node sets of the stations before `s`, and 0 from there on.
-use mathlib.Core.Path.{_≡_, refl, ap, _∙_}
-use Prim.Native.Nat.{ℕ, _≤_, _-_}
-use native.Mathlib.Omega.{arith}
-use borrow.Author.Needs.{needs}
-use denote.Ref.{now}
-use lib.IntN.{pos}
+use Rattle.case.proofs.Common.{needs, arith, _∙_, _≡_, ap, refl, now, _-_, ℕ, _≤_, kept-is, w64, toZ, ofZ, pos}
 use lib.ListN.{length, length-set}
-use mir.Syntax.{w64}
-use mir.Val.{toZ, ofZ}
 use Rattle.case.specs.law.LayoutOf.{Holds, Clear}
 use Rattle.case.specs.inside.HoldsLaws.{holds-none, holds-more, holds-to, clear-new, clear-more}
 use Rattle.case.specs.law.StationArcs.{belongs}
 use Rattle.case.specs.law.StationNodes.{endsOf, stationNodes}
-use Rattle.numbers.specs.inside.SignedLocals.{kept-is}
 use Rattle.case.proofs.judge.insides.Statement.{statement}
 use Rattle.case.proofs.judge.insides.Tie as tie
 

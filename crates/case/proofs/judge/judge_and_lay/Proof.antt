@@ -1,9 +1,5 @@
 -- The rules are asked where 10 to 12 let the list pass, and then the layout is that of the case.
-use mathlib.Core.Path.{_≡_, refl, sym, ap, _∙_}
-use Prim.Native.Nat.{ℕ}
-use native.Mathlib.Omega.{arith}
-use borrow.Author.Needs.{needs}
-use denote.Ref.{now}
+use Rattle.case.proofs.Common.{needs, arith, _∙_, _≡_, ap, sym, refl, now, ℕ}
 use Rattle.numbers.specs.law.Question.{firstNo, told}
 use Rattle.numbers.specs.declared.answer.Answer.{Answer}
 use Rattle.numbers.specs.declared.answer.Answer.the-variants.{Yes, No}

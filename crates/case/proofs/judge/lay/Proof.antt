@@ -1,13 +1,7 @@
 -- The counts that were read are the head's, and say where rows begin (`Begins`); the arrays and the set come from the callees.
-use mathlib.Core.Path.{ap, _∙_}
-use Prim.Native.Nat.{ℕ}
-use native.Mathlib.Omega.{arith}
-use borrow.Author.Needs.{needs}
-use denote.Ref.{now}
-use lib.IntN.{pos}
+use Rattle.case.proofs.Common.{needs, arith, _∙_, ap, now, ℕ, kept-is, pos}
 use Rattle.case.specs.law.StationNodes.{endsOf, plain, plainNodes}
 use Rattle.case.proofs.Rows.{Begins, begins}
-use Rattle.numbers.specs.inside.SignedLocals.{kept-is}
 use Rattle.case.proofs.judge.lay.Statement.{statement}
 use Rattle.case.proofs.judge.lay.Tie as tie
 

@@ -1,6 +1,5 @@
 -- The rows are read where no field of the head is refused, so that the counts are in range.
-use mathlib.Core.Path.{sym, _∙_}
-use borrow.Author.Needs.{needs}
+use Rattle.case.proofs.Common.{needs, _∙_, sym}
 use Rattle.case.specs.law.HeadFields.{headFields}
 use Rattle.case.specs.law.Judged.{rowQuestions, listQuestions}
 use Rattle.case.specs.inside.CountsInRange.{head-counted}

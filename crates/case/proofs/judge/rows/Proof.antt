@@ -1,8 +1,5 @@
 -- The counts that were read are the head's, and say where rows begin (`Begins`); the answers of the four groups are put together.
-use native.Mathlib.Omega.{arith}
-use borrow.Author.Needs.{needs}
-use denote.Ref.{now}
-use Rattle.numbers.specs.inside.QuestionLaws.{firstNo-append}
+use Rattle.case.proofs.Common.{needs, arith, now, firstNo-append}
 use Rattle.case.specs.law.ArcFields.{allArcFields}
 use Rattle.case.specs.law.Judged.{rowQuestions}
 use Rattle.case.specs.law.NodeFields.{allNodeFields}

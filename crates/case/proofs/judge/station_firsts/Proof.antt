@@ -1,8 +1,6 @@
 -- A station begins where the one before it ends; the array holds where those before `s` begin, and 0 from there on.
-use mathlib.Core.Path.{_≡_, refl, sym, ap, _∙_}
+use Rattle.case.proofs.Common.{arith, _∙_, _≡_, ap, sym, refl, now}
 use Prim.Native.Nat.{_≤_, _<_, _-_, _+_, _*_}
-use native.Mathlib.Omega.{arith}
-use denote.Ref.{now}
 use lib.ListN.{length, length-set}
 use Rattle.case.specs.law.LayoutOf.{Holds, Clear}
 use Rattle.case.specs.inside.HoldsLaws.{holds-none, holds-more, holds-to, clear-new, clear-more}

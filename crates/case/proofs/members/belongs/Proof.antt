@@ -1,8 +1,6 @@
 -- The kind that was read decides first; of an artificial arc the fifth number of its row is its station.
-use mathlib.Core.Path.{_≡_}
-use borrow.Author.Needs.{needs}
+use Rattle.case.proofs.Common.{needs, _≡_, now}
 use borrow.Author.Tests.{le-leb, lt-leb}
-use denote.Ref.{now}
 use Rattle.case.specs.law.Layout.{arcAt}
 use Rattle.case.specs.law.Records.{arcOf}
 use Rattle.case.proofs.Reading.{count-in, first-count}

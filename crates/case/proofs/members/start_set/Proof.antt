@@ -1,15 +1,11 @@
 -- `n` counts the station's arcs so far (`Tally`), and the set holds those that are active; of at most 30 arcs it fits.
 use mathlib.Core.List.{List}
 use mathlib.Core.Logic.{⊎-elim}
-use mathlib.Core.Path.{_≡_, sym, ap, _∙_}
+use Rattle.case.proofs.Common.{needs, arith, _∙_, _≡_, ap, sym, now, w64}
 use Prim.Native.Nat.{ℕ, _≤_, _<_, _-_, _+_, _^_}
-use native.Mathlib.Omega.{arith}
-use borrow.Author.Needs.{needs}
-use denote.Ref.{now}
 use lib.IntN.{ℤ, pos}
 use lib.Pow.{pow-mono}
 use mir.Facts.{toZ-pos}
-use mir.Syntax.{w64}
 use Rattle.case.specs.inside.CountLaws.{before-yes, before-mono, arcs-none, arcs-yes, arcs-no, arcs-lt}
 use Rattle.case.specs.law.States.{activeAtStart}
 use Rattle.case.specs.law.StationArcs.{belongs, arcsBefore, arcSet}

@@ -1,9 +1,6 @@
 -- `own` counts the station's arcs so far (`Tally`).
 use mathlib.Core.Logic.{⊎-elim}
-use mathlib.Core.Path.{sym, _∙_}
-use Prim.Native.Nat.{_-_}
-use native.Mathlib.Omega.{arith}
-use borrow.Author.Needs.{needs}
+use Rattle.case.proofs.Common.{needs, arith, _∙_, sym, _-_}
 use Rattle.case.specs.inside.CountLaws.{Tally, tally, tally-yes, tally-no, tally-le, tally-end}
 use Rattle.case.specs.law.StationArcs.{belongs, arcsBefore}
 use Rattle.case.proofs.members.station_arcs.Statement.{statement}

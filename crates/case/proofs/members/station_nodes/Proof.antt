@@ -1,9 +1,6 @@
 -- The set holds the ends of the station's arcs so far (`Gathering`).
 use mathlib.Core.Logic.{⊎-elim}
-use mathlib.Core.Path.{sym, _∙_}
-use Prim.Native.Nat.{_-_}
-use native.Mathlib.Omega.{arith}
-use borrow.Author.Needs.{needs}
+use Rattle.case.proofs.Common.{needs, arith, _∙_, sym, _-_}
 use Rattle.case.specs.law.StationArcs.{belongs}
 use Rattle.case.proofs.Ends.{Gathering, gathering, gather-yes, gather-no, gather-fits, gather-end}
 use Rattle.case.proofs.members.station_nodes.Statement.{statement}

@@ -1,8 +1,6 @@
 -- The set has no item from `n` on, so item `n` is put in by a sum.
-use mathlib.Core.Path.{sym, _∙_}
+use Rattle.case.proofs.Common.{needs, arith, _∙_, sym}
 use Prim.Native.Nat.{_<_, _^_}
-use native.Mathlib.Omega.{arith}
-use borrow.Author.Needs.{needs}
 use lib.Pow.{pow-lt}
 use Rattle.numbers.specs.inside.ItemBits.{shifted}
 use Rattle.case.proofs.members.with_arc.Statement.{statement}

@@ -1,6 +1,5 @@
 -- The two ends are the second and the third number of the arc's row, and are put in one after the other.
-use mathlib.Core.Path.{_∙_}
-use borrow.Author.Needs.{needs}
+use Rattle.case.proofs.Common.{needs, _∙_}
 use Rattle.case.specs.law.Layout.{arcAt}
 use Rattle.case.proofs.Reading.{count-in}
 use Rattle.case.proofs.members.with_ends.Statement.{statement}

@@ -1,6 +1,5 @@
 -- A one shifted by fewer than 64 places is the set of one item; a node from 60 on is left out.
-use native.Mathlib.Omega.{arith}
-use borrow.Author.Needs.{needs}
+use Rattle.case.proofs.Common.{needs, arith}
 use borrow.Author.Tests.{lt-ltb, le-ltb}
 use Rattle.case.specs.law.StationNodes.{withNode}
 use Rattle.numbers.specs.inside.ItemBits.{shifted}

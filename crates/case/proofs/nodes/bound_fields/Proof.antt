@@ -1,9 +1,7 @@
 -- The bounds of a bound are numbers of the same row; the answers of the four groups of fields are put together.
-use borrow.Author.Needs.{needs}
-use Rattle.numbers.specs.inside.QuestionLaws.{firstNo-append}
+use Rattle.case.proofs.Common.{needs, firstNo-append, kept-is}
 use Rattle.case.specs.law.NodeFields.{boundFields}
 use Rattle.case.proofs.Asked.{chain}
-use Rattle.numbers.specs.inside.SignedLocals.{kept-is}
 use Rattle.case.proofs.nodes.bound_fields.Statement.{statement}
 use Rattle.case.proofs.nodes.bound_fields.Tie as tie
 

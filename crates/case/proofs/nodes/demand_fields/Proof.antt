@@ -1,8 +1,6 @@
 -- The kind that was read picks the range of the demands.
-use mathlib.Core.Path.{_≡_, sym, _∙_}
-use borrow.Author.Needs.{needs}
+use Rattle.case.proofs.Common.{needs, _∙_, _≡_, sym, now}
 use borrow.Author.Tests.{ne-eqb}
-use denote.Ref.{now}
 use Rattle.case.specs.law.Layout.{countAt}
 use Rattle.case.specs.law.NodeFields.{demandFields}
 use Rattle.case.proofs.Counting.{first-is}

@@ -1,10 +1,6 @@
 -- A node's row begins within the first 4,000 numbers, so that its offset fits; the answers of its two groups are put together.
-use mathlib.Core.Path.{_≡_}
+use Rattle.case.proofs.Common.{needs, arith, _≡_, now, firstNo-append}
 use Prim.Native.Nat.{_+_, _*_, _<_}
-use native.Mathlib.Omega.{arith}
-use borrow.Author.Needs.{needs}
-use denote.Ref.{now}
-use Rattle.numbers.specs.inside.QuestionLaws.{firstNo-append}
 use Rattle.case.specs.law.Layout.{nodeAt}
 use Rattle.case.specs.law.NodeFields.{nodeFields}
 use Rattle.case.proofs.Asked.{chain}

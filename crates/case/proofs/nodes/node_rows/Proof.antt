@@ -1,12 +1,7 @@
 -- The rows of the nodes before `v` have no "no" (`Asking`).
-use mathlib.Core.Path.{refl}
-use Prim.Native.Nat.{_-_}
-use native.Mathlib.Omega.{arith}
-use borrow.Author.Needs.{needs}
+use Rattle.case.proofs.Common.{needs, arith, refl, _-_, firstNo, Asking, asking, asking-on, asking-no, asking-end}
 use Rattle.numbers.specs.law.Items.{over}
-use Rattle.numbers.specs.law.Question.{firstNo}
 use Rattle.case.specs.law.NodeFields.{nodeFields}
-use Rattle.numbers.specs.inside.ItemLaws.{Asking, asking, asking-on, asking-no, asking-end}
 use Rattle.case.proofs.nodes.node_rows.Statement.{statement}
 use Rattle.case.proofs.nodes.node_rows.Tie as tie
 

@@ -1,7 +1,6 @@
 -- Rows that do not fit before the end end past it, by the quotient of the room and the width; rows that do are added up.
 use Prim.Native.Nat.{_-_, _*_, _≤_}
-use native.Mathlib.Omega.{arith}
-use borrow.Author.Needs.{needs}
+use Rattle.case.proofs.Common.{needs, arith}
 use Rattle.case.proofs.Reading.{rows-past, rows-fit}
 use Rattle.case.proofs.offsets.along.Statement.{statement}
 use Rattle.case.proofs.offsets.along.Tie as tie

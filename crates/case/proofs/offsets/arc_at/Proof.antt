@@ -1,7 +1,5 @@
 -- The arcs' rows follow those of the nodes, each 11 numbers long.
-use mathlib.Core.Path.{_∙_}
-use native.Mathlib.Omega.{arith}
-use borrow.Author.Needs.{needs}
+use Rattle.case.proofs.Common.{needs, arith, _∙_}
 use Rattle.case.specs.law.Layout.{arcAt}
 use Rattle.case.proofs.offsets.arc_at.Statement.{statement}
 use Rattle.case.proofs.offsets.arc_at.Tie as tie

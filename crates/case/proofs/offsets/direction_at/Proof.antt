@@ -1,7 +1,5 @@
 -- The directions' rows follow a station's first five numbers, each three numbers long.
-use mathlib.Core.Path.{_∙_}
-use native.Mathlib.Omega.{arith}
-use borrow.Author.Needs.{needs}
+use Rattle.case.proofs.Common.{needs, arith, _∙_}
 use Rattle.case.specs.law.Layout.{directionAt}
 use Rattle.case.proofs.offsets.direction_at.Statement.{statement}
 use Rattle.case.proofs.offsets.direction_at.Tie as tie

@@ -1,10 +1,7 @@
 -- A count below 2^63 is itself as a signed number, and one less fits.
-use mathlib.Core.Path.{_≡_, _∙_}
-use borrow.Author.Needs.{needs}
+use Rattle.case.proofs.Common.{needs, _∙_, _≡_, w64, toZ}
 use lib.IntN.{pos, _-ℤ_}
 use mir.Facts.{toZ-ofZ, toZ-pos}
-use mir.Syntax.{w64}
-use mir.Val.{toZ}
 use Rattle.numbers.specs.inside.SignedLocals.{ranged}
 use Rattle.numbers.specs.inside.SignedParts.{ints, taken}
 use Rattle.case.proofs.offsets.last.Statement.{statement}

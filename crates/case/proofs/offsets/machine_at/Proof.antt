@@ -1,7 +1,5 @@
 -- The machines' rows follow those of the states, each two numbers long.
-use mathlib.Core.Path.{_∙_}
-use native.Mathlib.Omega.{arith}
-use borrow.Author.Needs.{needs}
+use Rattle.case.proofs.Common.{needs, arith, _∙_}
 use Rattle.case.specs.law.Layout.{machineAt}
 use Rattle.case.proofs.offsets.machine_at.Statement.{statement}
 use Rattle.case.proofs.offsets.machine_at.Tie as tie

@@ -1,7 +1,5 @@
 -- The nodes' rows follow head and times, each six numbers and a demand for every step long; a count is below 2^63, so the sums fit.
-use mathlib.Core.Path.{_∙_}
-use native.Mathlib.Omega.{arith}
-use borrow.Author.Needs.{needs}
+use Rattle.case.proofs.Common.{needs, arith, _∙_}
 use Rattle.case.specs.law.Layout.{nodeAt}
 use Rattle.case.proofs.offsets.node_at.Statement.{statement}
 use Rattle.case.proofs.offsets.node_at.Tie as tie

@@ -1,8 +1,5 @@
 -- Past the end of the list a number is 0; the sum of offset and place is taken only where it is not past the end.
-use Prim.Native.Nat.{_+_}
-use native.Mathlib.Omega.{arith}
-use borrow.Author.Needs.{needs}
-use denote.Ref.{now}
+use Rattle.case.proofs.Common.{needs, arith, now, _+_}
 use Rattle.case.proofs.Reading.{past}
 use Rattle.case.proofs.offsets.number.Statement.{statement}
 use Rattle.case.proofs.offsets.number.Tie as tie

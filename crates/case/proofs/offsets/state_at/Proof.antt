@@ -1,7 +1,5 @@
 -- The states' rows follow those of the directions, each four numbers long.
-use mathlib.Core.Path.{_∙_}
-use native.Mathlib.Omega.{arith}
-use borrow.Author.Needs.{needs}
+use Rattle.case.proofs.Common.{needs, arith, _∙_}
 use Rattle.case.specs.law.Layout.{stateAt}
 use Rattle.case.proofs.Counting.{first-is}
 use Rattle.case.proofs.offsets.state_at.Statement.{statement}

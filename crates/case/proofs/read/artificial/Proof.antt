@@ -1,6 +1,5 @@
 -- Each field is a number of the row, read from where the row begins or from the end if that is nearer (`count-in`).
-use borrow.Author.Needs.{needs}
-use denote.Ref.{now}
+use Rattle.case.proofs.Common.{needs, now}
 use Rattle.case.specs.law.Layout.{arcAt}
 use Rattle.case.proofs.Reading.{number-in, count-in}
 use Rattle.case.proofs.read.artificial.Statement.{statement}

@@ -1,12 +1,7 @@
 -- The demands begin six places into the row; past the end of the list a demand is 0.
-use mathlib.Core.Path.{_≡_, ap, _∙_}
-use Prim.Native.Nat.{_+_}
-use native.Mathlib.Omega.{arith}
-use borrow.Author.Needs.{needs}
-use denote.Ref.{now}
+use Rattle.case.proofs.Common.{needs, arith, _∙_, _≡_, ap, now, _+_, kept-is}
 use Rattle.case.specs.law.Layout.{numberAt, demandsAt}
 use Rattle.case.proofs.Reading.{past}
-use Rattle.numbers.specs.inside.SignedLocals.{kept-is}
 use Rattle.case.proofs.read.demand.Statement.{statement}
 use Rattle.case.proofs.read.demand.Tie as tie
 

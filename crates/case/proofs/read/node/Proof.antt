@@ -1,9 +1,5 @@
 -- Each field is a number of the row, read from where the row begins or from the end if that is nearer (`number-in`).
-use mathlib.Core.Path.{_≡_, ap, _∙_}
-use Prim.Native.Nat.{_+_}
-use native.Mathlib.Omega.{arith}
-use borrow.Author.Needs.{needs}
-use denote.Ref.{now}
+use Rattle.case.proofs.Common.{needs, arith, _∙_, _≡_, ap, now, _+_}
 use Rattle.case.specs.law.Layout.{numberAt, nodeAt, demandsAt}
 use Rattle.case.proofs.Reading.{number-in, first-count}
 use Rattle.case.proofs.read.node.Statement.{statement}

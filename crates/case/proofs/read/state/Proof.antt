@@ -1,6 +1,5 @@
 -- Each field is a number of the row, read from where the row begins or from the end if that is nearer (`number-in`).
-use borrow.Author.Needs.{needs}
-use denote.Ref.{now}
+use Rattle.case.proofs.Common.{needs, now}
 use Rattle.case.specs.law.Layout.{stateAt}
 use Rattle.case.proofs.Reading.{number-in, count-in, first-number}
 use Rattle.case.proofs.read.state.Statement.{statement}

@@ -1,9 +1,6 @@
 -- The first step comes after time 0, and any other after the time of the step before it.
-use mathlib.Core.Path.{_≡_}
+use Rattle.case.proofs.Common.{needs, arith, _≡_, kept-is}
 use Prim.Native.Nat.{suc, _-_}
-use native.Mathlib.Omega.{arith}
-use borrow.Author.Needs.{needs}
-use Rattle.numbers.specs.inside.SignedLocals.{kept-is}
 use Rattle.case.proofs.read.time_before.Statement.{statement}
 use Rattle.case.proofs.read.time_before.Tie as tie
 

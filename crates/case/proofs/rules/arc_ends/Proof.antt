@@ -1,13 +1,8 @@
 -- The arcs before `e` have two ends that differ (`Asking`); the arc that was read decides for `e`.
-use mathlib.Core.Path.{refl, sym, ap, _∙_}
-use Prim.Native.Nat.{_-_}
-use native.Mathlib.Omega.{arith}
-use borrow.Author.Needs.{needs}
+use Rattle.case.proofs.Common.{needs, arith, _∙_, ap, sym, refl, _-_, firstNo, Asking, asking, asking-on, asking-no, asking-end}
 use borrow.Author.Tests.{eq-eqb, ne-eqb}
-use Rattle.numbers.specs.law.Question.{firstNo}
 use Rattle.case.specs.law.ArcEnds.{arcEnds, allArcEnds}
 use Rattle.case.specs.declared.records.Arc.{Arc}
-use Rattle.numbers.specs.inside.ItemLaws.{Asking, asking, asking-on, asking-no, asking-end}
 use Rattle.case.proofs.rules.arc_ends.Statement.{statement}
 use Rattle.case.proofs.rules.arc_ends.Tie as tie
 

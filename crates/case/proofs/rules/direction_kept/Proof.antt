@@ -1,17 +1,11 @@
 -- The three tests are made in the law's order, on the two sets that were read; a direction in range has only the items of 60 nodes.
-use mathlib.Core.Path.{_≡_, sym, ap, _∙_}
-use borrow.Author.Needs.{needs}
-use denote.Ref.{now}
-use mir.Facts.{toZ-ofZ}
-use mir.Syntax.{w64}
-use mir.Val.{toZ, ofZ}
+use Rattle.case.proofs.Common.{needs, _∙_, _≡_, ap, sym, now, kept-is, w64, toZ, ofZ, toZ-ofZ}
 use Rattle.numbers.specs.law.Sets.{disjointOf}
 use Rattle.case.specs.law.Directions.{onlyFence, setsKept}
 use Rattle.case.specs.inside.InSet.{inBoth}
 use Rattle.case.specs.law.Records.{directionRow}
 use Rattle.case.specs.inside.SetLaws.{node-set}
 use Rattle.case.specs.declared.records.Direction.{Direction}
-use Rattle.numbers.specs.inside.SignedLocals.{kept-is}
 use Rattle.case.proofs.rules.direction_kept.Statement.{statement}
 use Rattle.case.proofs.rules.direction_kept.Tie as tie
 

@@ -1,15 +1,10 @@
 -- The stations before `s` keep 16 (`Asking`); the layout has where a station's rows begin and its node set.
-use mathlib.Core.Path.{_≡_, refl}
-use Prim.Native.Nat.{_<_, _-_}
-use native.Mathlib.Omega.{arith}
+use Rattle.case.proofs.Common.{arith, _≡_, refl, now, _-_, _<_, kept-is, Asking, asking, asking-on, asking-no, asking-end}
 use borrow.Author.Tests.{not-true, not-false}
-use denote.Ref.{now}
 use Rattle.numbers.specs.law.Question.{firstNo, answer}
 use Rattle.case.specs.law.Directions.{directionSets, allDirectionSets}
 use Rattle.case.specs.law.Layout.{stationsOf}
 use Rattle.case.proofs.Ruled.{directions-asked}
-use Rattle.numbers.specs.inside.ItemLaws.{Asking, asking, asking-on, asking-no, asking-end}
-use Rattle.numbers.specs.inside.SignedLocals.{kept-is}
 use mathlib.Core.Bool.{Bool}
 use Rattle.case.proofs.rules.direction_sets.Statement.{statement}
 use Rattle.case.proofs.rules.direction_sets.Tie as tie

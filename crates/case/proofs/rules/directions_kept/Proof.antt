@@ -1,16 +1,9 @@
 -- The directions before `f` keep 16 (`Keeping`); count and sets are read back as they are.
 use mathlib.Core.Bool.{Bool}
 use mathlib.Core.List.{List}
-use mathlib.Core.Path.{_≡_, ap}
-use Prim.Native.Nat.{ℕ, _-_}
-use native.Mathlib.Omega.{arith}
-use borrow.Author.Needs.{needs}
+use Rattle.case.proofs.Common.{needs, arith, _≡_, ap, now, _-_, ℕ, w64, toZ, ofZ, toZ-ofZ}
 use borrow.Author.Tests.{not-true, not-false}
-use denote.Ref.{now}
 use lib.IntN.{ℤ}
-use mir.Facts.{toZ-ofZ}
-use mir.Syntax.{w64}
-use mir.Val.{toZ, ofZ}
 use Rattle.case.specs.law.Directions.{setsKept}
 use Rattle.case.specs.inside.InSet.{inBoth}
 use Rattle.case.specs.law.Records.{directionRow, stationRow}

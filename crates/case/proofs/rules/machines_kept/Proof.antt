@@ -1,20 +1,13 @@
 -- The station's arcs before `e` name only its own machines (`Keeping`); an arc of another station keeps the rule by itself.
 use mathlib.Core.Bool.{Bool, true, false}
 use mathlib.Core.Logic.{⊎-elim}
-use mathlib.Core.Path.{_≡_, refl, sym, ap, _∙_}
+use Rattle.case.proofs.Common.{needs, arith, _∙_, _≡_, ap, sym, refl, now, kept-is, w64, toZ, ofZ, toZ-ofZ}
 use Prim.Native.Nat.{_<_, _-_, _^_}
-use native.Mathlib.Omega.{arith}
-use borrow.Author.Needs.{needs}
 use borrow.Author.Tests.{not-true, not-false}
-use denote.Ref.{now}
-use mir.Facts.{toZ-ofZ}
-use mir.Syntax.{w64}
-use mir.Val.{toZ, ofZ}
 use Rattle.case.specs.law.States.{machinesKept}
 use Rattle.case.specs.law.StationArcs.{belongs, every}
 use Rattle.case.specs.declared.records.Artificial.{Artificial}
 use Rattle.case.specs.inside.CountLaws.{Keeping, keeping, keep-on, keep-no, keep-end}
-use Rattle.numbers.specs.inside.SignedLocals.{kept-is}
 use lib.Signed.{mag}
 use Rattle.case.proofs.rules.machines_kept.Statement.{statement}
 use Rattle.case.proofs.rules.machines_kept.Tie as tie

@@ -1,11 +1,7 @@
 -- The nodes before `v` are in at most one station each (`Asking`); the count over the layout is the count over the case.
-use mathlib.Core.Path.{refl, _∙_}
-use Prim.Native.Nat.{_-_}
-use native.Mathlib.Omega.{arith}
-use Rattle.numbers.specs.law.Question.{firstNo}
+use Rattle.case.proofs.Common.{arith, _∙_, refl, _-_, firstNo, Asking, asking, asking-on, asking-no, asking-end}
 use Rattle.case.specs.law.OneStation.{oneStation, allOneStation}
 use Rattle.case.proofs.Ruled.{stations-with, one-no, one-yes}
-use Rattle.numbers.specs.inside.ItemLaws.{Asking, asking, asking-on, asking-no, asking-end}
 use Rattle.case.proofs.rules.one_station.Statement.{statement}
 use Rattle.case.proofs.rules.one_station.Tie as tie
 

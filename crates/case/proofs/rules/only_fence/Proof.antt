@@ -1,8 +1,6 @@
 -- Being within both sets is holding only nodes that are in both (`only-both`); the first test decides where it fails.
 use mathlib.Core.Bool.{_&&_}
-use mathlib.Core.Path.{_≡_, sym, _∙_}
-use borrow.Author.Needs.{needs}
-use mir.Facts.{toZ-ofZ}
+use Rattle.case.proofs.Common.{needs, _∙_, _≡_, sym, toZ-ofZ}
 use Rattle.numbers.specs.law.Sets.{subsetOf}
 use Rattle.case.specs.inside.SetLaws.{only-both}
 use Rattle.case.specs.law.Directions.{onlyFence}

@@ -1,9 +1,5 @@
 -- The answers of 13 to 16 are put together; 17 is asked where none of them is a no, so that each station has at most 30 arcs.
-use mathlib.Core.Path.{_≡_, sym, _∙_}
-use borrow.Author.Needs.{needs}
-use denote.Ref.{now}
-use Rattle.numbers.specs.law.Question.{firstNo}
-use Rattle.numbers.specs.inside.QuestionLaws.{firstNo-append}
+use Rattle.case.proofs.Common.{needs, _∙_, _≡_, sym, now, firstNo, firstNo-append}
 use Rattle.case.specs.law.Judged.{earlyRules, ruleQuestions}
 use Rattle.case.specs.inside.CountsInRange.{rules-sized}
 use Rattle.case.specs.law.States.{allStateSets}

@@ -1,16 +1,10 @@
 -- The tests are made in the law's order, on the sets of the state at step 0; they are read back as they are.
-use mathlib.Core.Path.{_≡_, sym, ap, _∙_}
-use borrow.Author.Needs.{needs}
-use denote.Ref.{now}
-use mir.Facts.{toZ-ofZ}
-use mir.Syntax.{w64}
-use mir.Val.{toZ, ofZ}
+use Rattle.case.proofs.Common.{needs, _∙_, _≡_, ap, sym, now, kept-is, w64, toZ, ofZ, toZ-ofZ}
 use Rattle.numbers.specs.law.Sets.{subsetOf}
 use Rattle.case.specs.law.Records.{stateRow, stationRow}
 use Rattle.case.specs.law.States.{startKept}
 use Rattle.case.specs.declared.records.State.{State}
 use Rattle.case.specs.declared.records.Station.{Station}
-use Rattle.numbers.specs.inside.SignedLocals.{kept-is}
 use Rattle.case.proofs.rules.start_kept.Statement.{statement}
 use Rattle.case.proofs.rules.start_kept.Tie as tie
 

@@ -1,14 +1,9 @@
 -- The stations before `s` keep 17 (`Asking`); the layout says where a station's rows begin.
-use mathlib.Core.Path.{refl}
-use Prim.Native.Nat.{_<_, _-_}
-use native.Mathlib.Omega.{arith}
+use Rattle.case.proofs.Common.{arith, refl, now, _-_, _<_, firstNo, Asking, asking, asking-on, asking-no, asking-end}
 use borrow.Author.Tests.{not-true, not-false}
-use denote.Ref.{now}
-use Rattle.numbers.specs.law.Question.{firstNo}
 use Rattle.case.specs.law.Layout.{stationsOf}
 use Rattle.case.specs.law.States.{stateSets, allStateSets}
 use Rattle.case.proofs.Ruled.{states-asked}
-use Rattle.numbers.specs.inside.ItemLaws.{Asking, asking, asking-on, asking-no, asking-end}
 use Rattle.case.proofs.rules.state_sets.Statement.{statement}
 use Rattle.case.proofs.rules.state_sets.Tie as tie
 

@@ -1,14 +1,7 @@
 -- The states before `z` keep 17 (`Keeping`); count and set are read back as they are.
 use mathlib.Core.Bool.{Bool}
-use mathlib.Core.Path.{_≡_, ap}
-use Prim.Native.Nat.{_-_}
-use native.Mathlib.Omega.{arith}
-use borrow.Author.Needs.{needs}
+use Rattle.case.proofs.Common.{needs, arith, _≡_, ap, now, _-_, w64, toZ, ofZ, toZ-ofZ}
 use borrow.Author.Tests.{not-true, not-false}
-use denote.Ref.{now}
-use mir.Facts.{toZ-ofZ}
-use mir.Syntax.{w64}
-use mir.Val.{toZ, ofZ}
 use Rattle.case.specs.law.States.{stateKept}
 use Rattle.case.specs.law.StationArcs.{every}
 use Rattle.case.specs.declared.records.Station.{Station}

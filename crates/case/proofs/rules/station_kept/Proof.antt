@@ -1,19 +1,11 @@
 -- The three sets that the tests go by are those of the law; the tests are made in the law's order.
-use mathlib.Core.Path.{_≡_, sym, ap, _∙_}
-use Prim.Native.Nat.{ℕ}
-use native.Mathlib.Omega.{arith}
-use borrow.Author.Needs.{needs}
-use denote.Ref.{now}
-use lib.IntN.{pos}
-use mir.Syntax.{w64}
-use mir.Val.{toZ, ofZ}
+use Rattle.case.proofs.Common.{needs, arith, _∙_, _≡_, ap, sym, now, ℕ, kept-is, w64, toZ, ofZ, pos}
 use Rattle.case.specs.law.Layout.{arcsOf, stationAt}
 use Rattle.case.specs.law.Records.{stationOf, stationRow}
 use Rattle.case.specs.law.States.{stateKept, machinesKept, activeAtStart, startSet, stationKept}
 use Rattle.case.specs.law.StationArcs.{arcsBefore, stationArcs, arcSet, every}
 use Rattle.case.specs.law.StationFields.{firstItems}
 use Rattle.case.specs.declared.records.Station.{Station}
-use Rattle.numbers.specs.inside.SignedLocals.{kept-is}
 use Rattle.case.proofs.rules.station_kept.Statement.{statement}
 use Rattle.case.proofs.rules.station_kept.Tie as tie
 

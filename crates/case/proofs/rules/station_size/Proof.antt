@@ -1,13 +1,8 @@
 -- The stations before `s` have at most 30 arcs each (`Asking`); the layout has the count of arcs that the case has.
-use mathlib.Core.Path.{refl, ap, _∙_}
-use Prim.Native.Nat.{_-_}
-use native.Mathlib.Omega.{arith}
-use borrow.Author.Needs.{needs}
-use Rattle.numbers.specs.law.Question.{firstNo}
+use Rattle.case.proofs.Common.{needs, arith, _∙_, ap, refl, _-_, firstNo, Asking, asking, asking-on, asking-no, asking-end}
 use Rattle.case.specs.law.StationArcs.{arcsBefore}
 use Rattle.case.specs.law.StationSize.{stationSize, allStationSizes}
 use Rattle.case.proofs.Ruled.{size-no, size-yes}
-use Rattle.numbers.specs.inside.ItemLaws.{Asking, asking, asking-on, asking-no, asking-end}
 use Rattle.case.proofs.rules.station_size.Statement.{statement}
 use Rattle.case.proofs.rules.station_size.Tie as tie
 

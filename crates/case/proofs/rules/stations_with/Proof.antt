@@ -1,10 +1,6 @@
 -- `n` counts the stations so far whose node set has the node (`Tally`); a set is read back as it is.
 use mathlib.Core.Logic.{⊎-elim}
-use mathlib.Core.Path.{sym, _∙_}
-use Prim.Native.Nat.{_-_}
-use native.Mathlib.Omega.{arith}
-use borrow.Author.Needs.{needs}
-use lib.IntN.{pos}
+use Rattle.case.proofs.Common.{needs, arith, _∙_, sym, _-_, pos}
 use lib.ListN.{getD}
 use Rattle.case.specs.inside.InSet.{inSet}
 use Rattle.numbers.specs.inside.SignedLocals.{kept}

@@ -1,16 +1,9 @@
 -- The rows of the directions before `f` have no "no" (`Asking`); a row has two sets and a weight.
-use mathlib.Core.Path.{_≡_, refl}
-use Prim.Native.Nat.{_-_}
-use native.Mathlib.Omega.{arith}
-use borrow.Author.Needs.{needs}
-use denote.Ref.{now}
+use Rattle.case.proofs.Common.{needs, arith, _≡_, refl, now, _-_, firstNo, firstNo-append, Asking, asking, asking-on, asking-no, asking-end}
 use Rattle.numbers.specs.law.Items.{over}
-use Rattle.numbers.specs.law.Question.{firstNo}
-use Rattle.numbers.specs.inside.QuestionLaws.{firstNo-append}
 use Rattle.case.specs.law.Layout.{directionAt}
 use Rattle.case.specs.law.StationFields.{directionFields}
 use Rattle.case.proofs.Asked.{chain}
-use Rattle.numbers.specs.inside.ItemLaws.{Asking, asking, asking-on, asking-no, asking-end}
 use Rattle.case.proofs.stations.direction_rows.Statement.{statement}
 use Rattle.case.proofs.stations.direction_rows.Tie as tie
 

@@ -1,9 +1,7 @@
 -- A one shifted by n places, less one, is the set of the first n items, and fits where n is below 62.
-use native.Mathlib.Omega.{arith}
-use borrow.Author.Needs.{needs}
+use Rattle.case.proofs.Common.{needs, arith, w64}
 use lib.Pow.{pow-pos}
 use mir.Facts.{toZ-pos}
-use mir.Syntax.{w64}
 use Rattle.numbers.specs.inside.ItemBits.{shifted, items-fit}
 use Rattle.case.proofs.stations.first_items.Statement.{statement}
 use Rattle.case.proofs.stations.first_items.Tie as tie

@@ -1,8 +1,5 @@
 -- The counts that were read are the station's and in range (`StationRead`); the answers of the three groups are put together.
-use native.Mathlib.Omega.{arith}
-use borrow.Author.Needs.{needs}
-use denote.Ref.{now}
-use Rattle.numbers.specs.inside.QuestionLaws.{firstNo-append}
+use Rattle.case.proofs.Common.{needs, arith, now, firstNo-append}
 use Rattle.case.specs.law.Layout.{directionAt, stateAt, machineAt}
 use Rattle.case.specs.law.StationFields.{partFields}
 use Rattle.case.proofs.Asked.{chain}

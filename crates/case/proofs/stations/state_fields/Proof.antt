@@ -1,7 +1,5 @@
 -- The set of directions that was handed in is read back as it is; the answers of the three groups are put together.
-use borrow.Author.Needs.{needs}
-use mir.Facts.{toZ-ofZ}
-use Rattle.numbers.specs.inside.QuestionLaws.{firstNo-append}
+use Rattle.case.proofs.Common.{needs, firstNo-append, toZ-ofZ}
 use Rattle.case.specs.law.StationFields.{stateRowFields}
 use Rattle.case.proofs.stations.state_fields.Statement.{statement}
 use Rattle.case.proofs.stations.state_fields.Tie as tie

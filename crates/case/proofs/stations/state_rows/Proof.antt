@@ -1,15 +1,8 @@
 -- The rows of the states before `z` have no "no" (`Asking`); which directions a state may name goes by their count.
-use mathlib.Core.Path.{_≡_, refl, ap, _∙_}
-use Prim.Native.Nat.{_-_}
-use native.Mathlib.Omega.{arith}
-use borrow.Author.Needs.{needs}
-use denote.Ref.{now}
+use Rattle.case.proofs.Common.{needs, arith, _∙_, _≡_, ap, refl, now, _-_, firstNo, kept-is, Asking, asking, asking-on, asking-no, asking-end}
 use Rattle.numbers.specs.law.Items.{over}
-use Rattle.numbers.specs.law.Question.{firstNo}
 use Rattle.case.specs.law.StationFields.{stateFields, firstItems}
 use Rattle.case.proofs.Rows.{state-row}
-use Rattle.numbers.specs.inside.ItemLaws.{Asking, asking, asking-on, asking-no, asking-end}
-use Rattle.numbers.specs.inside.SignedLocals.{kept-is}
 use Rattle.case.proofs.stations.state_rows.Statement.{statement}
 use Rattle.case.proofs.stations.state_rows.Tie as tie
 

@@ -1,7 +1,5 @@
 -- The counts that were read are the station's and in range (`StationRead`), so the sum fits and is where its rows end.
-use native.Mathlib.Omega.{arith}
-use borrow.Author.Needs.{needs}
-use denote.Ref.{now}
+use Rattle.case.proofs.Common.{needs, arith, now}
 use Rattle.case.specs.law.Layout.{directionAt, stateAt, machineAt}
 use Rattle.case.proofs.Counting.{StationRead, station-read}
 use Rattle.case.proofs.stations.station_end.Statement.{statement}

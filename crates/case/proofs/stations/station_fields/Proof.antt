@@ -1,6 +1,5 @@
 -- The parts are read where no field of the station's first row is refused, so that its counts are in range.
-use mathlib.Core.Path.{sym, _∙_}
-use borrow.Author.Needs.{needs}
+use Rattle.case.proofs.Common.{needs, _∙_, sym}
 use Rattle.case.specs.inside.CountsInRange.{station-counted}
 use Rattle.case.specs.law.StationFields.{stationHead, partFields, rowFields}
 use Rattle.case.proofs.Asked.{stopped, went}

@@ -1,12 +1,9 @@
 -- The last direction and the last state go by the counts that were read; the answers of the five fields are put together.
-use mathlib.Core.Path.{ap, _∙_}
-use borrow.Author.Needs.{needs}
-use Rattle.numbers.specs.inside.QuestionLaws.{firstNo-append}
+use Rattle.case.proofs.Common.{needs, _∙_, ap, firstNo-append, kept-is}
 use Rattle.case.specs.law.Field.{lastOf}
 use Rattle.case.specs.law.StationFields.{stationHead}
 use Rattle.case.proofs.Asked.{chain}
 use Rattle.case.proofs.Counting.{first-is}
-use Rattle.numbers.specs.inside.SignedLocals.{kept-is}
 use Rattle.case.proofs.stations.station_head.Statement.{statement}
 use Rattle.case.proofs.stations.station_head.Tie as tie
 

@@ -1,17 +1,12 @@
 -- The rows of the stations before `s` have no "no" (`Asking`), so a station begins where the one before it ends.
-use mathlib.Core.Path.{_≡_, refl, sym, ap, _∙_}
+use Rattle.case.proofs.Common.{needs, arith, _∙_, _≡_, ap, sym, refl, now, firstNo, Asking, asking, asking-on, asking-no, asking-end}
 use Prim.Native.Nat.{ℕ, _≤_, _-_, _+_, _*_}
-use native.Mathlib.Omega.{arith}
-use borrow.Author.Needs.{needs}
-use denote.Ref.{now}
-use Rattle.numbers.specs.law.Question.{firstNo}
 use Rattle.numbers.specs.inside.QuestionLaws.{orElse-yes}
 use Rattle.case.specs.law.Layout.{stationsOf, stationEnd, stationAt}
 use Rattle.case.specs.law.Leftover.{leftover}
 use Rattle.case.specs.inside.CountsInRange.{row-counted, station-next, end-most}
 use Rattle.case.specs.law.StationFields.{rowFields, stationFields, allStationFields}
 use Rattle.case.proofs.Asked.{stopped, went}
-use Rattle.numbers.specs.inside.ItemLaws.{Asking, asking, asking-on, asking-no, asking-end}
 use Rattle.case.specs.inside.Counts.{StationCounted}
 use Rattle.case.proofs.stations.station_rows.Statement.{statement}
 use Rattle.case.proofs.stations.station_rows.Tie as tie

@@ -1,16 +1,9 @@
 -- The code's two comparisons and the length by the layout are the three tests of 20; the counts of an accepted case keep all small.
-use mathlib.Core.Path.{_≡_, ap, _∙_}
-use native.Mathlib.Omega.{arith}
-use denote.Ref.{now}
-use lib.IntN.{pos}
-use lib.Dec.{eqb}
-use lib.ListN.{length}
-use Rattle.numbers.specs.inside.SignedLocals.{kept}
+use Rattle.plan.proofs.Common.{_≡_, ap, _∙_, arith, needs, now, eqb, pos, length, kept}
 use Rattle.case.specs.law.Layout.{numberAt, stepsOf}
 use Rattle.plan.specs.law.Compared.{same}
 use Rattle.plan.specs.inside.VerdictLaws.{head-length, head-yes, head-second, head-first}
 use Rattle.plan.proofs.StepsLoop.{small}
-use borrow.Author.Needs.{needs}
 use Rattle.plan.proofs.judge.head_kept.Statement.{statement}
 use Rattle.plan.proofs.judge.head_kept.Tie as tie
 

@@ -1,7 +1,5 @@
 -- The verdict on an accepted case is that on the plan, and otherwise the case's own refusal.
-use mathlib.Core.Path.{_≡_, _∙_}
-use denote.Ref.{now}
-use borrow.Author.Needs.{needs}
+use Rattle.plan.proofs.Common.{_≡_, _∙_, needs, now}
 use Rattle.numbers.specs.law.Question.{firstNo}
 use Rattle.case.specs.law.Judged.{caseQuestions}
 use Rattle.plan.specs.inside.Preconditions.{AcceptedCase}

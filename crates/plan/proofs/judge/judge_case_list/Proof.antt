@@ -1,9 +1,7 @@
 -- The plan's bytes are reached only past an accepted case; otherwise the case's refusal is told and the plan's list stays.
-use mathlib.Core.Path.{_≡_, _∙_}
-use borrow.Author.Needs.{needs}
+use Rattle.plan.proofs.Common.{_≡_, _∙_, needs, now}
 use Rattle.numbers.specs.law.Question.{firstNo}
 use Rattle.case.specs.law.Judged.{caseQuestions}
-use denote.Ref.{now}
 use Rattle.plan.specs.inside.Preconditions.{AcceptedCase}
 use Rattle.plan.specs.inside.CaseSizes.{list-yes}
 use Rattle.plan.specs.inside.VerdictLaws.{case-answer, case-passed, list-reached, case-stopped}

@@ -1,6 +1,5 @@
 -- 20 decides; past it the plan has the length that the steps need, and their verdict is the plan's.
-use mathlib.Core.Path.{sym, _∙_}
-use borrow.Author.Needs.{needs}
+use Rattle.plan.proofs.Common.{sym, _∙_, needs}
 use Rattle.plan.specs.inside.VerdictLaws.{plan-laid, head-refused, head-passed}
 use Rattle.plan.proofs.judge.judge_plan.Statement.{statement}
 use Rattle.plan.proofs.judge.judge_plan.Tie as tie

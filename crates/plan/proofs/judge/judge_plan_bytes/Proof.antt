@@ -1,10 +1,5 @@
 -- The reading's end decides: all was read, and the verdict is that on the list's front; or a refusal, with the plan's number for it.
-use mathlib.Core.Path.{ap, sym, _∙_}
-use Prim.Native.Nat.{_≤_}
-use native.Mathlib.Omega.{arith}
-use borrow.Author.Needs.{needs}
-use denote.Ref.{now}
-use lib.ListN.{length}
+use Rattle.plan.proofs.Common.{sym, ap, _∙_, _≤_, arith, needs, now, length}
 use lib.Seq.{length-take-le}
 use Rattle.numbers.specs.law.CodecTold.{readingTold}
 use Rattle.plan.specs.inside.VerdictLaws.{ReadAll, read-all, read-no, read-front, plan-read, plan-unread}

@@ -1,6 +1,5 @@
 -- The code's match and the law's two tests go by the same number.
-use native.Mathlib.Omega.{arith}
-use borrow.Author.Tests.{eq-eqb, ne-eqb}
+use Rattle.plan.proofs.Common.{arith, eq-eqb, ne-eqb}
 use Rattle.plan.proofs.judge.plan_number.Statement.{statement}
 use Rattle.plan.proofs.judge.plan_number.Tie as tie
 

@@ -1,13 +1,7 @@
 -- The gas at both times goes by pressures that an array holds, and the two sums are those gathered for the set.
-use mathlib.Core.Path.{refl, _∙_}
-use native.Mathlib.Omega.{arith}
-use borrow.Author.Needs.{needs}
-use mir.Facts.{toZ-ofZ}
-use denote.Ref.{now}
-use Rattle.plan.specs.inside.CaseSizes.{counted}
+use Rattle.plan.proofs.Common.{refl, _∙_, arith, needs, now, toZ-ofZ, kept, counted}
 use Rattle.plan.specs.inside.RegionLoop.{Gathering, pressures-held, gas-held}
 use Rattle.plan.specs.inside.LedgerAnswer.{figures-are}
-use Rattle.numbers.specs.inside.SignedLocals.{kept}
 use Rattle.plan.proofs.Adding.{got}
 use Rattle.plan.proofs.ledger.figures.Statement.{statement}
 use Rattle.plan.proofs.ledger.figures.Tie as tie

@@ -1,9 +1,6 @@
 -- One bit shifted by n and less 1 is the set of the first n items, and 60 of them fit a signed number.
-use borrow.Author.Needs.{needs}
-use native.Mathlib.Omega.{arith}
-use mir.Syntax.{w64}
+use Rattle.plan.proofs.Common.{arith, needs, w64, toZ-pos}
 use lib.Pow.{pow-pos}
-use mir.Facts.{toZ-pos}
 use Rattle.numbers.specs.inside.ItemBits.{shifted, items-fit}
 use Rattle.plan.proofs.ledger.first_nodes.Statement.{statement}
 use Rattle.plan.proofs.ledger.first_nodes.Tie as tie

@@ -1,12 +1,7 @@
 -- A set of nodes and more has a lowest item past the case's nodes, which is looked for from there on; any other set has place 0.
-use mathlib.Core.Path.{_≡_, sym, _∙_}
-use native.Mathlib.Omega.{arith}
-use borrow.Author.Needs.{needs}
-use mir.Facts.{toZ-ofZ}
-use denote.Ref.{now}
+use Rattle.plan.proofs.Common.{_≡_, sym, _∙_, arith, needs, now, toZ-ofZ, kept}
 use Rattle.case.specs.law.Layout.{nodesOf}
 use Rattle.plan.specs.law.Ledger.{isNodeSet, foreignNode}
-use Rattle.numbers.specs.inside.SignedLocals.{kept}
 use Rattle.plan.proofs.Adding.{count-read}
 use Rattle.plan.proofs.ledger.foreign_node.Statement.{statement}
 use Rattle.plan.proofs.ledger.foreign_node.Tie as tie

@@ -1,11 +1,6 @@
 -- What is gathered before step i is that of the steps from s on; each turn adds the step's rows, which lie in the plan's list.
 use mathlib.Core.Path.{_≡_, subst}
-use Prim.Native.Nat.{ℕ, _-_, _≤_, _<_}
-use native.Mathlib.Omega.{arith}
-use mir.Facts.{toZ-ofZ}
-use mir.Syntax.{w64}
-use mir.Val.{toZ}
-use denote.Ref.{now}
+use Rattle.plan.proofs.Common.{ℕ, _-_, _<_, _≤_, arith, now, w64, toZ, toZ-ofZ}
 use Rattle.case.specs.law.Layout.{stepsOf}
 use Rattle.plan.specs.inside.RegionLoop.{Gathering, StepWithin, gathering, step-handed, room, turn, step-within, row-is}
 use Rattle.plan.proofs.ledger.gather.Statement.{statement}

@@ -1,8 +1,5 @@
 -- An accepted plan leaves 40 and 41 to decide, and a refused one decides; what was read back of the set and the times is what was given.
-use mathlib.Core.Path.{sym, ap, _∙_}
-use borrow.Author.Needs.{needs}
-use mir.Facts.{toZ-ofZ}
-use denote.Ref.{now}
+use Rattle.plan.proofs.Common.{sym, ap, _∙_, needs, now, toZ-ofZ}
 use Rattle.plan.specs.law.Judged.{verdictTold}
 use Rattle.plan.specs.claims.Acceptance.{sound}
 use Rattle.plan.specs.inside.LedgerVerdict.{ledger-after, ledger-refused}

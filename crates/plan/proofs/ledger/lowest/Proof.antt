@@ -1,11 +1,5 @@
 -- The lowest item from n on is the lowest from v on, as no item between them is in the set.
-use mathlib.Core.Path.{_≡_, refl, sym, _∙_}
-use Prim.Native.Nat.{_-_, _≤_}
-use native.Mathlib.Omega.{arith}
-use borrow.Author.Needs.{needs}
-use mir.Facts.{toZ-ofZ}
-use mir.Syntax.{w64}
-use mir.Val.{toZ}
+use Rattle.plan.proofs.Common.{_≡_, refl, sym, _∙_, _-_, _≤_, arith, needs, w64, toZ, toZ-ofZ}
 use Rattle.plan.specs.law.Ledger.{lowestOf}
 use Rattle.plan.proofs.RegionTests.{lowest-here, lowest-on, lowest-none}
 use Rattle.plan.proofs.ledger.lowest.Statement.{statement}

@@ -1,14 +1,8 @@
 -- The set is first held against all 60 items, and then against the case's nodes: the two tests of the law, in its order.
-use mathlib.Core.Path.{_≡_, sym, ap, _∙_}
-use Prim.Native.Nat.{_≤_}
-use native.Mathlib.Omega.{arith}
-use borrow.Author.Needs.{needs}
-use mir.Facts.{toZ-ofZ}
-use denote.Ref.{now}
+use Rattle.plan.proofs.Common.{_≡_, sym, ap, _∙_, _≤_, arith, needs, now, toZ-ofZ, kept}
 use Rattle.case.specs.law.Layout.{nodesOf}
 use Rattle.case.specs.law.StationFields.{firstItems}
 use Rattle.plan.specs.law.Ledger.{isNodeSet, namesNodes}
-use Rattle.numbers.specs.inside.SignedLocals.{kept}
 use Rattle.plan.proofs.Adding.{count-read}
 use Rattle.plan.proofs.ledger.names_nodes.Statement.{statement}
 use Rattle.plan.proofs.ledger.names_nodes.Tie as tie

@@ -1,9 +1,5 @@
 -- At time 0 they are the case's, and at a later time those in the rows of the step before, which lie in the plan's list.
-use Prim.Native.Nat.{_-_, _≤_}
-use native.Mathlib.Omega.{arith}
-use borrow.Author.Needs.{needs}
-use denote.Ref.{now}
-use Rattle.plan.specs.inside.CaseSizes.{counted}
+use Rattle.plan.proofs.Common.{_-_, _≤_, arith, needs, now, counted}
 use Rattle.plan.specs.inside.RegionLoop.{StepWithin, step-within, row-is, pressures-first, pressures-after}
 use Rattle.plan.proofs.ledger.pressures_at.Statement.{statement}
 use Rattle.plan.proofs.ledger.pressures_at.Tie as tie

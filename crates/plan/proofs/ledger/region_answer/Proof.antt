@@ -1,13 +1,8 @@
 -- A set that names other than nodes is refused with the lowest such item; any other is asked for its times.
-use mathlib.Core.Path.{_≡_, sym, ap, _∙_}
-use mathlib.Core.Bool.{Bool}
-use borrow.Author.Needs.{needs}
-use mir.Facts.{toZ-ofZ}
-use denote.Ref.{now}
+use Rattle.plan.proofs.Common.{_≡_, sym, ap, _∙_, Bool, needs, now, toZ-ofZ, counted}
 use Rattle.numbers.specs.law.Question.{answer}
 use Rattle.numbers.specs.inside.QuestionLaws.{orElse-yes}
 use Rattle.numbers.specs.declared.answer.Answer.the-variants.{No}
-use Rattle.plan.specs.inside.CaseSizes.{counted}
 use Rattle.plan.specs.law.Ledger.{namesNodes, regionQuestions}
 use Rattle.plan.proofs.ledger.region_answer.Statement.{statement}
 use Rattle.plan.proofs.ledger.region_answer.Tie as tie

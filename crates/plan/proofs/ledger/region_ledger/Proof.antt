@@ -1,17 +1,11 @@
 -- Once 40 and 41 are answered yes the times are in order, and so the figures may be computed; a no is the answer itself.
-use mathlib.Core.Path.{_≡_, sym, ap, _∙_}
-use Prim.Native.Nat.{_≤_}
-use native.Mathlib.Omega.{arith}
-use borrow.Author.Needs.{needs}
-use mir.Facts.{toZ-ofZ}
-use denote.Ref.{now}
+use Rattle.plan.proofs.Common.{_≡_, sym, ap, _∙_, _≤_, arith, needs, now, toZ-ofZ, counted}
 use Rattle.numbers.specs.law.Signed.{posPart}
 use Rattle.numbers.specs.law.Question.{firstNo}
 use Rattle.numbers.specs.declared.answer.Answer.the-variants.{Yes}
 use Rattle.case.specs.law.Layout.{nodesOf, arcsOf, stationsOf}
 use Rattle.plan.specs.declared.figures.Ledger.the-variants.{Given}
 use Rattle.plan.specs.law.PlanLayout.{stepWidth}
-use Rattle.plan.specs.inside.CaseSizes.{counted}
 use Rattle.plan.specs.law.Ledger.{regionQuestions}
 use Rattle.plan.specs.inside.LedgerVerdict.{times-kept}
 use Rattle.plan.specs.inside.LedgerAnswer.{in-order}

@@ -1,12 +1,5 @@
 -- The code asks the law's three comparisons in the law's order, and stops at the first no.
-use mathlib.Core.Path.{_≡_, sym, ap, ap₂, _∙_}
-use native.Mathlib.Omega.{arith}
-use borrow.Author.Needs.{needs}
-use mir.Facts.{toZ-ofZ, toZ-pos}
-use mir.Syntax.{w64}
-use lib.IntN.{pos}
-use denote.Ref.{now}
-use lib.Signed.{leZ}
+use Rattle.plan.proofs.Common.{_≡_, sym, ap, ap₂, _∙_, arith, needs, now, pos, leZ, w64, toZ-ofZ, toZ-pos}
 use Rattle.case.specs.law.Layout.{stepsOf}
 use Rattle.plan.specs.law.Ledger.{timesOrdered}
 use Rattle.plan.proofs.Adding.{count-read}

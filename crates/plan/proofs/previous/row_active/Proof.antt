@@ -1,12 +1,5 @@
 -- The array holds the activity of the arcs passed, and each turn sets that of the next arc.
-use mathlib.Core.Path.{ap, _∙_}
-use Prim.Native.Nat.{_-_}
-use native.Mathlib.Omega.{arith}
-use borrow.Author.Needs.{needs}
-use mathlib.Core.Bool.{false}
-use lib.IntN.{pos}
-use lib.Signed.{leZ}
-use Rattle.numbers.specs.inside.SignedLocals.{kept}
+use Rattle.plan.proofs.Common.{ap, _∙_, false, _-_, arith, needs, pos, leZ, kept}
 use Rattle.plan.specs.declared.rows.ArcRow.{ArcRow}
 use Rattle.plan.specs.law.PlanRecords.{activeIn}
 use Rattle.plan.proofs.Filled.{Filling, start, turn, end}

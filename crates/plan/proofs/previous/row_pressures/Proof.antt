@@ -1,9 +1,5 @@
 -- The array holds the pressures of the nodes passed, and each turn sets that of the next node.
-use mathlib.Core.Path.{_∙_}
-use Prim.Native.Nat.{_-_}
-use native.Mathlib.Omega.{arith}
-use lib.IntN.{pos}
-use Rattle.numbers.specs.inside.SignedLocals.{kept}
+use Rattle.plan.proofs.Common.{_∙_, _-_, arith, pos, kept}
 use Rattle.plan.specs.law.PlanRecords.{pressureIn}
 use Rattle.plan.proofs.Filled.{Filling, start, turn, end}
 use Rattle.plan.proofs.previous.row_pressures.Statement.{statement}

@@ -1,8 +1,5 @@
 -- The array holds the states of the stations passed, and each turn sets that of the next station.
-use mathlib.Core.Path.{ap}
-use Prim.Native.Nat.{_-_}
-use native.Mathlib.Omega.{arith}
-use borrow.Author.Needs.{needs}
+use Rattle.plan.proofs.Common.{ap, _-_, arith, needs}
 use Rattle.plan.specs.declared.rows.Choice.{Choice}
 use Rattle.plan.specs.law.PlanRecords.{stateIn}
 use Rattle.plan.proofs.Filled.{Filling, start, turn, end}

@@ -1,9 +1,5 @@
 -- The array holds the activity at the start of the arcs passed, and each turn sets that of the next arc.
-use mathlib.Core.Path.{refl}
-use Prim.Native.Nat.{_-_}
-use native.Mathlib.Omega.{arith}
-use borrow.Author.Needs.{needs}
-use mathlib.Core.Bool.{false}
+use Rattle.plan.proofs.Common.{refl, false, _-_, arith, needs}
 use Rattle.case.specs.law.States.{activeAtStart}
 use Rattle.plan.proofs.Filled.{Filling, start, turn, end}
 use Rattle.plan.proofs.previous.start_active.Statement.{statement}

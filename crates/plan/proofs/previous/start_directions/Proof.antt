@@ -1,9 +1,5 @@
 -- The array holds the directions of the stations passed; each is read from the station's row, where the layout says it begins.
-use mathlib.Core.Path.{refl, ap, _∙_}
-use Prim.Native.Nat.{_-_}
-use native.Mathlib.Omega.{arith}
-use borrow.Author.Needs.{needs}
-use denote.Ref.{now}
+use Rattle.plan.proofs.Common.{refl, ap, _∙_, _-_, arith, needs, now}
 use Rattle.case.specs.declared.records.Station.{Station}
 use Rattle.case.specs.law.Layout.{stationsOf}
 use Rattle.case.specs.law.Records.{stationRow}

@@ -1,11 +1,6 @@
 -- The array holds p0 of the nodes passed, and each turn sets that of the next node.
-use mathlib.Core.Path.{refl, ap, _∙_}
-use Prim.Native.Nat.{_-_}
-use native.Mathlib.Omega.{arith}
-use borrow.Author.Needs.{needs}
-use lib.IntN.{pos}
+use Rattle.plan.proofs.Common.{refl, ap, _∙_, _-_, arith, needs, pos, kept}
 use Rattle.case.specs.declared.records.Node.{Node}
-use Rattle.numbers.specs.inside.SignedLocals.{kept}
 use Rattle.plan.specs.law.BeforeStep.{startPressure}
 use Rattle.plan.proofs.Filled.{Filling, start, turn, end}
 use Rattle.plan.proofs.previous.start_pressures.Statement.{statement}

@@ -1,12 +1,6 @@
 -- One term follows the code's sum and product, and says both that they fit and what they are.
-use native.Mathlib.Omega.{arith}
-use borrow.Author.Needs.{needs}
-use mir.Facts.{toZ-ofZ}
-use mir.Syntax.{w64}
-use mir.Val.{toZ, ofZ}
+use Rattle.plan.proofs.Common.{arith, needs, now, w64, toZ, ofZ, toZ-ofZ, Held, held, held-fits, _+ʳ_, _*ʳ_}
 use lib.IntN.{_+ℤ_, _*ℤ_}
-use denote.Ref.{now}
-use Rattle.numbers.specs.inside.SignedLocals.{Held, held, held-fits, _+ʳ_, _*ʳ_}
 use Rattle.plan.specs.law.Region.{suppliesIn, edgeFlows, broughtIn}
 use Rattle.plan.specs.inside.CaseSizes.{counted, duration-sized}
 use Rattle.plan.specs.inside.RegionSizes.{supplies-small, edges-small, step-flows}

@@ -1,19 +1,12 @@
 -- Both flows of the arc are read back as the law has them, and the inward flow of the same two answers and flows is the same.
-use mathlib.Core.Path.{ap₂, _∙_}
-use mir.Facts.{toZ-ofZ}
-use mir.Syntax.{w64}
-use mir.Val.{toZ, ofZ}
-use denote.Ref.{now}
-use borrow.Author.Needs.{needs}
-use lib.IntN.{ℤ}
+use Rattle.plan.proofs.Common.{ap₂, _∙_, needs, now, ℤ, w64, toZ, ofZ, toZ-ofZ, Held, held, kept}
 use Rattle.case.specs.declared.records.Arc.{Arc}
 use Rattle.numbers.specs.law.Sets.{memberOf}
-use Rattle.numbers.specs.inside.SignedLocals.{Held, held, kept}
 use Rattle.plan.specs.law.Balance.{flowAtFrom, flowAtTo}
 use Rattle.plan.specs.law.Region.{edgeFlow}
 use Rattle.plan.specs.inside.RegionSizes.{from-small, to-small}
 use Rattle.plan.proofs.RegionTests.{inward-same}
-use Rattle.plan.proofs.ArcLaws.{read-bounded}
+use Rattle.plan.proofs.SignedReads.{read-bounded}
 use Rattle.plan.proofs.region.edge_flow.Statement.{statement}
 use Rattle.plan.proofs.region.edge_flow.Tie as tie
 

@@ -1,15 +1,7 @@
 -- The sum so far is that of the arcs passed, and no arc brings more than a bound by which the whole sum fits.
-use mathlib.Core.Path.{ap, _∙_}
-use Prim.Native.Nat.{_-_}
-use native.Mathlib.Omega.{arith}
-use mir.Facts.{toZ-ofZ}
-use mir.Syntax.{w64}
-use mir.Val.{toZ}
-use lib.IntN.{ℤ}
-use denote.Ref.{now}
+use Rattle.plan.proofs.Common.{ap, _∙_, _-_, arith, now, ℤ, w64, toZ, toZ-ofZ, counted}
 use Rattle.case.specs.law.Layout.{arcsOf}
 use Rattle.plan.specs.law.Region.{edgeFlow, edgeFlows}
-use Rattle.plan.specs.inside.CaseSizes.{counted}
 use Rattle.plan.specs.inside.RegionSizes.{edge-small}
 use Rattle.plan.proofs.Adding.{Summing, begun, one-fits, one-more, whole}
 use Rattle.plan.proofs.region.edge_flows.Statement.{statement}

@@ -1,9 +1,5 @@
 -- The pipe's gas counts where it is an inner pipe, by the code's own test of it.
-use mathlib.Core.Path.{_≡_, sym, _∙_}
-use mir.Facts.{toZ-ofZ}
-use borrow.Author.Needs.{needs}
-use Rattle.numbers.specs.inside.SignedLocals.{kept}
-use denote.Ref.{now}
+use Rattle.plan.proofs.Common.{_≡_, sym, _∙_, needs, now, toZ-ofZ, kept}
 use Rattle.plan.specs.law.Pipes.{isPipe}
 use Rattle.plan.specs.law.Totals.{gasPart}
 use Rattle.plan.specs.law.Region.{innerPipe, innerGas}

@@ -1,12 +1,5 @@
 -- The code asks the law's three tests in the law's order, and stops at the first no.
-use mathlib.Core.Path.{_≡_, sym, ap, ap₂, _∙_}
-use mathlib.Core.Bool.{true}
-use lib.IntN.{ℤ}
-use lib.Dec.{eqb}
-use borrow.Author.Tests.{eq-eqb, ne-eqb}
-use borrow.Author.Needs.{needs}
-use mir.Facts.{toZ-ofZ}
-use denote.Ref.{now}
+use Rattle.plan.proofs.Common.{_≡_, sym, ap, ap₂, _∙_, true, needs, eq-eqb, ne-eqb, now, eqb, ℤ, toZ-ofZ}
 use Rattle.case.specs.declared.records.Arc.{Arc}
 use Rattle.numbers.specs.law.Sets.{memberOf}
 use Rattle.plan.specs.law.Pipes.{isPipe}

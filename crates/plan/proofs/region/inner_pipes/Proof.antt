@@ -1,18 +1,8 @@
 -- The count so far is that of the inner pipes among the arcs passed; one arc adds at most one.
-use mathlib.Core.Path.{_≡_, ap, _∙_}
-use mathlib.Core.Bool.{Bool}
-use Prim.Native.Nat.{_-_}
-use native.Mathlib.Omega.{arith}
-use borrow.Author.Needs.{needs}
-use mir.Facts.{toZ-ofZ}
-use mir.Syntax.{w64}
-use mir.Val.{toZ, ofZ}
-use lib.IntN.{ℤ}
-use denote.Ref.{now}
+use Rattle.plan.proofs.Common.{_≡_, ap, _∙_, Bool, _-_, arith, needs, now, ℤ, w64, toZ, ofZ, toZ-ofZ, counted}
 use Rattle.numbers.specs.law.Sums.{onlyN, count}
 use Rattle.case.specs.law.Layout.{arcsOf}
 use Rattle.plan.specs.law.Region.{innerPipe, innerPipes}
-use Rattle.plan.specs.inside.CaseSizes.{counted}
 use Rattle.plan.specs.inside.StepSizes.{only-le}
 use Rattle.plan.proofs.Adding.{Tallying, begunN, one-fitsN, one-moreN, wholeN}
 use Rattle.plan.proofs.region.inner_pipes.Statement.{statement}

@@ -1,8 +1,6 @@
 -- Two answers give four ways: only an arc with one end in the region brings anything, with the sign of that end.
-use mathlib.Core.Path.{_∙_}
-use mir.Facts.{toZ-ofZ}
+use Rattle.plan.proofs.Common.{_∙_, toZ-ofZ, held, held-fits, param, literal, _-ʳ_}
 use lib.IntN.{pos, negℤ, +ℤ-idl}
-use Rattle.numbers.specs.inside.SignedLocals.{param, literal, held-fits, held, _-ʳ_}
 use Rattle.plan.proofs.region.inward.Statement.{statement}
 use Rattle.plan.proofs.region.inward.Tie as tie
 

@@ -1,7 +1,5 @@
 -- The node's residual counts where the set has the node, by the code's own test of it.
-use mathlib.Core.Path.{_≡_, sym, _∙_}
-use mir.Facts.{toZ-ofZ}
-use borrow.Author.Needs.{needs}
+use Rattle.plan.proofs.Common.{_≡_, sym, _∙_, needs, toZ-ofZ}
 use Rattle.numbers.specs.law.Sets.{memberOf}
 use Rattle.plan.specs.law.RegionResidual.{ownNode}
 use Rattle.plan.proofs.region.own_node.Statement.{statement}

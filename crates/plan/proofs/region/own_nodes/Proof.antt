@@ -1,16 +1,8 @@
 -- The sum so far is that of the nodes passed; each node's net flow is read from the array that was filled first, and leaves no more than the tolerance.
-use mathlib.Core.Path.{ap, _∙_}
-use Prim.Native.Nat.{_-_, _≤_}
-use native.Mathlib.Omega.{arith}
-use mir.Facts.{toZ-ofZ}
-use mir.Syntax.{w64}
-use mir.Val.{toZ}
-use lib.IntN.{ℤ, pos}
-use denote.Ref.{now}
+use Rattle.plan.proofs.Common.{ap, _∙_, _-_, _≤_, arith, now, ℤ, pos, w64, toZ, toZ-ofZ, counted}
 use lib.ListN.{getD}
 use Rattle.case.specs.law.Layout.{nodesOf}
 use Rattle.plan.specs.law.RegionResidual.{ownNode, ownNodes}
-use Rattle.plan.specs.inside.CaseSizes.{counted}
 use Rattle.plan.specs.inside.RegionSizes.{own-node-small}
 use Rattle.plan.proofs.Adding.{Tallying, begunN, one-fitsN, one-moreN, wholeN}
 use Rattle.plan.proofs.region.own_nodes.Statement.{statement}

@@ -1,8 +1,5 @@
 -- The pipe's residual counts where it is an inner pipe, by the code's own test of it.
-use mathlib.Core.Path.{_≡_, sym, _∙_}
-use mir.Facts.{toZ-ofZ}
-use borrow.Author.Needs.{needs}
-use denote.Ref.{now}
+use Rattle.plan.proofs.Common.{_≡_, sym, _∙_, needs, now, toZ-ofZ}
 use Rattle.plan.specs.law.Pipes.{isPipe}
 use borrow.Author.Tests.{eqb-true}
 use Rattle.plan.specs.law.Region.{innerPipe}

@@ -1,15 +1,7 @@
 -- The sum so far is that of the arcs passed, and no pipe leaves more than the tolerance allows, by which the whole sum fits.
-use mathlib.Core.Path.{ap, _∙_}
-use Prim.Native.Nat.{_-_}
-use native.Mathlib.Omega.{arith}
-use mir.Facts.{toZ-ofZ}
-use mir.Syntax.{w64}
-use mir.Val.{toZ}
-use lib.IntN.{ℤ}
-use denote.Ref.{now}
+use Rattle.plan.proofs.Common.{ap, _∙_, _-_, arith, now, ℤ, w64, toZ, toZ-ofZ, counted}
 use Rattle.case.specs.law.Layout.{numberAt, arcsOf}
 use Rattle.plan.specs.law.RegionResidual.{ownPipe, ownPipes}
-use Rattle.plan.specs.inside.CaseSizes.{counted}
 use Rattle.plan.specs.inside.RegionSizes.{own-pipe-small}
 use Rattle.plan.proofs.Adding.{Tallying, begunN, one-fitsN, one-moreN, wholeN}
 use Rattle.plan.proofs.region.own_pipes.Statement.{statement}

@@ -1,12 +1,5 @@
 -- The sum so far is that of the nodes passed, and no node supplies more than a bound by which the whole sum fits.
-use mathlib.Core.Path.{ap, _∙_}
-use Prim.Native.Nat.{_-_}
-use native.Mathlib.Omega.{arith}
-use mir.Facts.{toZ-ofZ}
-use mir.Syntax.{w64}
-use mir.Val.{toZ}
-use lib.IntN.{ℤ}
-use denote.Ref.{now}
+use Rattle.plan.proofs.Common.{ap, _∙_, _-_, arith, now, ℤ, w64, toZ, toZ-ofZ}
 use Rattle.case.specs.law.Layout.{nodesOf}
 use Rattle.plan.specs.law.Region.{regionSupply, suppliesIn}
 use Rattle.plan.specs.inside.RegionSizes.{supply-small}

@@ -1,8 +1,5 @@
 -- The node's supply counts where the set has the node, by the code's own test of it.
-use mathlib.Core.Path.{_≡_, sym, ap, _∙_}
-use mir.Facts.{toZ-ofZ}
-use borrow.Author.Needs.{needs}
-use Rattle.numbers.specs.inside.SignedLocals.{kept}
+use Rattle.plan.proofs.Common.{_≡_, sym, ap, _∙_, needs, toZ-ofZ, kept}
 use Rattle.numbers.specs.law.Sets.{memberOf}
 use Rattle.plan.specs.declared.rows.NodeRow.{NodeRow}
 use Rattle.plan.specs.law.Region.{regionSupply}

@@ -1,18 +1,10 @@
 -- Each figure is the old one with the step's: what a kept step brings and leaves is small, and so neither sum is too large.
 use mathlib.Core.Path.{_≡_, ap, ap₂, _∙_, subst}
-use Prim.Native.Nat.{ℕ, _+_}
-use native.Mathlib.Omega.{arith}
-use borrow.Author.Needs.{needs}
-use mir.Facts.{toZ-ofZ}
-use mir.Syntax.{w64}
-use mir.Val.{toZ, ofZ}
-use lib.IntN.{pos, _+ℤ_}
-use denote.Ref.{now}
+use Rattle.plan.proofs.Common.{ℕ, _+_, arith, needs, now, pos, _+ℤ_, w64, toZ, ofZ, toZ-ofZ, counted}
 use Rattle.case.specs.law.Layout.{numberAt}
 use Rattle.case.specs.law.LayoutOf.{Holds}
 use Rattle.numbers.specs.inside.SignedLocals.{Held, plain, held, held-fits, _+ʳ_}
 use Rattle.plan.specs.law.PlanRecords.{pressureIn}
-use Rattle.plan.specs.inside.CaseSizes.{counted}
 use Rattle.plan.specs.law.Region.{broughtIn}
 use Rattle.plan.specs.law.RegionResidual.{regionResidual}
 use Rattle.plan.specs.inside.RegionSizes.{brought-small, residual-small}

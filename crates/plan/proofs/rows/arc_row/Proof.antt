@@ -1,10 +1,5 @@
 -- Each number is read where the law places it: the count of nodes is the case's, and no offset is large.
-use mathlib.Core.Path.{_≡_, _∙_}
-use Prim.Native.Nat.{_<_, _≤_}
-use native.Mathlib.Omega.{arith}
-use denote.Ref.{now}
-use Rattle.numbers.specs.inside.SignedLocals.{kept}
-use borrow.Author.Needs.{needs}
+use Rattle.plan.proofs.Common.{_≡_, _∙_, _<_, _≤_, arith, needs, now, kept}
 use Rattle.case.specs.law.Layout.{nodesOf}
 use Rattle.plan.proofs.Adding.{count-read}
 use Rattle.plan.proofs.rows.arc_row.Statement.{statement}

@@ -1,7 +1,5 @@
 -- Each number is read back as the list has it at the row's place; what is past the end reads as 0 on both sides.
-use mathlib.Core.Path.{_∙_}
-use Rattle.numbers.specs.inside.SignedLocals.{kept}
-use borrow.Author.Needs.{needs}
+use Rattle.plan.proofs.Common.{_∙_, needs, kept}
 use Rattle.plan.proofs.rows.node_row.Statement.{statement}
 use Rattle.plan.proofs.rows.node_row.Tie as tie
 

@@ -1,7 +1,6 @@
 -- The end less the offset is the width, so that the part is the step's own.
-use Prim.Native.Nat.{_+_, _*_}
+use Rattle.plan.proofs.Common.{_+_, _*_, needs}
 use native.Mathlib.Nat.{add-sub-cancel-left}
-use borrow.Author.Needs.{needs}
 use Rattle.plan.proofs.steps.part_of.Statement.{statement}
 use Rattle.plan.proofs.steps.part_of.Tie as tie
 

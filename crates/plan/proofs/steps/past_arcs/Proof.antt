@@ -1,7 +1,5 @@
 -- A no of the stations is the step's; past their yes the balance decides.
-use mathlib.Core.Path.{sym, _∙_}
-use borrow.Author.Needs.{needs}
-use denote.Ref.{now}
+use Rattle.plan.proofs.Common.{sym, _∙_, needs, now}
 use Rattle.plan.proofs.StepGroups.{stations-stop, stations-passed}
 use Rattle.plan.proofs.steps.past_arcs.Statement.{statement}
 use Rattle.plan.proofs.steps.past_arcs.Tie as tie

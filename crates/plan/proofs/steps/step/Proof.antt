@@ -1,7 +1,5 @@
 -- Node, arc and later questions are asked in turn; a no of one group is the step's, and each yes bounds what the next group reads.
-use mathlib.Core.Path.{_≡_, sym, _∙_}
-use borrow.Author.Needs.{needs}
-use denote.Ref.{now}
+use Rattle.plan.proofs.Common.{_≡_, sym, _∙_, needs, now}
 use Rattle.numbers.specs.law.Question.{firstNo}
 use Rattle.numbers.specs.declared.answer.Answer.the-variants.{Yes}
 use Rattle.case.specs.law.Layout.{numberAt}

@@ -1,15 +1,10 @@
 -- What was before step `i` and the totals of the steps before it are `Going`; each turn and both ways out cite its laws.
-use mathlib.Core.Path.{_≡_, refl}
-use Prim.Native.Nat.{_-_, _<_}
-use native.Mathlib.Omega.{arith}
-use borrow.Author.Needs.{needs}
-use denote.Ref.{now}
+use Rattle.plan.proofs.Common.{_≡_, refl, _-_, _<_, arith, needs, now, counted}
 use Rattle.numbers.specs.law.Question.{firstNo}
 use Rattle.numbers.specs.declared.answer.Answer.the-variants.{Yes}
 use Rattle.case.specs.law.Layout.{numberAt, stepsOf}
 use Rattle.plan.specs.inside.Preconditions.{AtStep}
 use Rattle.plan.specs.law.PlanLayout.{stepWidth, stepRows}
-use Rattle.plan.specs.inside.CaseSizes.{counted}
 use Rattle.plan.specs.law.Step.{stepQuestions}
 use Rattle.plan.specs.inside.StepAnswer.{kept-yes, no-first}
 use Rattle.plan.specs.inside.RegionLoop.{part-within}

@@ -1,19 +1,10 @@
 -- The weight counts where both tests of the law hold: the code's two answers are those tests.
-use mathlib.Core.Path.{_≡_, sym, ap, _∙_}
-use mathlib.Core.Bool.{true}
-use lib.Dec.{leb}
-use borrow.Author.Needs.{needs}
-use borrow.Author.Tests.{le-leb, lt-leb}
-use denote.Ref.{now}
-use lib.IntN.{pos}
-use lib.Signed.{leZ}
+use Rattle.plan.proofs.Common.{_≡_, sym, ap, _∙_, true, needs, le-leb, lt-leb, now, leb, pos, leZ, kept, counted}
 use Rattle.case.specs.declared.records.Arc.{Arc}
 use Rattle.case.specs.declared.records.Artificial.{Artificial}
 use Rattle.case.specs.law.Records.{arcOf}
-use Rattle.numbers.specs.inside.SignedLocals.{kept}
 use Rattle.plan.specs.declared.rows.ArcRow.{ArcRow}
 use Rattle.plan.specs.law.PlanRecords.{activeIn}
-use Rattle.plan.specs.inside.CaseSizes.{counted}
 use Rattle.plan.specs.law.Totals.{changed, activityCost}
 use Rattle.plan.specs.inside.StepSizes.{both-yes, first-no, second-no}
 use Rattle.plan.proofs.totals.activity_cost.Statement.{statement}

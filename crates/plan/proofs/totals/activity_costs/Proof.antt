@@ -1,10 +1,7 @@
 -- The sum so far is that over the arcs passed, and no arc costs more than a bound by which the whole sum fits.
-use Prim.Native.Nat.{_-_}
-use native.Mathlib.Omega.{arith}
-use denote.Ref.{now}
+use Rattle.plan.proofs.Common.{_-_, arith, now, counted}
 use Rattle.case.specs.law.Layout.{arcsOf}
 use Rattle.plan.specs.inside.PreviousHolds.{activeOf}
-use Rattle.plan.specs.inside.CaseSizes.{counted}
 use Rattle.plan.specs.law.Totals.{activityPart, activityCosts}
 use Rattle.plan.proofs.Adding.{Tallying, begunN, one-fitsN, one-moreN, wholeN}
 use Rattle.plan.specs.inside.StepSizes.{activity-le}

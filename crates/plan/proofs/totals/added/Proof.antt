@@ -1,14 +1,6 @@
 -- Each total is the old one with what the step adds; what a kept step adds is small, and so no sum is too large.
-use mathlib.Core.Path.{refl, sym}
-use Prim.Native.Nat.{_+_, _≤_}
-use native.Mathlib.Omega.{arith}
-use borrow.Author.Needs.{needs}
-use denote.Ref.{now}
-use lib.IntN.{_+ℤ_}
+use Rattle.plan.proofs.Common.{refl, sym, _+_, _≤_, arith, needs, now, _+ℤ_, w64, toZ, ofZ, Held, held, held-fits, _+ʳ_, kept}
 use lib.ListN.{length-map}
-use mir.Syntax.{w64}
-use mir.Val.{toZ, ofZ}
-use Rattle.numbers.specs.inside.SignedLocals.{Held, held, held-fits, _+ʳ_, kept}
 use Rattle.plan.specs.inside.PreviousHolds.{activeOf, indexOf}
 use Rattle.plan.specs.law.Totals.{pressureSlackIn, demandSlackIn}
 use Rattle.plan.proofs.Adding.{got}

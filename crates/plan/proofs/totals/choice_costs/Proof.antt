@@ -1,11 +1,7 @@
 -- The sum so far is that over the stations passed; a station costs at most the weights of its direction and of its state.
-use mathlib.Core.Path.{_≡_, ap₂}
-use Prim.Native.Nat.{_+_, _-_, _≤_}
-use native.Mathlib.Omega.{arith}
-use denote.Ref.{now}
+use Rattle.plan.proofs.Common.{_≡_, ap₂, _+_, _-_, _≤_, arith, now, counted}
 use Rattle.case.specs.law.Layout.{stationsOf}
 use Rattle.plan.specs.inside.PreviousHolds.{indexOf}
-use Rattle.plan.specs.inside.CaseSizes.{counted}
 use Rattle.plan.specs.law.Totals.{choiceCost, choiceCosts}
 use Rattle.plan.proofs.Adding.{Tallying, begunN, one-fitsN, one-moreN, wholeN}
 use Rattle.plan.specs.inside.StepSizes.{direction-le, state-le}

@@ -1,13 +1,9 @@
 -- The weight counts where the direction that the plan chooses is another one than before.
-use mathlib.Core.Path.{_≡_, sym, ap, _∙_}
-use Prim.Native.Nat.{ℕ}
-use borrow.Author.Needs.{needs}
-use denote.Ref.{now}
+use Rattle.plan.proofs.Common.{_≡_, sym, ap, _∙_, ℕ, needs, now, counted}
 use Rattle.case.specs.declared.records.Direction.{Direction}
 use Rattle.case.specs.law.Records.{directionRow, directionOf}
 use Rattle.plan.specs.declared.rows.Choice.{Choice}
 use Rattle.plan.specs.law.PlanRecords.{directionIn}
-use Rattle.plan.specs.inside.CaseSizes.{counted}
 use Rattle.plan.specs.law.Totals.{directionCost}
 use Rattle.plan.specs.inside.StepSizes.{cost-same, cost-new}
 use Rattle.plan.proofs.Adding.{count-read}

@@ -1,8 +1,6 @@
 -- The sum so far is that over the arcs passed, and no pipe holds more than a bound by which the whole sum fits.
-use Prim.Native.Nat.{_-_}
-use native.Mathlib.Omega.{arith}
+use Rattle.plan.proofs.Common.{_-_, arith, counted}
 use Rattle.case.specs.law.Layout.{numberAt, arcsOf}
-use Rattle.plan.specs.inside.CaseSizes.{counted}
 use Rattle.plan.specs.law.Totals.{gasPart, gasAt}
 use Rattle.plan.proofs.Adding.{Summing, begun, one-fits, one-more, whole}
 use Rattle.plan.specs.inside.StepSizes.{gas-small}

@@ -1,12 +1,6 @@
 -- One term follows the code's product and sum, and says both that they fit and what they are.
-use mathlib.Core.Path.{_≡_, refl, sym, ap, _∙_}
-use borrow.Author.Needs.{needs}
-use borrow.Author.Tests.{eq-eqb, ne-eqb}
-use denote.Ref.{now}
+use Rattle.plan.proofs.Common.{_≡_, refl, sym, ap, _∙_, needs, eq-eqb, ne-eqb, now, w64, toZ, ofZ, Held, held, held-fits, _+ʳ_, _*ʳ_}
 use lib.IntN.{_+ℤ_, _*ℤ_}
-use mir.Syntax.{w64}
-use mir.Val.{toZ, ofZ}
-use Rattle.numbers.specs.inside.SignedLocals.{Held, held, held-fits, _+ʳ_, _*ʳ_}
 use Rattle.case.specs.declared.records.Arc.{Arc}
 use Rattle.case.specs.declared.records.Pipe.{Pipe}
 use Rattle.case.specs.law.Layout.{numberAt}

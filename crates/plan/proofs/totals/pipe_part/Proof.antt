@@ -1,8 +1,5 @@
 -- The residual counts where the arc is a pipe, and is 0 where it is not.
-use mathlib.Core.Path.{_≡_, sym, ap, _∙_}
-use borrow.Author.Needs.{needs}
-use borrow.Author.Tests.{eq-eqb, ne-eqb}
-use denote.Ref.{now}
+use Rattle.plan.proofs.Common.{_≡_, sym, ap, _∙_, needs, eq-eqb, ne-eqb, now}
 use Rattle.case.specs.declared.records.Arc.{Arc}
 use Rattle.case.specs.law.Records.{arcOf}
 use Rattle.plan.specs.law.Totals.{pipePart}

@@ -1,8 +1,6 @@
 -- The sum so far is that over the arcs passed, and no pipe of a kept step leaves more than the tolerance, by which the whole sum fits.
-use Prim.Native.Nat.{_-_}
-use native.Mathlib.Omega.{arith}
+use Rattle.plan.proofs.Common.{_-_, arith, counted}
 use Rattle.case.specs.law.Layout.{numberAt, arcsOf}
-use Rattle.plan.specs.inside.CaseSizes.{counted}
 use Rattle.plan.specs.law.Totals.{pipePart, pipeResiduals}
 use Rattle.plan.proofs.Adding.{Tallying, begunN, one-fitsN, one-moreN, wholeN}
 use Rattle.plan.proofs.totals.pipe_residuals.Statement.{statement}

@@ -1,18 +1,10 @@
 -- Both sums so far are those over the nodes passed; each node adds the two slacks of its row, which 21 has bounded.
-use mathlib.Core.Path.{_≡_, ap}
-use Prim.Native.Nat.{_-_}
-use native.Mathlib.Omega.{arith}
-use denote.Ref.{now}
-use lib.IntN.{_+ℤ_}
-use mir.Syntax.{w64}
-use mir.Val.{toZ, ofZ}
-use Rattle.numbers.specs.inside.SignedLocals.{Held, held-fits, _+ʳ_}
+use Rattle.plan.proofs.Common.{_≡_, ap, _-_, arith, now, _+ℤ_, w64, toZ, ofZ, Held, held-fits, _+ʳ_, counted}
 use Rattle.case.specs.law.Layout.{nodesOf}
 use Rattle.plan.specs.declared.rows.NodeRow.{NodeRow}
 use Rattle.plan.specs.law.PlanRecords.{nodeRow}
 use Rattle.plan.specs.law.Totals.{pressureSlackAt, demandSlackAt, pressureSlackIn, demandSlackIn}
 use Rattle.plan.specs.inside.Sizes.{NodeRowSized}
-use Rattle.plan.specs.inside.CaseSizes.{counted}
 use Rattle.plan.specs.inside.StepSizes.{pressure-slack-le, demand-slack-le}
 use Rattle.plan.proofs.Adding.{Summing, begun, one-fits, one-more, total, got}
 use Rattle.plan.proofs.totals.slacks_of.Statement.{statement}
