@@ -1,4 +1,4 @@
--- The machine reads each parameter back as it is, so the two tests are those of the parameters.
+-- Each parameter is read back as it is, so the two tests are those of the parameters.
 use Rattle.plan.proofs.Common.{needs, toZ-ofZ}
 use Rattle.plan.proofs.flows.both_within.Statement.{statement}
 use Rattle.plan.proofs.flows.both_within.Tie as tie

@@ -1,4 +1,4 @@
--- Kinds 1 and 2 may flow either way; of any other the setting that was read decides.
+-- 25 asks nothing of kinds 1 and 2; of any other the setting that was read decides.
 use Rattle.plan.proofs.Common.{_≡_, false, _&&_, ⊎-elim, _<_, _≤_, arith, needs, le-leb, lt-leb, leb, kept}
 use Rattle.plan.specs.law.ArcFlows.{flowAllowed}
 use Rattle.plan.proofs.flows.flow_allowed.Statement.{statement}

@@ -1,4 +1,4 @@
--- Up to kind 4 an arc has no machines; above, its set is one of the own machines.
+-- Up to kind 4 an arc has no machines; above, its machines are among its own.
 use Rattle.plan.proofs.Common.{_<_, _≤_, arith, needs, le-leb, lt-leb, toZ-ofZ}
 use Rattle.plan.specs.law.ArcFlows.{machinesWithin}
 use Rattle.plan.proofs.flows.machines_within.Statement.{statement}

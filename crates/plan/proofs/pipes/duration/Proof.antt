@@ -1,4 +1,4 @@
--- Times of an accepted case lie at most a day apart, so their difference is what it is in whole numbers.
+-- Times of an accepted case that follow one another lie at most a day apart, so their difference does not overflow.
 use Rattle.plan.proofs.Common.{ap₂, needs, now, _-ℤ_, w64, toZ, ofZ, Held, held, held-fits}
 use Rattle.plan.specs.law.Pipes.{duration}
 use Rattle.plan.specs.inside.CaseSizes.{duration-sized}

@@ -28,7 +28,7 @@ ends-small c = omega (arith, ends-is c, ends (c .before) .bound)
 mul-most : tie.Need-mul-most
 mul-most c = held-fits (literal (pos 1000000) *ʳ read (c .at .ensures) (tolerance-sized (c .before .before .before .before .pre .at .accepted)) tt) tt
 
--- the step's number can be counted on
+-- the number of the step fits
 few : (c : tie.Start) → c .args .i + 1 ≤ 1000
 few c = let a = c .pre .at in omega (arith, a .step, counted (a .accepted) .steps)
 

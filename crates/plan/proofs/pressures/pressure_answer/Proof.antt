@@ -5,7 +5,7 @@ use Rattle.plan.proofs.Questions.{two-asked}
 use Rattle.plan.proofs.pressures.pressure_answer.Statement.{statement}
 use Rattle.plan.proofs.pressures.pressure_answer.Tie as tie
 
--- the step's number can be counted on
+-- the number of the step fits
 few : (c : tie.Start) → c .args .i + 1 ≤ 1000
 few c = omega (arith, c .pre .at .step, counted (c .pre .at .accepted) .steps)
 

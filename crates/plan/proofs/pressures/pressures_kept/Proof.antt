@@ -1,4 +1,4 @@
--- An arc of kind 1 lets no pressure rise; any other is judged by its setting, read as the row has it.
+-- Along an arc of kind 1 the pressure may not rise; any other is judged by its setting, read as the row has it.
 use Rattle.plan.proofs.Common.{_≡_, sym, ap, ap₂, _∙_, false, arith, needs, eq-eqb, ne-eqb, now, eqb, leZ, counted}
 use Rattle.case.specs.declared.records.Arc.{Arc}
 use Rattle.case.specs.law.Records.{arcOf}

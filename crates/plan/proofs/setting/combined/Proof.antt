@@ -1,4 +1,4 @@
--- Numbers 1 and 2 regulate, 3 and 4 compress; either way round.
+-- Numbers up to 2 regulate and those above compress, each by the same table of ways.
 use Rattle.plan.proofs.Common.{needs, le-leb, lt-leb}
 use Rattle.plan.specs.law.Setting.{combinedOf}
 use Rattle.plan.proofs.setting.combined.Statement.{statement}

@@ -1,4 +1,4 @@
--- A valve knows the number 1 alone.
+-- 1 is open, and any other number unknown.
 use Rattle.plan.proofs.Common.{eq-eqb, ne-eqb}
 use Rattle.plan.specs.law.Setting.{valveOf}
 use Rattle.plan.proofs.setting.valve.Statement.{statement}
