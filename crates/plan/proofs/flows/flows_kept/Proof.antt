@@ -14,7 +14,8 @@ returns c =
     let t = u .before in
     let a = t .before .before .args in
     let qmax = kept (a .c .qmax) (u .struct-told2 .given .1 .1 .1 .0 .1) in
-    rw (t .before .match .keys1) (cc (qmax, kept (a .r .a) (t .struct-told .given .0 .1), kept (a .r .b) (t .struct-told .given .1 .0 .1)))
+    let fits = t .struct-told .given in
+    rw (t .before .match .keys1) (simp (qmax, kept (a .r .a) (fits .0 .1), kept (a .r .b) (fits .1 .0 .1)) at (c .both-within .ensures))
 
 returns-2 : tie.Need-returns-2
 unfolding flowsKept
@@ -36,7 +37,7 @@ returns-3 c =
     let a = m .before .args in
     let qmax = kept (a .c .qmax) (u .struct-told10 .given .1 .1 .1 .0 .1) in
     rw (ne-eqb _ _ (m .match .rest .0 .1), ne-eqb _ _ (m .match .rest .1))
-    (cc (qmax, kept (a .r .a) (t .struct-told9 .given .0 .1), kept (a .r .b) (t .struct-told9 .given .1 .0 .1)))
+    (simp (qmax, kept (a .r .a) (t .struct-told9 .given .0 .1), kept (a .r .b) (t .struct-told9 .given .1 .0 .1)) at (c .both-within3 .ensures))
 
 pub flows-kept-spec : {M : Type 1} → statement M
 flows-kept-spec = tie.close (tie.spec (λ c κs. search needs) sub-both-within (λ c κs. search needs) (λ c κs. search needs) returns returns-2 returns-3)

@@ -9,7 +9,7 @@ unfolding machinesWithin
 returns c =
     let s = c .before .before in
     let k : s .args .kind ≤ 4 = omega arith in
-    rw (le-leb _ _ k) (cc (toZ-ofZ (s .fits .machines)))
+    rw (le-leb _ _ k) (simp (toZ-ofZ (s .fits .machines)) at (c .same .ensures))
 
 returns-2 : tie.Need-returns-2
 unfolding machinesWithin

@@ -29,14 +29,16 @@ returns-3 c =
     let w = c .before .before in
     let t = w .before .before in
     let s = t .before .before in
-    rw (s .s .given .1, w .enum-told3 .given .1, t .if1 .taken) (cc (kept (s .before .before .args .r .b) (c .before .struct-told3 .given .1 .0 .1)))
+    let b = kept (s .before .before .args .r .b) (c .before .struct-told3 .given .1 .0 .1) in
+    rw (s .s .given .1, w .enum-told3 .given .1, t .if1 .taken) (simp b at (c .same3 .ensures))
 
 returns-4 : tie.Need-returns-4
 returns-4 c =
     let w = c .before .before in
     let t = w .before .before in
     let s = t .before .before in
-    rw (s .s .given .1, w .enum-told4 .given .1, t .if1 .taken) (cc (kept (s .before .before .args .r .a) (c .before .struct-told4 .given .0 .1)))
+    let a = kept (s .before .before .args .r .a) (c .before .struct-told4 .given .0 .1) in
+    rw (s .s .given .1, w .enum-told4 .given .1, t .if1 .taken) (simp a at (c .same4 .ensures))
 
 returns-5 : tie.Need-returns-5
 returns-5 c =

@@ -29,7 +29,7 @@ returns-2 c =
     let e = c .before .before .before .before .before .before in
     let s = e .before .before in
     let v = (held (held (param (s .pre .d) tt +ʳ param (s .pre .splus) tt) tt -ʳ param (s .pre .sminus) tt) tt) .val in
-    rw (ne-eqb _ _ (e .if1 .left)) (cc (v, kept (s .args .n .demand) (c .before .struct-told3 .given .1 .1 .1 .1 .1 .1 .0 .1)))
+    rw (ne-eqb _ _ (e .if1 .left)) (simp (v, kept (s .args .n .demand) (c .before .struct-told3 .given .1 .1 .1 .1 .1 .1 .0 .1)) at (c .same .ensures))
 
 pub demand-met-spec : {M : Type 1} → statement M
 demand-met-spec = tie.close (tie.spec add-same sub-same (λ c κs. search needs) returns returns-2)
