@@ -4,9 +4,11 @@
 
 mod arcs;
 mod case;
+mod compressing;
 pub mod edges;
 mod ledger;
 mod nodes;
+mod pipes;
 pub mod sides;
 mod stations;
 
@@ -59,23 +61,26 @@ pub const AIMS: &[(&str, Aim)] = &[
     ("25 against the setting", arcs::aim_25_against),
     (
         "26 valve or shortcut between unequal pressures",
-        arcs::aim_26_level,
+        compressing::aim_26_level,
     ),
-    ("26 regulator turned round", arcs::aim_26_regulator),
-    ("26 regulating uphill", arcs::aim_26_regulating),
-    ("26 compressing downhill", arcs::aim_26_compressing),
-    ("26 out bound", arcs::aim_26_out_bound),
-    ("26 out bound, backward", arcs::aim_26_out_bound_backward),
-    ("26 too few machines", arcs::aim_26_ratio),
-    ("26 p0 of the in end", arcs::aim_26_p0),
-    ("27 machines without compressing", arcs::aim_27_idle),
-    ("27 most machines", arcs::aim_27_most),
-    ("27 flow", arcs::aim_27_flow),
-    ("28 flow", arcs::aim_28_flow),
-    ("28 storage", arcs::aim_28_storage),
-    ("28 or 33, mass tolerance", arcs::aim_28_33_tolerance),
-    ("29 friction or slope", arcs::aim_29_friction),
-    ("29 pressure tolerance", arcs::aim_29_tolerance),
+    ("26 regulator turned round", compressing::aim_26_regulator),
+    ("26 regulating uphill", compressing::aim_26_regulating),
+    ("26 compressing downhill", compressing::aim_26_compressing),
+    ("26 out bound", compressing::aim_26_out_bound),
+    (
+        "26 out bound, backward",
+        compressing::aim_26_out_bound_backward,
+    ),
+    ("26 too few machines", compressing::aim_26_ratio),
+    ("26 p0 of the in end", compressing::aim_26_p0),
+    ("27 machines without compressing", compressing::aim_27_idle),
+    ("27 most machines", compressing::aim_27_most),
+    ("27 flow", compressing::aim_27_flow),
+    ("28 flow", pipes::aim_28_flow),
+    ("28 storage", pipes::aim_28_storage),
+    ("28 or 33, mass tolerance", pipes::aim_28_33_tolerance),
+    ("29 friction or slope", pipes::aim_29_friction),
+    ("29 pressure tolerance", pipes::aim_29_tolerance),
     ("30 direction or state out of range", stations::aim_30_range),
     ("30 direction not supported", stations::aim_30_support),
     ("30 on arc not active", stations::aim_30_on),

@@ -1,0 +1,239 @@
+//! Aimed changes at pressures and machines: 26 and 27.
+
+use super::arcs::{find_arc, find_row};
+use super::{Aimed, aimed, first_step, holds};
+use crate::model::{
+    Arc, BOTH_WAYS, COMBINED, MACHINES, MOST, MOST_FLOW, OUT_BOUND, PIPE, Pair, REGULATING,
+    REGULATOR, SHORTCUT, VALVE, is_backward,
+};
+use crate::rng::Rng;
+
+/// Gives the arc a setting and lets its flow go that way, so that 25 is passed.
+fn set(pair: &mut Pair, step: usize, arc: usize, setting: i64) {
+    let row = pair.arc_mut(step, arc);
+    let flow = row.a.max(row.b);
+    (row.a, row.b) = if is_backward(setting) {
+        (0, flow)
+    } else {
+        (flow, 0)
+    };
+    row.setting = setting;
+    row.machines = 0;
+}
+
+pub fn aim_26_level(rng: &mut Rng, pair: &Pair) -> Option<Aimed> {
+    let mut pair = pair.clone();
+    let unequal = |step: usize, it: &Arc| {
+        let differ = pair.pressure(step, it.from) != pair.pressure(step, it.to);
+        differ && (it.kind == VALVE || it.kind == SHORTCUT)
+    };
+    let (step, arc) = find_arc(rng, &pair, unequal)?;
+    let known = if pair.case.arcs[arc].kind == VALVE {
+        1
+    } else {
+        2
+    };
+    set(&mut pair, step, arc, rng.within(1..=known));
+    aimed(&pair, 26, step, arc)
+}
+
+pub fn aim_26_regulator(rng: &mut Rng, pair: &Pair) -> Option<Aimed> {
+    let mut pair = pair.clone();
+    let falls = |step: usize, it: &Arc| {
+        let falls = pair.pressure(1, it.from) > pair.pressure(1, it.to);
+        step == 1 && falls && it.kind == REGULATOR
+    };
+    let (step, arc) = find_arc(rng, &pair, falls)?;
+    let ends = &mut pair.case.arcs[arc];
+    (ends.from, ends.to) = (ends.to, ends.from);
+    aimed(&pair, 26, step, arc)
+}
+
+/// Settings of the arc whose in pressure stands to the out pressure as the test asks.
+fn settings(
+    pair: &Pair,
+    step: usize,
+    arc: usize,
+    compressing: bool,
+    test: impl Fn(i64, i64) -> bool,
+) -> Vec<i64> {
+    let it = &pair.case.arcs[arc];
+    let last = if it.kind == COMBINED { 4 } else { 2 };
+    let fits = |setting: &i64| {
+        let (in_end, out_end) = it.ends(*setting);
+        let one_way = it.more[BOTH_WAYS] == 0;
+        let allowed = !(one_way && is_backward(*setting));
+        let asked = test(pair.pressure(step, in_end), pair.pressure(step, out_end));
+        allowed && asked && it.compresses(*setting) == compressing
+    };
+    (1..=last).filter(fits).collect()
+}
+
+pub fn aim_26_regulating(rng: &mut Rng, pair: &Pair) -> Option<Aimed> {
+    let mut pair = pair.clone();
+    let uphill = |pair: &Pair, step, arc| settings(pair, step, arc, false, |p, out| p < out);
+    let test = |step: usize, arc: usize, it: &Arc| {
+        (it.kind == REGULATING || it.kind == COMBINED) && !uphill(&pair, step, arc).is_empty()
+    };
+    let (step, arc) = find_row(rng, &pair, test)?;
+    let setting = rng.pick(&uphill(&pair, step, arc))?;
+    set(&mut pair, step, arc, setting);
+    aimed(&pair, 26, step, arc)
+}
+
+pub fn aim_26_compressing(rng: &mut Rng, pair: &Pair) -> Option<Aimed> {
+    let mut pair = pair.clone();
+    let downhill = |pair: &Pair, step, arc| settings(pair, step, arc, true, |p, out| p > out);
+    let test = |step: usize, arc: usize, it: &Arc| {
+        it.has_machines() && !downhill(&pair, step, arc).is_empty()
+    };
+    let (step, arc) = find_row(rng, &pair, test)?;
+    let setting = rng.pick(&downhill(&pair, step, arc))?;
+    set(&mut pair, step, arc, setting);
+    if rng.flip() {
+        pair.arc_mut(step, arc).machines = pair.case.arcs[arc].more[MACHINES];
+    }
+    aimed(&pair, 26, step, arc)
+}
+
+/// The out pressure of an arc that is compressing in this step.
+fn compressed(pair: &Pair, step: usize, arc: usize) -> Option<i64> {
+    let it = &pair.case.arcs[arc];
+    let setting = pair.arc(step, arc).setting;
+    let (_, out_end) = it.ends(setting);
+    let compresses = it.compresses(setting);
+    compresses.then(|| pair.pressure(step, out_end))
+}
+
+pub fn aim_26_out_bound(rng: &mut Rng, pair: &Pair) -> Option<Aimed> {
+    out_bound(rng, pair, |_| true)
+}
+
+/// Only on backward arcs, where the out end is from.
+pub fn aim_26_out_bound_backward(rng: &mut Rng, pair: &Pair) -> Option<Aimed> {
+    out_bound(rng, pair, is_backward)
+}
+
+/// Lowers an out bound to one mbar below what a step reaches; 0 would mean no bound.
+fn out_bound(rng: &mut Rng, pair: &Pair, wanted: fn(i64) -> bool) -> Option<Aimed> {
+    let mut pair = pair.clone();
+    let test = |step: usize, arc: usize, _: &Arc| {
+        let high = compressed(&pair, step, arc).is_some_and(|out| out > 1);
+        high && wanted(pair.arc(step, arc).setting)
+    };
+    let (step, arc) = find_row(rng, &pair, test)?;
+    let bound = compressed(&pair, step, arc)? - 1;
+    pair.case.arcs[arc].more[OUT_BOUND] = bound;
+    let first = first_step(&pair, |step| {
+        compressed(&pair, step, arc).is_some_and(|out| out > bound)
+    })?;
+    aimed(&pair, 26, first, arc)
+}
+
+/// 1,000 × out less p0 of the in end × (1,000 + what the machines add), if compressing.
+fn overreach(pair: &Pair, step: usize, arc: usize) -> Option<i64> {
+    let out = compressed(pair, step, arc)?;
+    let (in_end, _) = pair.case.arcs[arc].ends(pair.arc(step, arc).setting);
+    let p0 = pair.case.nodes[in_end].p0;
+    Some(1_000 * out - p0 * ratio(pair, step, arc))
+}
+
+fn ratio(pair: &Pair, step: usize, arc: usize) -> i64 {
+    let gains = named_machines(pair, step, arc).map(|[_, ratio]| ratio - 1_000);
+    1_000 + gains.sum::<i64>()
+}
+
+fn named_machines(pair: &Pair, step: usize, arc: usize) -> impl Iterator<Item = [i64; 2]> {
+    let set = pair.arc(step, arc).machines;
+    let station = pair.case.arcs[arc].station();
+    let machines = station.map(|it| pair.case.stations[it].machines.as_slice());
+    let machines = machines.unwrap_or_default().iter().enumerate();
+    machines
+        .filter(move |(machine, _)| holds(set, *machine))
+        .map(|(_, machine)| *machine)
+}
+
+/// Takes machines away until the ratio no longer reaches the out pressure.
+pub fn aim_26_ratio(rng: &mut Rng, pair: &Pair) -> Option<Aimed> {
+    let mut pair = pair.clone();
+    let test = |step: usize, arc: usize, _: &Arc| {
+        compressed(&pair, step, arc).is_some() && pair.arc(step, arc).machines != 0
+    };
+    let (step, arc) = find_row(rng, &pair, test)?;
+    while overreach(&pair, step, arc)? <= 0 {
+        let row = pair.arc_mut(step, arc);
+        if row.machines == 0 {
+            return None;
+        }
+        row.machines &= row.machines - 1;
+    }
+    aimed(&pair, 26, step, arc)
+}
+
+/// Lowers p0 of an in end without pipes to just below what the ratio needs.
+pub fn aim_26_p0(rng: &mut Rng, pair: &Pair) -> Option<Aimed> {
+    let mut pair = pair.clone();
+    let has_pipe = |node: usize| {
+        let mut pipes = pair.case.arcs.iter().filter(|it| it.kind == PIPE);
+        pipes.any(|it| it.from == node || it.to == node)
+    };
+    let test = |step: usize, arc: usize, it: &Arc| {
+        let (in_end, _) = it.ends(pair.arc(step, arc).setting);
+        compressed(&pair, step, arc).is_some_and(|out| out > 0) && !has_pipe(in_end)
+    };
+    let (step, arc) = find_row(rng, &pair, test)?;
+    let (in_end, _) = pair.case.arcs[arc].ends(pair.arc(step, arc).setting);
+    let needed = 1_000 * compressed(&pair, step, arc)? - 1;
+    pair.case.nodes[in_end].p0 = needed / ratio(&pair, step, arc);
+    for step in 1..=pair.steps() {
+        let fails = |&arc: &usize| overreach(&pair, step, arc).is_some_and(|over| over > 0);
+        if let Some(first) = (0..pair.case.arcs.len()).find(fails) {
+            return aimed(&pair, 26, step, first);
+        }
+    }
+    None
+}
+
+pub fn aim_27_idle(rng: &mut Rng, pair: &Pair) -> Option<Aimed> {
+    let mut pair = pair.clone();
+    let idle = |step: usize, arc: usize, it: &Arc| {
+        let compresses = it.compresses(pair.arc(step, arc).setting);
+        it.has_machines() && it.more[MACHINES] != 0 && !compresses
+    };
+    let (step, arc) = find_row(rng, &pair, idle)?;
+    let set = pair.case.arcs[arc].more[MACHINES];
+    let lowest = set & -set;
+    pair.arc_mut(step, arc).machines = lowest | rng.part_of(set);
+    aimed(&pair, 27, step, arc)
+}
+
+pub fn aim_27_most(rng: &mut Rng, pair: &Pair) -> Option<Aimed> {
+    let mut pair = pair.clone();
+    let count = |pair: &Pair, step: usize, arc: usize| {
+        let compresses = compressed(pair, step, arc).is_some();
+        let count = pair.arc(step, arc).machines.count_ones();
+        if compresses { i64::from(count) } else { 0 }
+    };
+    let test = |step: usize, arc: usize, _: &Arc| count(&pair, step, arc) > 0;
+    let (step, arc) = find_row(rng, &pair, test)?;
+    let most = count(&pair, step, arc) - 1;
+    pair.case.arcs[arc].more[MOST] = most;
+    let first = first_step(&pair, |step| count(&pair, step, arc) > most)?;
+    aimed(&pair, 27, first, arc)
+}
+
+pub fn aim_27_flow(rng: &mut Rng, pair: &Pair) -> Option<Aimed> {
+    let mut pair = pair.clone();
+    let test = |step: usize, arc: usize, _: &Arc| compressed(&pair, step, arc).is_some();
+    let (step, arc) = find_row(rng, &pair, test)?;
+    let capacity: i64 = named_machines(&pair, step, arc).map(|[flow, _]| flow).sum();
+    let flow = capacity + 1;
+    let row = pair.arc_mut(step, arc);
+    if is_backward(row.setting) {
+        row.b = flow;
+    } else {
+        row.a = flow;
+    }
+    pair.case.arcs[arc].qmax = pair.case.arcs[arc].qmax.max(flow);
+    (flow <= MOST_FLOW).then(|| aimed(&pair, 27, step, arc))?
+}
