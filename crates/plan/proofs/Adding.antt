@@ -2,11 +2,9 @@
 use Rattle.plan.proofs.Common.{_≡_, refl, sym, ap, _∙_, Bool, true, false, ℕ, _+_, _*_, _^_, _<_, _≤_, arith, ℤ, pos, natAbs, _+ℤ_, w64}
 use native.Mathlib.Nat.{mul-le-mul-right}
 use native.Mathlib.Numerals.{add-one}
-use lib.Dec.{T, ltb}
 use lib.Signed.{mag}
 use mir.Val.{SFits, Fits, toZ, ofZ}
-use Rattle.numbers.specs.inside.SignedLocals.{Held, held, kept, renamed, held<, held-fits<, _+ʳ_}
-use Rattle.numbers.specs.inside.SignedBounds.{Bounded}
+use Rattle.numbers.specs.inside.SignedLocals.{Held, kept, renamed, held<, held-fits<, _+ʳ_}
 use Rattle.numbers.specs.law.Signed.{posPart}
 use Rattle.numbers.specs.law.Sums.{sum, sumN, only}
 
@@ -47,10 +45,6 @@ module _ {r : ℤ} {f : ℕ → ℤ} {x n i : ℕ} (h : Adding r f x n i) where
 
   pub end : n ≤ i → r ≡ sum n f
   end p = let e : i ≡ n = omega arith in h .is ∙ ap (λ (j : ℕ). sum j f) e
-
--- what is read of a value that is z, of which a bound is known
-pub got : {r z : ℤ} {n : ℕ} → r ≡ z → Bounded z n → T (ltb n (2 ^ 63)) → Held (toZ w64 (ofZ w64 r)) z n
-got e b t = held (record { val = e; bound = b .bound }) t
 
 -- a count that is read off a list of signed numbers
 pub count-read : {n : ℕ} {z y : ℤ} → n ≡ posPart (toZ w64 (ofZ w64 z)) → mag z < 2 ^ 63 → z ≡ y → n ≡ posPart y

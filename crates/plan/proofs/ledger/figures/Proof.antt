@@ -2,7 +2,7 @@
 use Rattle.plan.proofs.Common.{refl, _∙_, arith, needs, now, toZ-ofZ, kept, counted}
 use Rattle.plan.specs.inside.RegionLoop.{Gathering, pressures-held, gas-held}
 use Rattle.plan.specs.inside.LedgerAnswer.{figures-are}
-use Rattle.plan.proofs.Adding.{got}
+use Rattle.plan.proofs.SignedReads.{read}
 use Rattle.plan.proofs.ledger.figures.Statement.{statement}
 use Rattle.plan.proofs.ledger.figures.Tie as tie
 
@@ -43,7 +43,7 @@ returns c =
     (rw z at (c .before .inner-pipes .ensures))
     (kept _ (o .region-gas .ok) ∙ (rw z at (o .region-gas .ensures)) ∙ gas-held r (a .set) (a .s) (o .before .before .pressures-at .ensures))
     (kept _ (d .region-gas2 .ok) ∙ (rw z at (d .region-gas2 .ensures)) ∙ gas-held r (a .set) (a .t) (h .held))
-    h (got {n = 100000000000000000} refl (record { bound = omega (arith, h .brought-few, s .pre .last) }) tt .val)
+    h (read {n = 100000000000000000} refl (record { bound = omega (arith, h .brought-few, s .pre .last) }) tt .val)
 
 pub figures-spec : {M : Type 1} → statement M
 figures-spec = tie.close (tie.spec

@@ -3,7 +3,7 @@ use Rattle.plan.proofs.Common.{refl, sym, _+_, _≤_, arith, needs, now
 use lib.ListN.{length-map}
 use Rattle.plan.specs.inside.PreviousHolds.{activeOf, indexOf}
 use Rattle.plan.specs.law.Totals.{pressureSlackIn, demandSlackIn}
-use Rattle.plan.proofs.Adding.{got}
+use Rattle.plan.proofs.SignedReads.{read}
 use Rattle.plan.specs.inside.StepSizes.{pressure-slack-sized, demand-slack-sized, choice-costs-le, activity-costs-le}
 use Rattle.plan.specs.inside.StepSizes.{pipe-residuals-le, node-residuals-le}
 use Rattle.plan.proofs.totals.added.Statement.{statement}
@@ -21,14 +21,14 @@ pressure : (p : tie.After-pipe-residuals) → let a = begin p .args in
     (a .totals .pressure +ℤ pressureSlackIn (now (a .case)) (now (a .rows))) 1000000048000000
 pressure p =
     let y = begin p .pre in
-    got refl (y .2 .pressure) tt +ʳ got (slacks p .slacks-of .ensures .pressure) (pressure-slack-sized _ (y .0 .accepted) (y .1 .node-rows)) tt
+    read refl (y .2 .pressure) tt +ʳ read (slacks p .slacks-of .ensures .pressure) (pressure-slack-sized _ (y .0 .accepted) (y .1 .node-rows)) tt
 
 demand : (p : tie.After-pipe-residuals) → let a = begin p .args in
     Held (toZ w64 (ofZ w64 (a .totals .demand)) +ℤ toZ w64 (ofZ w64 (slacks p .slacks-of .result .demand)))
     (a .totals .demand +ℤ demandSlackIn (now (a .case)) (now (a .rows))) 1000001200000000
 demand p =
     let y = begin p .pre in
-    got refl (y .2 .demand) tt +ʳ got (slacks p .slacks-of .ensures .demand) (demand-slack-sized _ (y .0 .accepted) (y .1 .node-rows)) tt
+    read refl (y .2 .demand) tt +ʳ read (slacks p .slacks-of .ensures .demand) (demand-slack-sized _ (y .0 .accepted) (y .1 .node-rows)) tt
 
 -- the step's costs and residuals are small
 costs : (p : tie.After-pipe-residuals) → p .before .before .before .choice-costs .result + p .before .before .activity-costs .result ≤ 136000000

@@ -7,7 +7,8 @@ use Rattle.case.specs.law.Layout.{numberAt}
 use Rattle.case.specs.law.Records.{arcOf, pipeOf}
 use Rattle.plan.specs.inside.CaseSizes.{from-node, to-node, pipe-sized}
 use Rattle.plan.specs.law.Totals.{gasPart}
-use Rattle.plan.proofs.Adding.{got, taken-part, left-part}
+use Rattle.plan.proofs.Adding.{taken-part, left-part}
+use Rattle.plan.proofs.SignedReads.{read}
 use Rattle.plan.proofs.totals.pipe_gas.Statement.{statement}
 use Rattle.plan.proofs.totals.pipe_gas.Tie as tie
 
@@ -22,8 +23,8 @@ ends c =
     let a = c .before .before .before .before .before in
     let y = a .before .pre in
     let p = numberAt (now (a .before .args .pressures)) in
-    got (c .before .at .ensures ∙ ap (λ (x : Arc). p (x .from)) (a .arc .ensures)) (y .2 .each _ (from-node (y .0) _ (y .1))) tt
-    +ʳ got (c .at2 .ensures ∙ ap (λ (x : Arc). p (x .to)) (a .arc .ensures)) (y .2 .each _ (to-node (y .0) _ (y .1))) tt
+    read (c .before .at .ensures ∙ ap (λ (x : Arc). p (x .from)) (a .arc .ensures)) (y .2 .each _ (from-node (y .0) _ (y .1))) tt
+    +ʳ read (c .at2 .ensures ∙ ap (λ (x : Arc). p (x .to)) (a .arc .ensures)) (y .2 .each _ (to-node (y .0) _ (y .1))) tt
 
 -- and the gas of the pipe
 gas : (c : tie.After-at2) → let s = c .before .before .before .before .before .before in let x = arcOf (now (s .args .case)) (s .args .e) in
@@ -34,7 +35,7 @@ gas : (c : tie.After-at2) → let s = c .before .before .before .before .before 
 gas c =
     let q = c .before .before in
     let y = q .before .before .before .before .pre in
-    got (ap (λ (x : Pipe). x .c) (q .pipe .ensures)) (pipe-sized (y .0) _ (y .1) (piped (q .before)) .c) tt *ʳ held (ends c) tt
+    read (ap (λ (x : Pipe). x .c) (q .pipe .ensures)) (pipe-sized (y .0) _ (y .1) (piped (q .before)) .c) tt *ʳ held (ends c) tt
 
 add-result : tie.Need-add-result
 add-result c = held-fits (ends c) tt

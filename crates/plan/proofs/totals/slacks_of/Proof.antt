@@ -6,7 +6,8 @@ use Rattle.plan.specs.law.PlanRecords.{nodeRow}
 use Rattle.plan.specs.law.Totals.{pressureSlackAt, demandSlackAt, pressureSlackIn, demandSlackIn}
 use Rattle.plan.specs.inside.Sizes.{NodeRowSized}
 use Rattle.plan.specs.inside.StepSizes.{pressure-slack-le, demand-slack-le}
-use Rattle.plan.proofs.Adding.{Summing, begun, one-fits, one-more, total, got}
+use Rattle.plan.proofs.Adding.{Summing, begun, one-fits, one-more, total}
+use Rattle.plan.proofs.SignedReads.{read}
 use Rattle.plan.proofs.totals.slacks_of.Statement.{statement}
 use Rattle.plan.proofs.totals.slacks_of.Tie as tie
 
@@ -20,10 +21,10 @@ abbrev μ-loop : tie.MeasureT-loop
 -- the two slacks of a row, as the code adds them
 module _ {r w : NodeRow} (e : r ≡ w) (z : NodeRowSized w) where
   pressure : Held (toZ w64 (ofZ w64 (r .uplus)) +ℤ toZ w64 (ofZ w64 (r .uminus))) (w .uplus +ℤ w .uminus) 800000
-  pressure = got (ap (λ (x : NodeRow). x .uplus) e) (z .uplus) tt +ʳ got (ap (λ (x : NodeRow). x .uminus) e) (z .uminus) tt
+  pressure = read (ap (λ (x : NodeRow). x .uplus) e) (z .uplus) tt +ʳ read (ap (λ (x : NodeRow). x .uminus) e) (z .uminus) tt
 
   demand : Held (toZ w64 (ofZ w64 (r .splus)) +ℤ toZ w64 (ofZ w64 (r .sminus))) (w .splus +ℤ w .sminus) 20000000
-  demand = got (ap (λ (x : NodeRow). x .splus) e) (z .splus) tt +ʳ got (ap (λ (x : NodeRow). x .sminus) e) (z .sminus) tt
+  demand = read (ap (λ (x : NodeRow). x .splus) e) (z .splus) tt +ʳ read (ap (λ (x : NodeRow). x .sminus) e) (z .sminus) tt
 
 small : (c : tie.After-node-row Inv-loop μ-loop) → let l = c .before .before in NodeRowSized (nodeRow (now (l .before .args .rows)) (l .loop .v))
 small c = c .before .before .before .pre .2 .each _ (omega arith)
