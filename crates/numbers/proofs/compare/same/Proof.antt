@@ -5,7 +5,7 @@ use Rattle.numbers.proofs.compare.same.Statement.{statement}
 use Rattle.numbers.proofs.compare.same.Tie as tie
 
 returns : tie.Need-returns
-returns c = let f = c .before .fits in cc (c .within .ensures, toZ-ofZ (f .a), toZ-ofZ (f .b))
+returns c = let f = c .before .fits in simp (toZ-ofZ (f .a), toZ-ofZ (f .b)) at (c .within .ensures)
 
 pub same-spec : {M : Type 1} → statement M
 same-spec = tie.close (tie.spec (λ c κs. search needs) returns)

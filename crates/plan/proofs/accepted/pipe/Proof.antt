@@ -1,5 +1,5 @@
 -- All of the arc's row is inside the case, and each number is read at its place in the row.
-use Rattle.plan.proofs.Common.{_+_, _<_, arith, needs, now, length, kept}
+use Rattle.plan.proofs.Common.{_∙_, _+_, _<_, arith, needs, now, length, kept}
 use Rattle.plan.specs.inside.CaseSizes.{arc-there}
 use Rattle.plan.proofs.accepted.pipe.Statement.{statement}
 use Rattle.plan.proofs.accepted.pipe.Tie as tie
@@ -9,11 +9,12 @@ row c = omega (arith, c .arc-at .ensures, arc-there (c .before .pre .0) (c .befo
 
 returns : tie.Need-returns
 returns c =
-    let h = c .number4 in
-    let g = c .before .number3 in
-    let f = c .before .before .number2 in
-    let d = c .before .before .before .number in
-    cc (kept (d .result) (d .ok), kept (f .result) (f .ok), kept (g .result) (g .ok), kept (h .result) (h .ok))
+    let r = c .before .before .before .before .arc-at .ensures in
+    let k0 = kept _ (c .before .before .before .number .ok) ∙ rw r at (c .before .before .before .number .ensures) in
+    let k1 = kept _ (c .before .before .number2 .ok) ∙ rw r at (c .before .before .number2 .ensures) in
+    let k2 = kept _ (c .before .number3 .ok) ∙ rw r at (c .before .number3 .ensures) in
+    let k3 = kept _ (c .number4 .ok) ∙ rw r at (c .number4 .ensures) in
+    rw (k0, k1, k2, k3)
 
 pub pipe-spec : {M : Type 1} → statement M
 pipe-spec = tie.close (tie.spec
