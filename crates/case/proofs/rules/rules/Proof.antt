@@ -3,14 +3,18 @@ use Rattle.case.proofs.Common.{needs, _∙_, _≡_, sym, now, firstNo, 
 use Rattle.case.specs.law.Judged.{earlyRules, ruleQuestions}
 use Rattle.case.specs.inside.CountsInRange.{rules-sized}
 use Rattle.case.specs.law.States.{allStateSets}
-use Rattle.case.proofs.Asked.{stopped, went}
+use Rattle.case.proofs.Asked.{chain, stopped, went}
 use Rattle.case.proofs.rules.rules.Statement.{statement}
 use Rattle.case.proofs.rules.rules.Tie as tie
 
 -- 13 to 16 together
 early : (c : tie.After-or-else3) → c .or-else3 .result ≡ firstNo (earlyRules (now (c .before .before .before .before .before .before .before .args .case)))
 unfolding earlyRules
-early c = simp firstNo-append (cc)
+early c = simp firstNo-append
+    (chain (c .or-else3 .ensures) (c .before .before .before .before .before .before .arc-ends .ensures)
+    (chain (c .before .or-else2 .ensures) (c .before .before .before .before .before .one-station .ensures)
+    (chain (c .before .before .or-else .ensures) (c .before .before .before .before .station-size .ensures)
+    (c .before .before .before .direction-sets .ensures))))
 
 state-sets-requires : tie.Need-state-sets-requires
 state-sets-requires c κs =

@@ -1,5 +1,5 @@
 -- All of the arc's row is inside the case, and each number is read at its place in the row.
-use Rattle.plan.proofs.Common.{_+_, _<_, arith, needs, now, length, kept}
+use Rattle.plan.proofs.Common.{_∙_, _+_, _<_, arith, needs, now, length, kept}
 use Rattle.plan.specs.inside.CaseSizes.{arc-there}
 use Rattle.plan.proofs.accepted.artificial.Statement.{statement}
 use Rattle.plan.proofs.accepted.artificial.Tie as tie
@@ -9,9 +9,14 @@ row c = omega (arith, c .arc-at .ensures, arc-there (c .before .pre .0) (c .befo
 
 returns : tie.Need-returns
 returns c =
-    let outbound = c .number2 in
-    let machines = c .before .before .number in
-    cc (kept (machines .result) (machines .ok), kept (outbound .result) (outbound .ok))
+    let r = c .before .before .before .before .before .before .before .arc-at .ensures in
+    let k0 = rw r at (c .before .before .before .before .before .before .count .ensures) in
+    let k1 = rw r at (c .before .before .before .before .before .count2 .ensures) in
+    let k2 = rw r at (c .before .before .before .before .count3 .ensures) in
+    let k3 = rw r at (c .before .before .before .count4 .ensures) in
+    let k4 = kept _ (c .before .before .number .ok) ∙ rw r at (c .before .before .number .ensures) in
+    let k5 = rw r at (c .before .count5 .ensures) in
+    rw (k0, k1, k2, k3, k4, k5, kept _ (c .number2 .ok) ∙ rw r at (c .number2 .ensures))
 
 pub artificial-spec : {M : Type 1} → statement M
 artificial-spec = tie.close (tie.spec

@@ -1,6 +1,6 @@
 -- The node's row with its demands is inside the case, and each number is read at its place in the row.
-use Rattle.plan.proofs.Common.{_≡_, _+_, _<_, arith, now, length, kept, counted}
-use Rattle.case.specs.law.Layout.{nodeAt, demandsAt}
+use Rattle.plan.proofs.Common.{_≡_, ap, _∙_, _+_, _<_, arith, now, length, kept, counted}
+use Rattle.case.specs.law.Layout.{nodeAt, demandsAt, countAt, numberAt}
 use Rattle.plan.specs.inside.CaseSizes.{node-there}
 use Rattle.plan.proofs.accepted.node.Statement.{statement}
 use Rattle.plan.proofs.accepted.node.Tie as tie
@@ -19,19 +19,18 @@ returns c =
     let low = high .before in
     let p0 = low .before in
     let s = p0 .before .before .before in
-    let a = nodeAt (now (s .args .case)) (s .args .v) in
+    let l = now (s .args .case) in
+    let a = nodeAt l (s .args .v) in
+    let r = p0 .before .before .node-at .ensures in
     let first : a + 0 ≡ a = omega arith in
     let last : a + (6 + s .args .i) ≡ demandsAt a + s .args .i = omega arith in
-    cc (
-      first,
-      last,
-      kept (p0 .number .result) (p0 .number .ok),
-      kept (low .number2 .result) (low .number2 .ok),
-      kept (high .number3 .result) (high .number3 .ok),
-      kept (actlow .number4 .result) (actlow .number4 .ok),
-      kept (acthigh .number5 .result) (acthigh .number5 .ok),
-      kept (c .number6 .result) (c .number6 .ok),
-    )
+    let k0 = rw r at (p0 .before .count .ensures) ∙ ap (countAt l) first in
+    let k1 = kept _ (p0 .number .ok) ∙ rw r at (p0 .number .ensures) in
+    let k2 = kept _ (low .number2 .ok) ∙ rw r at (low .number2 .ensures) in
+    let k3 = kept _ (high .number3 .ok) ∙ rw r at (high .number3 .ensures) in
+    let k4 = kept _ (actlow .number4 .ok) ∙ rw r at (actlow .number4 .ensures) in
+    let k5 = kept _ (acthigh .number5 .ok) ∙ rw r at (acthigh .number5 .ensures) in
+    rw (k0, k1, k2, k3, k4, k5, kept _ (c .number6 .ok) ∙ rw r at (c .number6 .ensures) ∙ ap (numberAt l) last)
 
 pub node-spec : {M : Type 1} → statement M
 node-spec = tie.close (tie.spec
