@@ -3,33 +3,33 @@
 use std::hint::black_box;
 
 use gasplan::calls;
-use second::codec;
+use second::{codec, earlier};
 
 use crate::race::Timer;
 use crate::subjects::{Subject, subjects};
 
 pub fn print(timer: Timer) {
     println!("                                    million bytes per second");
-    println!("input, bytes                        proved     plain     ratio");
+    println!("input, bytes                        proved     plain     ratio   earlier     ratio");
     for subject in subjects() {
-        print_row("read", &subject, read(timer, &subject));
-        print_row("write", &subject, write(timer, &subject));
+        print_row("read", &subject, &read(timer, &subject));
+        print_row("write", &subject, &write(timer, &subject));
     }
 }
 
 /// Seconds per call, proved and plain.
 fn read(timer: Timer, subject: &Subject) -> [f64; 2] {
-    let mut lists = [vec![0; subject.list.len()], vec![0; subject.list.len()]];
+    let mut lists = [0; 2].map(|number| vec![number; subject.list.len()]);
     let [ours, plain] = &mut lists;
     let mut out = [0; 6];
-    let seconds = timer.race(
-        || {
+    let seconds = timer.race([
+        &mut || {
             black_box(calls::read(black_box(&subject.bytes), ours, &mut out));
         },
-        || {
+        &mut || {
             let _ = black_box(codec::read(black_box(&subject.bytes), plain));
         },
-    );
+    ]);
     assert!(
         lists.iter().all(|list| *list == subject.list),
         "both read the list"
@@ -37,31 +37,36 @@ fn read(timer: Timer, subject: &Subject) -> [f64; 2] {
     seconds
 }
 
-/// Seconds per call, proved and plain.
-fn write(timer: Timer, subject: &Subject) -> [f64; 2] {
-    let mut strings = [vec![0; subject.bytes.len()], vec![0; subject.bytes.len()]];
-    let [ours, plain] = &mut strings;
+/// Seconds per call, proved, plain and earlier.
+fn write(timer: Timer, subject: &Subject) -> [f64; 3] {
+    let mut strings = [0; 3].map(|byte| vec![byte; subject.bytes.len()]);
+    let [ours, plain, with_array] = &mut strings;
     let mut out = [0; 6];
-    let seconds = timer.race(
-        || {
+    let seconds = timer.race([
+        &mut || {
             black_box(calls::write(black_box(&subject.list), ours, &mut out));
         },
-        || {
+        &mut || {
             let _ = black_box(codec::write(black_box(&subject.list), plain));
         },
-    );
+        &mut || {
+            let _ = black_box(earlier::write(black_box(&subject.list), with_array));
+        },
+    ]);
     assert!(
         strings.iter().all(|bytes| *bytes == subject.bytes),
-        "both write the bytes"
+        "all write the bytes"
     );
     seconds
 }
 
-fn print_row(what: &str, subject: &Subject, seconds: [f64; 2]) {
+/// The proved call's speed, and after it the speed of each other with the ratio to it.
+fn print_row(what: &str, subject: &Subject, seconds: &[f64]) {
     let name = format!("{what} {}, {}", subject.name, subject.bytes.len());
-    let [proved, plain] = seconds.map(|seconds| subject.bytes.len() as f64 / seconds / 1e6);
-    println!(
-        "{name:<34} {proved:>8.0}  {plain:>8.0}  {:>8.2}",
-        proved / plain
-    );
+    let speed = |seconds: f64| subject.bytes.len() as f64 / seconds / 1e6;
+    print!("{name:<34} {:>8.0}", speed(seconds[0]));
+    for &other in &seconds[1..] {
+        print!("  {:>8.0}  {:>8.2}", speed(other), other / seconds[0]);
+    }
+    println!();
 }

@@ -71,10 +71,9 @@ fn race(
 ) -> [f64; 2] {
     let mut outs = [[0; OUT_PLACES]; 2];
     let [ours, others] = &mut outs;
-    let seconds = timer.race(
-        || assert_eq!(black_box(proved(ours)), 0),
-        || assert_eq!(black_box(plain(others)), 0),
-    );
+    let mut proved = || assert_eq!(black_box(proved(ours)), 0);
+    let mut plain = || assert_eq!(black_box(plain(others)), 0);
+    let seconds = timer.race([&mut proved, &mut plain]);
     assert_eq!(outs[0], outs[1], "both give the same figures");
     seconds
 }

@@ -1,4 +1,4 @@
-//! Two calls, timed in turns.
+//! Calls, timed in turns.
 
 use std::time::{Duration, Instant};
 
@@ -21,21 +21,19 @@ impl Timer {
     };
 
     /// The least seconds per call of each, over samples taken in turns.
-    pub fn race(self, mut one: impl FnMut(), mut other: impl FnMut()) -> [f64; 2] {
-        let counts = [
-            self.calls_in_a_sample(&mut one),
-            self.calls_in_a_sample(&mut other),
-        ];
-        let mut least = [f64::INFINITY; 2];
+    pub fn race<const CALLS: usize>(self, mut calls: [&mut dyn FnMut(); CALLS]) -> [f64; CALLS] {
+        let counts = calls.each_mut().map(|call| self.calls_in_a_sample(call));
+        let mut least = [f64::INFINITY; CALLS];
         for _ in 0..self.samples {
-            least[0] = least[0].min(seconds_per_call(&mut one, counts[0]));
-            least[1] = least[1].min(seconds_per_call(&mut other, counts[1]));
+            for ((least, call), count) in least.iter_mut().zip(&mut calls).zip(counts) {
+                *least = least.min(seconds_per_call(call, count));
+            }
         }
         least
     }
 
     /// How many calls a sample has, found by doubling.
-    fn calls_in_a_sample(self, call: &mut impl FnMut()) -> u32 {
+    fn calls_in_a_sample(self, call: &mut dyn FnMut()) -> u32 {
         let mut count = 1;
         while Duration::from_secs_f64(seconds_per_call(call, count) * f64::from(count))
             < self.sample
@@ -46,7 +44,7 @@ impl Timer {
     }
 }
 
-fn seconds_per_call(call: &mut impl FnMut(), count: u32) -> f64 {
+fn seconds_per_call(call: &mut dyn FnMut(), count: u32) -> f64 {
     let start = Instant::now();
     for _ in 0..count {
         call();

@@ -18,12 +18,14 @@ pub fn subjects() -> Vec<Subject> {
     let pair = of_size(&mut rng, Size::LARGEST);
     let any_size = |_| rng.bits() as i64 >> rng.below(64);
     let mixed = (0..COUNT).map(any_size).collect();
-    let one_byte = (0..COUNT as i64).map(|number| number % 64).collect();
+    let from = |first: i64, count: i64| (0..COUNT as i64).map(|i| first + i % count).collect();
     let ends = [i64::MIN, i64::MAX].repeat(COUNT / 2);
     vec![
         subject("largest case", pair.case.list()),
         subject("largest plan", pair.plan.list()),
-        subject("one byte each", one_byte),
+        subject("one byte each", from(0, 64)),
+        subject("two bytes each", from(64, 8_128)),
+        subject("three bytes each", from(55_000, 10_000)),
         subject("any size", mixed),
         subject("both ends of i64", ends),
     ]

@@ -71,7 +71,7 @@ pub fn write(list: &[i64], bytes: &mut [u8]) -> Answer<usize> {
     Ok(next)
 }
 
-fn rule_4_bytes_fit(list: &[i64], room: usize) -> Answer<()> {
+pub(crate) fn rule_4_bytes_fit(list: &[i64], room: usize) -> Answer<()> {
     ask(4, length(list) <= room, 0, 0)
 }
 
@@ -87,7 +87,7 @@ fn groups(folded: u64) -> usize {
 }
 
 /// 2n, or -2n - 1 if negative, which is the complement of 2n.
-fn fold(number: i64) -> u64 {
+pub(crate) fn fold(number: i64) -> u64 {
     let doubled = (number as u64) << 1;
     if number < 0 { !doubled } else { doubled }
 }

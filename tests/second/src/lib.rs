@@ -8,6 +8,7 @@
 pub mod call;
 pub mod case;
 pub mod codec;
+pub mod earlier;
 pub mod ledger;
 pub mod plan;
 pub mod program;

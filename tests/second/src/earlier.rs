@@ -1,0 +1,36 @@
+//! The writer with a spare array, of the kind that P4 asks to be rid of: it puts a number's groups together there and
+//! copies them into the lent bytes. It is kept to be held against.
+
+use crate::codec::{fold, rule_4_bytes_fit};
+use crate::verdict::Answer;
+
+/// The most bytes that a number takes.
+const WIDEST: usize = 10;
+
+/// Writes the whole list into the lent bytes and gives the count of bytes.
+pub fn write(list: &[i64], bytes: &mut [u8]) -> Answer<usize> {
+    rule_4_bytes_fit(list, bytes.len())?;
+    let mut spare = [0; WIDEST];
+    let mut next = 0;
+    for &number in list {
+        let width = put_groups(fold(number), &mut spare);
+        bytes[next..next + width].copy_from_slice(&spare[..width]);
+        next += width;
+    }
+    Ok(next)
+}
+
+/// Puts the groups at the front of the array and gives their count.
+fn put_groups(folded: u64, spare: &mut [u8; WIDEST]) -> usize {
+    let mut rest = folded;
+    let mut width = 0;
+    loop {
+        let group = (rest % 128) as u8;
+        rest /= 128;
+        spare[width] = if rest == 0 { group } else { group + 128 };
+        width += 1;
+        if rest == 0 {
+            return width;
+        }
+    }
+}
