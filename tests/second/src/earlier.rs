@@ -24,13 +24,11 @@ pub fn write(list: &[i64], bytes: &mut [u8]) -> Answer<usize> {
 fn put_groups(folded: u64, spare: &mut [u8; WIDEST]) -> usize {
     let mut rest = folded;
     let mut width = 0;
-    loop {
-        let group = (rest % 128) as u8;
+    while rest > 127 {
+        spare[width] = (rest % 128) as u8 + 128;
         rest /= 128;
-        spare[width] = if rest == 0 { group } else { group + 128 };
         width += 1;
-        if rest == 0 {
-            return width;
-        }
     }
+    spare[width] = rest as u8;
+    width + 1
 }
