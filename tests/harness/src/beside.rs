@@ -85,13 +85,25 @@ impl Beside {
         Ok(reply)
     }
 
+    /// The judge's writer and the earlier one are each held against the second checker's.
     pub fn write(&mut self, list: &[i64], room: usize) -> Result<Reply, Difference> {
         let outs = self.outs();
+        let lent = Lent::new(room);
+        let second = |bytes: &mut Lent<u8>, out: &mut [i64]| calls::write(list, bytes.room(), out);
+        both(
+            || format!("the earlier writer as judge: write {list:?} into {room} bytes"),
+            lent.clone(),
+            outs.clone(),
+            second,
+            Some(|bytes: &mut Lent<u8>, out: &mut [i64]| {
+                calls::write_earlier(list, bytes.room(), out)
+            }),
+        )?;
         let reply = both(
             || format!("write {list:?} into {room} bytes"),
-            Lent::new(room),
+            lent,
             outs,
-            |bytes: &mut Lent<u8>, out| calls::write(list, bytes.room(), out),
+            second,
             self.judge.write.as_ref().map(|write| {
                 |bytes: &mut Lent<u8>, out: &mut [i64]| write(list, bytes.room(), out)
             }),

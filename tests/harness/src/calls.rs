@@ -4,7 +4,7 @@
 //! first two places of `out`. With fewer than six places in `out` it gives -1 and touches
 //! nothing. Places of `out` that an answer doesn't use stay as they were.
 
-use second::{Answer, Refusal, call, case, codec, ledger, plan, program};
+use second::{Answer, Refusal, call, case, codec, earlier, ledger, plan, program};
 
 pub const OUT_PLACES: usize = 6;
 
@@ -65,6 +65,14 @@ pub fn write(list: &[i64], bytes: &mut [u8], out: &mut [i64]) -> i64 {
         return NO_ROOM;
     }
     answer(codec::write(list, bytes).map(count), out)
+}
+
+/// The writer with a spare array.
+pub fn write_earlier(list: &[i64], bytes: &mut [u8], out: &mut [i64]) -> i64 {
+    if out.len() < OUT_PLACES {
+        return NO_ROOM;
+    }
+    answer(earlier::write(list, bytes).map(count), out)
 }
 
 pub fn judge_case(case: &[i64], out: &mut [i64]) -> i64 {

@@ -1,12 +1,21 @@
 //! Reading and writing, string by string and list by list, in every room.
 
-use inputs::bytes::{any_bytes, encode};
-use inputs::damage::any_list;
-use inputs::{Rng, bytes::BYTES_AIMS};
+use inputs::bytes::{BYTES_AIMS, any_bytes, encode};
+use inputs::damage::{any_list, damage_list};
+use inputs::{Refused, Rng, generate};
 
 use crate::beside::{Beside, Difference};
 
-/// One string read and one list written, in each room from 0 to one more than needed.
+/// The time for all rooms grows as the square of a list, so longer ones are cut.
+const MOST_NUMBERS: usize = 1_000;
+
+const NO_BYTES: Refused = Refused {
+    number: 4,
+    step: 0,
+    place: 0,
+};
+
+/// One string read and one list written, in each room from 0 to more than needed.
 pub fn round(beside: &mut Beside, seed: u64) -> Result<(), Difference> {
     beside.begin(seed);
     let mut rng = Rng::new(seed);
@@ -18,12 +27,8 @@ pub fn round(beside: &mut Beside, seed: u64) -> Result<(), Difference> {
     }
     let list = any_list(&mut rng, 4);
     beside.input = "numbers of any size";
-    let encoded = encode(&list).bytes;
-    for room in 0..=encoded.len() + 1 {
-        beside.write(&list, room)?;
-    }
-    there_and_back(beside, &list, &encoded)?;
-    beside.tally.strings_and_lists += 2;
+    write_in_every_room(beside, &list)?;
+    beside.tally.strings_and_lists += 1;
     for (name, aim) in BYTES_AIMS {
         if let Some(aimed) = aim(&mut rng, &list) {
             beside.input = name;
@@ -34,6 +39,39 @@ pub fn round(beside: &mut Beside, seed: u64) -> Result<(), Difference> {
         }
     }
     Ok(())
+}
+
+/// The lists of an accepted pair, undamaged and damaged, each written in every room.
+pub fn lists_round(beside: &mut Beside, seed: u64) -> Result<(), Difference> {
+    beside.begin(seed);
+    let mut rng = Rng::new(seed);
+    let pair = generate::accepted(&mut rng);
+    for mut list in [pair.case.list(), pair.plan.list()] {
+        list.truncate(MOST_NUMBERS);
+        beside.input = "a list of an accepted pair";
+        write_in_every_room(beside, &list)?;
+        damage_list(&mut rng, &mut list);
+        beside.input = "a damaged list";
+        write_in_every_room(beside, &list)?;
+    }
+    Ok(())
+}
+
+/// Writes the list in each room from 0 to two bytes more than it needs.
+pub fn write_in_every_room(beside: &mut Beside, list: &[i64]) -> Result<(), Difference> {
+    let encoded = encode(list).bytes;
+    let needed = encoded.len();
+    for room in 0..=needed + 2 {
+        let reply = beside.write(list, room)?;
+        if room < needed {
+            reply.expect(NO_BYTES, "4 too few bytes")?;
+        } else if (reply.answer, reply.out[0]) != (0, needed as i64) {
+            let text = format!("{list:?} takes {needed} bytes, the second checker says {reply:?}");
+            return Err(Difference { text });
+        }
+    }
+    beside.tally.strings_and_lists += 1;
+    there_and_back(beside, list, &encoded)
 }
 
 /// What was written is what the inputs' own encoding says, and reads back as the list.

@@ -1,5 +1,5 @@
-//! The writer with a spare array, of the kind that P4 asks to be rid of: it puts a number's groups together there and
-//! copies them into the lent bytes. It is kept to be held against.
+//! The earlier writer, as P4 describes it: a number's groups are put together in a spare array and copied into the
+//! lent bytes. The proved writer never had such an array, so this one is kept to hold bytes, refusals and speed against.
 
 use crate::codec::{fold, rule_4_bytes_fit};
 use crate::verdict::Answer;

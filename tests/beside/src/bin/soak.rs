@@ -5,7 +5,10 @@ use std::process::ExitCode;
 use std::time::{Duration, Instant};
 
 use beside::library;
-use harness::{Beside, codec_rounds, rounds};
+use harness::{Beside, Difference, codec_rounds, rounds};
+
+/// One seed in so many has its lists written in every room, which takes as long as many rounds.
+const LISTS_IN: u64 = 32;
 
 fn main() -> ExitCode {
     let arguments: Vec<u64> = env::args()
@@ -25,9 +28,7 @@ fn soak(time: Duration, first_seed: u64) -> ExitCode {
     let mut beside = Beside::new(library::judge());
     let mut seed = first_seed;
     loop {
-        let round =
-            rounds::round(&mut beside, seed).and_then(|()| codec_rounds::round(&mut beside, seed));
-        if let Err(difference) = round {
+        if let Err(difference) = round(&mut beside, seed) {
             println!("{difference}");
             println!("again: tests/soak 0 {seed}");
             return ExitCode::FAILURE;
@@ -40,4 +41,13 @@ fn soak(time: Duration, first_seed: u64) -> ExitCode {
     println!("{}", beside.tally);
     println!("no difference in {} rounds", seed.wrapping_sub(first_seed));
     ExitCode::SUCCESS
+}
+
+fn round(beside: &mut Beside, seed: u64) -> Result<(), Difference> {
+    rounds::round(beside, seed)?;
+    codec_rounds::round(beside, seed)?;
+    if seed.is_multiple_of(LISTS_IN) {
+        codec_rounds::lists_round(beside, seed)?;
+    }
+    Ok(())
 }

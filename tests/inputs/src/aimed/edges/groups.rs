@@ -19,7 +19,7 @@ pub struct WriteEdge {
 }
 
 /// The last number of each count of groups and the next one, of both signs, and the numbers about 0.
-fn numbers() -> Vec<i64> {
+pub fn numbers_of_every_width() -> Vec<i64> {
     let mut numbers = vec![0, -1, 1, i64::MIN, i64::MAX];
     for groups in 1..=9 {
         let next = 1 << (7 * groups - 1);
@@ -41,7 +41,10 @@ fn reads(
             expect,
         })
     };
-    numbers().into_iter().filter_map(read).collect()
+    numbers_of_every_width()
+        .into_iter()
+        .filter_map(read)
+        .collect()
 }
 
 fn refused_by(number: u8) -> Expect {
@@ -90,7 +93,7 @@ fn writes(less: usize, expect: Expect) -> Vec<WriteEdge> {
         room: encode(&[number]).bytes.len() - less,
         expect,
     };
-    numbers().into_iter().map(write).collect()
+    numbers_of_every_width().into_iter().map(write).collect()
 }
 
 pub fn edge_4_just_room() -> Vec<WriteEdge> {

@@ -17,7 +17,7 @@ mod table;
 mod turned;
 
 use branch::Branch;
-pub use groups::{ReadEdge, WriteEdge};
+pub use groups::{ReadEdge, WriteEdge, numbers_of_every_width};
 pub use table::{EDGES, EDGES_OF_FIELDS, LEDGER_EDGES, READ_EDGES, WRITE_EDGES};
 
 use crate::model::{Pair, Refused};
