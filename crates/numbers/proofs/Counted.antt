@@ -1,9 +1,8 @@
--- The groups of a 64-bit number, as a loop takes them off: at most ten, since each takes seven bits of the length.
+-- How many groups a 64-bit number has, by its length in bits: each group takes seven of them.
 -- Assumes nothing.
 use mathlib.Core.Path.{_≡_, refl, ap, subst, _∙_}
 use mathlib.Core.Bool.{Bool, true, false}
-use mathlib.Core.List.{_∷_}
-use Prim.Native.Nat.{ℕ, zero, suc, _+_, _*_, _-_, _/_, _%_, _^_, _≤_, _<_}
+use Prim.Native.Nat.{ℕ, zero, suc, _+_, _*_, _-_, _/_, _^_, _≤_, _<_}
 use native.Mathlib.Nat.{pow-suc}
 use lib.Count.{leadingZeros, leading-length}
 use lib.Pow.{pow-mono}
@@ -13,32 +12,6 @@ use lib.Dec.{ltb, leb}
 use lib.ListN.{length}
 use Rattle.numbers.specs.law.Groups.{groups, groupsUpTo}
 use Rattle.numbers.specs.inside.GroupLaws.{one-group, more-groups}
-
--- `rest` is what is left of a 64-bit number with room for `more` groups before the last
-pub record Left (rest more : ℕ) : Type 0 where
-  pub few : more ≤ 9
-  pub small : rest < 2 * 128 ^ more
-
-pub left-all : (m : ℕ) → m < 2 ^ 64 → Left m 9
-left-all m h = record { few = omega arith; small = h }
-
--- a group is taken off where `rest` has more than one
-pub record Turned (rest more : ℕ) : Type 0 where
-  pub less : ℕ
-  pub is : more ≡ suc less
-  pub left : Left (rest / 128) less
-  pub first : groupsUpTo more rest ≡ (rest % 128 + 128) ∷ groupsUpTo less (rest / 128)
-
-pub turned : (rest more : ℕ) → 128 ≤ rest → Left rest more → Turned rest more
-turned rest zero h l = let f : ⊥ = omega (arith, l .small) in absurd f
-turned rest (suc less) h l = record {
-  less = less;
-  is = refl;
-  left = record { few = omega (arith, l .few); small = let e = pow-suc 128 less in omega (arith, l .small) };
-  first = more-groups less rest h;
-}
-
--- ---- the count of groups, by the length in bits
 
 -- m has k binary digits
 pub record Long (m k : ℕ) : Type 0 where
@@ -75,7 +48,8 @@ count-long : (more m k : ℕ) → m < 2 * 128 ^ more → 1 ≤ m → Long m k �
 count-long zero m k h s l = let a = long-short m k l (omega (arith, h)) in let b = long-some m k l s in omega arith
 count-long (suc more) m k h s l = go (ltb m 128) refl (count-long more (m / 128))
   where
-    go : (t : Bool) → ltb m 128 ≡ t → ((j : ℕ) → m / 128 < 2 * 128 ^ more → 1 ≤ m / 128 → Long (m / 128) j → length (groupsUpTo more (m / 128)) ≡ (j + 6) / 7)
+    go : (t : Bool) → ltb m 128 ≡ t
+        → ((j : ℕ) → m / 128 < 2 * 128 ^ more → 1 ≤ m / 128 → Long (m / 128) j → length (groupsUpTo more (m / 128)) ≡ (j + 6) / 7)
         → length (groupsUpTo (suc more) m) ≡ (k + 6) / 7
     go true t again =
         let n = ltb-true m 128 t in
@@ -88,9 +62,40 @@ count-long (suc more) m k h s l = go (ltb m 128) refl (count-long more (m / 128)
         let r = again (j .0) (omega (arith, h, pow-suc 128 more)) (omega arith) (long-next m (j .0) (subst (Long m) (j .1) l)) in
         omega (arith, ap length (more-groups more m n), r, j .1)
 
--- the code's own count, from the zeros above the highest digit
-pub width-is : (m zeros : ℕ) → 128 ≤ m → m < 2 ^ 64 → zeros ≡ leadingZeros 64 m → (70 - zeros) / 7 ≡ length (groups m)
+-- a number and the odd one beside it have equally many
+odd-groups : (more m : ℕ) → length (groupsUpTo more (m / 2 * 2 + 1)) ≡ length (groupsUpTo more m)
+odd-groups zero m = refl
+odd-groups (suc more) m = go (ltb m 128) refl
+  where
+    go : (b : Bool) → ltb m 128 ≡ b → length (groupsUpTo (suc more) (m / 2 * 2 + 1)) ≡ length (groupsUpTo (suc more) m)
+    go true t =
+        let h = ltb-true m 128 t in
+        rw (one-group (suc more) m h, one-group (suc more) (m / 2 * 2 + 1) (omega arith))
+    go false t =
+        let h = ltb-false m 128 t in
+        let e : (m / 2 * 2 + 1) / 128 ≡ m / 128 = omega arith in
+        rw (more-groups more m h, more-groups more (m / 2 * 2 + 1) (omega arith), e)
+
+-- the odd number's length, which the zeros above make up to 64
+record Reach (m : ℕ) : Type 0 where
+  bits : ℕ
+  all : leadingZeros 64 (m / 2 * 2 + 1) + bits ≡ 64
+  long : Long (m / 2 * 2 + 1) bits
+  some : 1 ≤ bits
+
+reach : (m : ℕ) → m < 2 ^ 64 → Reach m
+reach m l =
+    let d = leading-length 64 (m / 2 * 2 + 1) (omega (arith, l)) in
+    let k : Long (m / 2 * 2 + 1) (d .0) = record { below = d .2; top = d .3 } in
+    record { bits = d .0; all = d .1; long = k; some = long-some _ _ k (omega arith) }
+
+pub zeros-below : (m : ℕ) → m < 2 ^ 64 → leadingZeros 64 (m / 2 * 2 + 1) ≤ 63
+zeros-below m l = let r = reach m l in omega (arith, r .all, r .some)
+
+-- the code's own count, from the zeros above the odd number's highest digit
+pub width-is : (m zeros : ℕ) → m < 2 ^ 64 → zeros ≡ leadingZeros 64 (m / 2 * 2 + 1) → (9 * (63 - zeros) + 73) / 64 ≡ length (groups m)
 unfolding groups
-width-is m zeros h l e =
-    let d = leading-length 64 m l in
-    omega (arith, e, d .1, count-long 9 m (d .0) (omega (arith, l)) (omega arith) (record { below = d .2; top = d .3 }))
+width-is m zeros l e =
+    let r = reach m l in
+    let c = count-long 9 (m / 2 * 2 + 1) (r .bits) (omega (arith, l)) (omega arith) (r .long) in
+    omega (arith, e, r .all, r .some, c, odd-groups 9 m)

@@ -8,6 +8,7 @@ pub mod SetLaws
 pub mod ItemBits
 pub mod MappingLaws
 pub mod GroupLaws
+pub mod LeadingGroups
 pub mod ReadingBounds
 pub mod RoundTripLaws
 pub mod Shifted

@@ -1,10 +1,11 @@
 // Numbers to bytes, in groups of seven.
 ghost use mathlib.Core.Path.{_≡_};
-ghost use Prim.Native.Nat.{_+_, _≤_};
+ghost use Prim.Native.Nat.{_+_, _≤_, _<_};
 ghost use lib.ListN.{length};
 ghost use lib.Seq.{sets};
 ghost use Rattle.numbers.specs.law.Groups.{encode, groups, writeTold, written};
 ghost use Rattle.numbers.specs.inside.GroupLaws.{sizeOf};
+ghost use Rattle.numbers.specs.inside.LeadingGroups.{leading, past};
 ghost use Rattle.numbers.specs.law.CodecTold.{writingTold};
 use crate::mapping::unsigned;
 
@@ -55,15 +56,12 @@ fn size_of(list: &[i64], room: usize) -> Size
     Size::Fits(total)
 }
 
-// How many groups a number has, by its length in bits.
+// How many groups a number has, by where its highest bit stands. Its odd neighbour has as many, and a highest bit even where the number is 0.
 fn width(m: u64) -> usize
     ensures { λ r. ⌜ r ≡ length (groups m) ⌝ }
 {
-    if m < 128 {
-        return 1;
-    }
-    let above = u64::leading_zeros(m) as usize;
-    (70 - above) / 7
+    let above = u64::leading_zeros(m / 2 * 2 + 1) as usize;
+    (9 * (63 - above) + 73) / 64
 }
 
 // Every number of the list, one after the other from the front of the bytes.
@@ -85,13 +83,58 @@ fn put(bytes: &mut [u8], at: usize, m: u64) -> usize
     ensures { λ r. ⌜ r ≡ at + length (groups m) ⌝ }
     ensures { λ _. ⌜ now (bytes .exit) ≡ sets (now (bytes .entry)) at (groups m) ⌝ }
 {
+    if m < 16384 {
+        return put_short(bytes, at, m);
+    }
+    if m < 268435456 {
+        let rest = put_leading(bytes, at, m, 2);
+        return put_short(bytes, at + 2, rest);
+    }
+    put_long(bytes, at, m)
+}
+
+// One group or two.
+fn put_short(bytes: &mut [u8], at: usize, m: u64) -> usize
+    requires { ⌜ m < 16384 ⌝ }
+    requires { ⌜ at + length (groups m) ≤ length (now bytes) ⌝ }
+    ensures { λ r. ⌜ r ≡ at + length (groups m) ⌝ }
+    ensures { λ _. ⌜ now (bytes .exit) ≡ sets (now (bytes .entry)) at (groups m) ⌝ }
+{
+    if m < 128 {
+        bytes[at] = m as u8;
+        return at + 1;
+    }
+    bytes[at] = (m % 128 + 128) as u8;
+    bytes[at + 1] = (m / 128) as u8;
+    at + 2
+}
+
+// Five groups or more: the first five, and then the last five over them. A test after each group would cost more than placing some of them twice.
+fn put_long(bytes: &mut [u8], at: usize, m: u64) -> usize
+    requires { ⌜ 268435456 ≤ m ⌝ }
+    requires { ⌜ at + length (groups m) ≤ length (now bytes) ⌝ }
+    ensures { λ r. ⌜ r ≡ at + length (groups m) ⌝ }
+    ensures { λ _. ⌜ now (bytes .exit) ≡ sets (now (bytes .entry)) at (groups m) ⌝ }
+{
+    let before = width(m) - 5;
+    put_leading(bytes, at, m, 5);
+    let last = put_leading(bytes, at + before, m >> (7 * before), 4);
+    bytes[at + before + 4] = last as u8;
+    at + before + 5
+}
+
+// The first `count` groups of a number that has more; what is left of it is the answer.
+fn put_leading(bytes: &mut [u8], at: usize, m: u64, count: usize) -> u64
+    requires { ⌜ at + count ≤ length (now bytes) ⌝ }
+    ensures { λ r. ⌜ r ≡ past count m ⌝ }
+    ensures { λ _. ⌜ now (bytes .exit) ≡ sets (now (bytes .entry)) at (leading count m) ⌝ }
+{
     let mut rest = m;
-    let mut i = at;
-    while 128 <= rest {
-        bytes[i] = (rest % 128 + 128) as u8;
+    let mut i: usize = 0;
+    while i < count {
+        bytes[at + i] = (rest % 128 + 128) as u8;
         rest = rest / 128;
         i += 1;
     }
-    bytes[i] = (rest % 128) as u8;
-    i + 1
+    rest
 }

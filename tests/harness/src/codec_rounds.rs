@@ -6,9 +6,6 @@ use inputs::{Refused, Rng, generate};
 
 use crate::beside::{Beside, Difference};
 
-/// The time for all rooms grows as the square of a list, so longer ones are cut.
-const MOST_NUMBERS: usize = 1_000;
-
 const NO_BYTES: Refused = Refused {
     number: 4,
     step: 0,
@@ -47,7 +44,6 @@ pub fn lists_round(beside: &mut Beside, seed: u64) -> Result<(), Difference> {
     let mut rng = Rng::new(seed);
     let pair = generate::accepted(&mut rng);
     for mut list in [pair.case.list(), pair.plan.list()] {
-        list.truncate(MOST_NUMBERS);
         beside.input = "a list of an accepted pair";
         write_in_every_room(beside, &list)?;
         damage_list(&mut rng, &mut list);

@@ -1,40 +1,61 @@
--- What the bytes hold at the end stays the same: the groups of `rest` are still to be placed from `i` on.
-use mathlib.Core.Path.{_≡_, _∙_}
-use Prim.Native.Nat.{_<_, _%_}
+-- One group or two, two groups and then one or two of what is left, or five and more: in each case all groups of the number.
+use mathlib.Core.Path.{_≡_, ap, sym, _∙_}
+use mathlib.Core.List.{_++_}
+use Prim.Native.Nat.{ℕ, _+_}
 use borrow.Author.Needs.{needs}
 use native.Mathlib.Omega.{arith}
-use lib.ListN.{length, length-set}
-use Rattle.numbers.proofs.Placed.{Placing, placing, place-free, place-turn, place-last}
+use lib.ListN.{length, length-append}
+use lib.Seq.{sets, length-sets}
+use Rattle.numbers.specs.law.Groups.{groups}
+use Rattle.numbers.specs.inside.OverlayLaws.{sets-append}
+use Rattle.numbers.specs.inside.LeadingGroups.{leading, past, middle-groups}
 use Rattle.numbers.proofs.writer.put.Statement.{statement}
 use Rattle.numbers.proofs.writer.put.Tie as tie
+use Rattle.numbers.proofs.writer.put.Reads as reads
+use Rattle.numbers.proofs.writer.put.Lts as lts
+use Rattle.numbers.proofs.writer.put_leading.Reads as put-leading-reads
+use Rattle.numbers.proofs.writer.put_long.Reads as put-long-reads
+use Rattle.numbers.proofs.writer.put_short.Reads as put-short-reads
 
-abbrev Inv-loop : tie.InvT-loop
-Inv-loop bytes₀ at m rest₀ i₀ bytes rest i = Placing bytes₀ at m bytes rest i
+-- of three groups or four: two, and those of what is left
+parts : (t : tie.Then2) → let m = t .before .before .before .args .m in groups m ≡ leading 2 m ++ groups (past 2 m)
+parts t = middle-groups _ (t .before .if1 .left) (t .if2 .taken)
 
-abbrev μ-loop : tie.MeasureT-loop
-μ-loop bytes₀ at m rest₀ i₀ bytes rest i = rest
+count : (t : tie.Then2) → let m = t .before .before .before .args .m in length (groups m) ≡ 2 + length (groups (past 2 m))
+count t = let m = t .before .before .before .args .m in ap length (parts t) ∙ length-append (leading 2 m) (groups (past 2 m))
 
-loop-holds : tie.Need-loop-holds Inv-loop μ-loop
-loop-holds c = placing _ _ _ (search needs)
+put-leading-requires : tie.Need-put-leading-requires
+put-leading-requires c κs = omega (arith, count (c .before), c .before .before .before .before .pre)
 
--- there is a place for one more byte, at every test of the loop
-free : (l : tie.At-loop Inv-loop μ-loop) → l .loop .i < length (l .loop .bytes)
-free l = place-free (l .loop .inv) (l .before .pre)
+-- the bytes after the two, and what is left
+leads : (p : tie.After-put-leading)
+    → let s = p .before .before .before .before .before .args in
+    (p .put-leading .result ≡ past 2 (s .m)) × (p .put-leading .last .0 ≡ sets (s .bytes .now) (s .at) (leading 2 (s .m)))
+leads p = p .put-leading .ensures
 
-loop-again : tie.Need-loop-again Inv-loop μ-loop
-loop-again c = place-turn (c .before .loop .inv) (c .loop-test .taken)
+put-short-requires-2 : tie.Need-put-short-requires-2
+put-short-requires-2 c κs =
+    let p = c .before .before .before in
+    let t = p .before .before in
+    let s = t .before .before .before in
+    let l = leads p in
+    let whole = ap length (l .1) ∙ length-sets (s .args .bytes .now) (s .args .at) (leading 2 (s .args .m)) in
+    (omega (arith, l .0, t .if2 .taken), omega (arith, count t, s .pre, whole, ap (λ (m : ℕ). length (groups m)) (l .0)))
 
-same-length : tie.Need-same-length Inv-loop μ-loop
-same-length c = length-set (c .before .loop .bytes) _ _ ∙ c .before .loop .inv .whole
-
-returns : tie.Need-returns Inv-loop μ-loop
-returns c =
-    let e : c .before .loop .rest % 128 ≡ c .before .loop .rest = omega (arith, c .loop-test .left) in
-    let p = place-last (c .before .loop .inv) (c .loop-test .left) in
-    (p .1, rw e (p .0))
+returns-2 : tie.Need-returns-2
+returns-2 c =
+    let q = c .before .before in
+    let p = q .before .before .before .before in
+    let t = p .before .before in
+    let s = t .before .before .before .args in
+    let l = leads p in (
+      q .put-short2 .ensures .0 ∙ omega (arith, count t, ap (λ (m : ℕ). length (groups m)) (l .0)),
+      q .put-short2 .ensures .1
+          ∙ rw (l .0, l .1) (sym (sets-append (s .bytes .now) (s .at) (leading 2 (s .m)) (groups (past 2 (s .m)))))
+          ∙ ap (sets (s .bytes .now) (s .at)) (sym (parts t)),
+    )
 
 pub put-spec : {M : Type 1} → statement M
 put-spec = tie.close (tie.spec
-    Inv-loop μ-loop loop-holds (λ c. search needs) (λ c. search needs) (λ c. free (c .before))
-    (λ c. omega (arith, free (c .before))) (λ c. omega arith) loop-again (λ c. search needs) (λ c. free (c .before))
-    (λ c. omega (arith, free (c .before))) same-length returns)
+    (λ c κs. search needs) (λ c. search needs) (λ c. search needs) put-leading-requires (λ c. search needs) put-short-requires-2
+    (λ c. search needs) returns-2 (λ c κs. search needs) (λ c. search needs) (λ c. search needs))
