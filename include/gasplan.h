@@ -78,7 +78,7 @@ extern "C" {
  * the machine code, measures each call on a case and a plan of the largest size, and holds these figures, which have some
  * room, to both. */
 #define GASPLAN_STACK_READ 256
-#define GASPLAN_STACK_WRITE 64
+#define GASPLAN_STACK_WRITE 128
 #define GASPLAN_STACK_CASE 3072
 #define GASPLAN_STACK_JUDGE 6144
 #define GASPLAN_STACK_JUDGE_BYTES 6144

@@ -76,26 +76,18 @@ odd-groups (suc more) m = go (ltb m 128) refl
         let e : (m / 2 * 2 + 1) / 128 ≡ m / 128 = omega arith in
         rw (more-groups more m h, more-groups more (m / 2 * 2 + 1) (omega arith), e)
 
--- the odd number's length, which the zeros above make up to 64
-record Reach (m : ℕ) : Type 0 where
-  bits : ℕ
-  all : leadingZeros 64 (m / 2 * 2 + 1) + bits ≡ 64
-  long : Long (m / 2 * 2 + 1) bits
-  some : 1 ≤ bits
+-- by the zeros above the odd number's highest digit, of which it has one
+pub record Zeros (m zeros : ℕ) : Type 0 where
+  pub fewer : zeros ≤ 63
+  pub count : length (groups m) ≡ (70 - zeros) / 7
 
-reach : (m : ℕ) → m < 2 ^ 64 → Reach m
-reach m l =
+pub zeros-count : (m zeros : ℕ) → m < 2 ^ 64 → zeros ≡ leadingZeros 64 (m / 2 * 2 + 1) → Zeros m zeros
+unfolding groups
+zeros-count m zeros l e =
     let d = leading-length 64 (m / 2 * 2 + 1) (omega (arith, l)) in
     let k : Long (m / 2 * 2 + 1) (d .0) = record { below = d .2; top = d .3 } in
-    record { bits = d .0; all = d .1; long = k; some = long-some _ _ k (omega arith) }
-
-pub zeros-below : (m : ℕ) → m < 2 ^ 64 → leadingZeros 64 (m / 2 * 2 + 1) ≤ 63
-zeros-below m l = let r = reach m l in omega (arith, r .all, r .some)
-
--- the code's own count, from the zeros above the odd number's highest digit
-pub width-is : (m zeros : ℕ) → m < 2 ^ 64 → zeros ≡ leadingZeros 64 (m / 2 * 2 + 1) → (9 * (63 - zeros) + 73) / 64 ≡ length (groups m)
-unfolding groups
-width-is m zeros l e =
-    let r = reach m l in
-    let c = count-long 9 (m / 2 * 2 + 1) (r .bits) (omega (arith, l)) (omega arith) (r .long) in
-    omega (arith, e, r .all, r .some, c, odd-groups 9 m)
+    let some = long-some _ _ k (omega arith) in
+    record {
+      fewer = omega (arith, e, d .1, some);
+      count = omega (arith, e, d .1, count-long 9 (m / 2 * 2 + 1) (d .0) (omega (arith, l)) (omega arith) k, odd-groups 9 m);
+    }

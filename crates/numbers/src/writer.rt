@@ -56,7 +56,7 @@ fn size_of(list: &[i64], room: usize) -> Size
     Size::Fits(total)
 }
 
-// How many groups a number has, by where its highest bit stands. Its odd neighbour has as many, and a highest bit even where the number is 0.
+// How many groups a number has: one, and nine sixty-fourths of its length in bits. Its odd neighbour has as many, and a highest bit even beside 0.
 fn width(m: u64) -> usize
     ensures { λ r. ⌜ r ≡ length (groups m) ⌝ }
 {

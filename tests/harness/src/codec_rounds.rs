@@ -1,5 +1,6 @@
 //! Reading and writing, string by string and list by list, in every room.
 
+use inputs::aimed::edges::numbers_of_every_width;
 use inputs::bytes::{BYTES_AIMS, any_bytes, encode};
 use inputs::damage::{any_list, damage_list};
 use inputs::{Refused, Rng, generate};
@@ -12,7 +13,7 @@ const NO_BYTES: Refused = Refused {
     place: 0,
 };
 
-/// One string read and one list written, in each room from 0 to more than needed.
+/// One string read and two lists written, in each room from 0 to more than needed.
 pub fn round(beside: &mut Beside, seed: u64) -> Result<(), Difference> {
     beside.begin(seed);
     let mut rng = Rng::new(seed);
@@ -25,6 +26,9 @@ pub fn round(beside: &mut Beside, seed: u64) -> Result<(), Difference> {
     let list = any_list(&mut rng, 4);
     beside.input = "numbers of any size";
     write_in_every_room(beside, &list)?;
+    let edges = numbers_of_every_width();
+    beside.input = "a number at the edge of a width";
+    write_in_every_room(beside, &[edges[seed as usize % edges.len()]])?;
     beside.tally.strings_and_lists += 1;
     for (name, aim) in BYTES_AIMS {
         if let Some(aimed) = aim(&mut rng, &list) {
