@@ -57,6 +57,12 @@ fn write(timer: Timer, subject: &Subject) -> [f64; 3] {
         strings.iter().all(|bytes| *bytes == subject.bytes),
         "all write the bytes"
     );
+    let [proved, _, earlier] = seconds;
+    assert!(
+        proved < earlier,
+        "{}: the writer with a spare array is ahead",
+        subject.name
+    );
     seconds
 }
 
