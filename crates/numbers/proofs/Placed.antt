@@ -1,15 +1,15 @@
--- The first groups of a number, placed one after the other in the lent bytes: what the bytes hold at the end stays the same.
+-- Groups placed in the lent bytes: by a loop, by which what the bytes hold at the end stays the same; and in two goes, of which the later stands.
 -- Assumes nothing.
 use mathlib.Core.Path.{_≡_, refl, ap, sym, subst, _∙_}
-use mathlib.Core.List.{List, [], _∷_, _++_, append-assoc}
+use mathlib.Core.List.{List, _++_, append-assoc}
 use Prim.Native.Nat.{ℕ, suc, _+_, _*_, _-_, _/_, _%_, _^_, _≤_, _<_}
 use native.Mathlib.Omega.{arith}
 use lib.ListN.{length, set, length-set}
 use lib.Seq.{sets}
-use Rattle.numbers.specs.law.Groups.{groups, groupsUpTo}
+use Rattle.numbers.specs.law.Groups.{groups}
 use Rattle.numbers.specs.inside.OverlayLaws.{sets-append, sets-over}
-use Rattle.numbers.specs.inside.LeadingGroups.{leading, past, leading-length, leading-split}
-use Rattle.numbers.specs.inside.LeadingGroups.{past-split, past-shift, parted, at-most-ten}
+use Rattle.numbers.specs.inside.LeadingGroups.{leading, past, inGroups, Sized}
+use Rattle.numbers.specs.inside.LeadingGroups.{leading-length, in-groups-length, leading-split, past-split, past-shift}
 
 -- what is to be placed after the first i groups are those of `rest`
 pub record Placing (old : List ℕ) (at m count : ℕ) (bytes : List ℕ) (rest i : ℕ) : Type 0 where
@@ -41,49 +41,53 @@ module _ {old : List ℕ} {at m count : ℕ} {bytes : List ℕ} {rest i : ℕ} (
       let e : 0 ≡ count - i = omega arith in
       (ap (λ (n : ℕ). past n rest) e ∙ p .left, ap (λ (n : ℕ). sets bytes (at + i) (leading n rest)) e ∙ p .result)
 
--- ---- five groups or more: the first five, and then the last five over them
+-- ---- all groups of a number, one after the other
 
--- what is left of m after the groups before the last five
-abbrev pub lastFive : ℕ → ℕ → ℕ
-lastFive m before = m / 2 ^ (7 * before)
+module _ {k m : ℕ} (z : Sized k m) (at : ℕ) where
+  pub room-for : (room : ℕ) → at + length (groups m) ≤ room → (past k m < 128) × (at + k < room)
+  room-for room h = (z .small, omega (arith, z .count, h))
 
-pub record Five (m before : ℕ) : Type 0 where
-  pub count : length (groups m) ≡ before + 5
-  pub few : before ≤ 5
-  pub small : past 4 (lastFive m before) < 128
-  pub parts : groups m ≡ leading before m ++ (leading 4 (lastFive m before) ++ past 4 (lastFive m before) ∷ [])
+  pub all-placed : (r : ℕ) (old new : List ℕ) → r ≡ at + k + 1 → new ≡ sets old at (inGroups k m)
+      → (r ≡ at + length (groups m)) × (new ≡ sets old at (groups m))
+  all-placed r old new e d = (omega (arith, z .count, e), d ∙ ap (sets old at) (sym (z .parts)))
 
-pub five : (m before : ℕ) → m < 2 ^ 64 → length (groups m) ≡ before + 5 → Five m before
-unfolding groups
-five m before l e =
-    let n : length (groupsUpTo 9 m) ≡ suc (before + 4) = omega (arith, e) in
-    let both = parted 9 (before + 4) m l n in
+-- ---- the first groups of a number, and then the last ones over them
+
+-- what is left of m after the groups before the last ones
+abbrev pub leftAfter : ℕ → ℕ → ℕ
+leftAfter before m = m / 2 ^ (7 * before)
+
+-- `last` groups stand before the last group and after `before` others
+pub record Ends (before last m : ℕ) : Type 0 where
+  pub small : past last (leftAfter before m) < 128
+  pub parts : groups m ≡ leading before m ++ inGroups last (leftAfter before m)
+
+pub ends : (before last m : ℕ) → Sized (before + last) m → Ends before last m
+ends before last m z =
     let s = past-shift before m in
-    let p : past (before + 4) m ≡ past 4 (lastFive m before) = past-split before 4 m ∙ ap (past 4) s in
+    let p : past (before + last) m ≡ past last (leftAfter before m) = past-split before last m ∙ ap (past last) s in
     record {
-      count = e;
-      few = omega (arith, e, at-most-ten m);
-      small = subst (λ (n : ℕ). n < 128) p (both .small);
-      parts = both .parts ∙ rw (leading-split before 4 m, p, s) (append-assoc (leading before m) _ _);
+      small = subst (λ (n : ℕ). n < 128) p (z .small);
+      parts = z .parts ∙ rw (leading-split before last m, p, s) (append-assoc (leading before m) _ _);
     }
 
-module _ {m before : ℕ} (f : Five m before) (old : List ℕ) (at : ℕ) where
-  -- after the groups before the last five
+module _ {before last m : ℕ} (f : Ends before last m) (old : List ℕ) (at : ℕ) where
+  -- after the groups before the last ones
   after : (ys : List ℕ) → sets old at (leading before m ++ ys) ≡ sets (sets old at (leading before m)) (at + before) ys
   after ys = sets-append old at (leading before m) ys ∙ rw (leading-length before m)
 
-  first-five : sets old at (leading 5 m) ≡ sets (sets old at (leading before m)) (at + before) (leading (5 - before) (past before m))
-  first-five =
-      let e : before + (5 - before) ≡ 5 = omega (arith, f .few) in
-      ap (λ (n : ℕ). sets old at (leading n m)) (sym e) ∙ ap (sets old at) (leading-split before (5 - before) m) ∙ after _
-
-  -- the last five replace what the first five have from there on
-  pub place-over : (one two : List ℕ) (x : ℕ) → one ≡ sets old at (leading 5 m) → two ≡ sets one (at + before) (leading 4 (lastFive m before))
-      → x ≡ past 4 (lastFive m before) → set two (at + before + 4) x ≡ sets old at (groups m)
-  place-over one two x e d y =
-      let last = leading 4 (lastFive m before) ++ past 4 (lastFive m before) ∷ [] in
-      rw (d, y) (sym (sets-append one (at + before) (leading 4 (lastFive m before)) (past 4 (lastFive m before) ∷ [])))
-      ∙ ap (λ (b : List ℕ). sets b (at + before) last) (e ∙ first-five)
-      ∙ sets-over _ (at + before) (leading (5 - before) (past before m)) last (omega (arith, leading-length (5 - before) (past before m)))
-      ∙ sym (after last)
+  -- the last ones replace what the first ones have from there on
+  pub place-over : (first : ℕ) → before ≤ first → first ≤ before + suc last → (one two : List ℕ) → one ≡ sets old at (leading first m)
+      → two ≡ sets one (at + before) (inGroups last (leftAfter before m)) → two ≡ sets old at (groups m)
+  place-over first h k one two e d =
+      let n : before + (first - before) ≡ first = omega (arith, h) in
+      let common = leading (first - before) (past before m) in
+      let is : sets old at (leading first m) ≡ sets (sets old at (leading before m)) (at + before) common =
+      ap (λ (n : ℕ). sets old at (leading n m)) (sym n) ∙ ap (sets old at) (leading-split before (first - before) m) ∙ after common in
+      let short : length common ≤ length (inGroups last (leftAfter before m)) =
+      omega (arith, k, leading-length (first - before) (past before m), in-groups-length last (leftAfter before m)) in
+      d
+      ∙ ap (λ (b : List ℕ). sets b (at + before) (inGroups last (leftAfter before m))) (e ∙ is)
+      ∙ sets-over _ (at + before) common (inGroups last (leftAfter before m)) short
+      ∙ sym (after (inGroups last (leftAfter before m)))
       ∙ ap (sets old at) (sym (f .parts))

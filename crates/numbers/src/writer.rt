@@ -5,7 +5,7 @@ ghost use lib.ListN.{length};
 ghost use lib.Seq.{sets};
 ghost use Rattle.numbers.specs.law.Groups.{encode, groups, writeTold, written};
 ghost use Rattle.numbers.specs.inside.GroupLaws.{sizeOf};
-ghost use Rattle.numbers.specs.inside.LeadingGroups.{leading, past};
+ghost use Rattle.numbers.specs.inside.LeadingGroups.{leading, past, inGroups};
 ghost use Rattle.numbers.specs.law.CodecTold.{writingTold};
 use crate::mapping::unsigned;
 
@@ -56,7 +56,7 @@ fn size_of(list: &[i64], room: usize) -> Size
     Size::Fits(total)
 }
 
-// How many groups a number has: one, and nine sixty-fourths of its length in bits. Its odd neighbour has as many, and a highest bit even beside 0.
+// How many groups a number has: one, and nine sixty-fourths of its length in bits. The odd number beside it has as many, and is never 0.
 fn width(m: u64) -> usize
     ensures { λ r. ⌜ r ≡ length (groups m) ⌝ }
 {
@@ -83,47 +83,52 @@ fn put(bytes: &mut [u8], at: usize, m: u64) -> usize
     ensures { λ r. ⌜ r ≡ at + length (groups m) ⌝ }
     ensures { λ _. ⌜ now (bytes .exit) ≡ sets (now (bytes .entry)) at (groups m) ⌝ }
 {
+    if m < 128 {
+        return put_count(bytes, at, m, 0);
+    }
     if m < 16384 {
-        return put_short(bytes, at, m);
+        return put_count(bytes, at, m, 1);
+    }
+    if m < 2097152 {
+        return put_count(bytes, at, m, 2);
     }
     if m < 268435456 {
-        let rest = put_leading(bytes, at, m, 2);
-        return put_short(bytes, at + 2, rest);
+        return put_count(bytes, at, m, 3);
+    }
+    if m < 34359738368 {
+        return put_count(bytes, at, m, 4);
+    }
+    if m < 4398046511104 {
+        return put_count(bytes, at, m, 5);
     }
     put_long(bytes, at, m)
 }
 
-// One group or two.
-fn put_short(bytes: &mut [u8], at: usize, m: u64) -> usize
-    requires { ⌜ m < 16384 ⌝ }
-    requires { ⌜ at + length (groups m) ≤ length (now bytes) ⌝ }
-    ensures { λ r. ⌜ r ≡ at + length (groups m) ⌝ }
-    ensures { λ _. ⌜ now (bytes .exit) ≡ sets (now (bytes .entry)) at (groups m) ⌝ }
-{
-    if m < 128 {
-        bytes[at] = m as u8;
-        return at + 1;
-    }
-    bytes[at] = (m % 128 + 128) as u8;
-    bytes[at + 1] = (m / 128) as u8;
-    at + 2
-}
-
-// Five groups or more: the first five, and then the last five over them. A test after each group would cost more than placing some of them twice.
+// Seven groups or more: the first six, and then the last four over them. To ask after each would cost more than to place some of them twice.
 fn put_long(bytes: &mut [u8], at: usize, m: u64) -> usize
-    requires { ⌜ 268435456 ≤ m ⌝ }
+    requires { ⌜ 4398046511104 ≤ m ⌝ }
     requires { ⌜ at + length (groups m) ≤ length (now bytes) ⌝ }
     ensures { λ r. ⌜ r ≡ at + length (groups m) ⌝ }
     ensures { λ _. ⌜ now (bytes .exit) ≡ sets (now (bytes .entry)) at (groups m) ⌝ }
 {
-    let before = width(m) - 5;
-    put_leading(bytes, at, m, 5);
-    let last = put_leading(bytes, at + before, m >> (7 * before), 4);
-    bytes[at + before + 4] = last as u8;
-    at + before + 5
+    let before = width(m) - 4;
+    put_leading(bytes, at, m, 6);
+    put_count(bytes, at + before, m >> (7 * before), 3)
 }
 
-// The first `count` groups of a number that has more; what is left of it is the answer.
+// `count` groups that another follows, and what is left of the number as the last.
+fn put_count(bytes: &mut [u8], at: usize, m: u64, count: usize) -> usize
+    requires { ⌜ past count m < 128 ⌝ }
+    requires { ⌜ at + count < length (now bytes) ⌝ }
+    ensures { λ r. ⌜ r ≡ at + count + 1 ⌝ }
+    ensures { λ _. ⌜ now (bytes .exit) ≡ sets (now (bytes .entry)) at (inGroups count m) ⌝ }
+{
+    let last = put_leading(bytes, at, m, count);
+    bytes[at + count] = last as u8;
+    at + count + 1
+}
+
+// `count` groups that another follows; what is left of the number is the answer.
 fn put_leading(bytes: &mut [u8], at: usize, m: u64, count: usize) -> u64
     requires { ⌜ at + count ≤ length (now bytes) ⌝ }
     ensures { λ r. ⌜ r ≡ past count m ⌝ }

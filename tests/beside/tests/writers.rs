@@ -70,7 +70,7 @@ fn the_writers_agree_in_every_room() {
     let mut beside = Beside::new(library::judge());
     for seed in 0..ROUNDS {
         if let Err(difference) = codec_rounds::lists_round(&mut beside, seed) {
-            panic!("seed {seed}: {difference}");
+            panic!("tests/soak 0 {seed}: {difference}");
         }
     }
     let too_small = beside.tally.count(4);

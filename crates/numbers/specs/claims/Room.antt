@@ -2,18 +2,19 @@
 -- It is carried by two counts: a number has at most ten groups, and takes at least one byte.
 -- Assumes nothing.
 use mathlib.Core.Path.{_≡_, ap, _∙_}
-use mathlib.Core.Bool.{Bool, true, false, cond}
+use mathlib.Core.Bool.{true}
 use mathlib.Core.List.{List, [], _∷_}
-use Prim.Native.Nat.{ℕ, zero, suc, _+_, _*_, _/_, _%_, _≤_}
+use Prim.Native.Nat.{ℕ, zero, suc, _+_, _*_, _≤_}
 use native.Mathlib.Omega.{arith}
 use borrow.Author.Tests.{le-leb}
-use lib.Dec.{ltb, leb}
+use lib.Dec.{leb}
 use lib.IntN.{ℤ, pos}
 use lib.ListN.{length, drop, length-drop, length-append}
 use Rattle.numbers.specs.law.Told.{Told, gives, refuses, overlay}
 use Rattle.numbers.specs.law.Mapping.{unsignedOf}
 use Rattle.numbers.specs.law.Groups.{groupsUpTo, groups, encode, writeTold, written}
 use Rattle.numbers.specs.law.Reading.{numberOf, Ending, all, no, afterNumber, readFrom, readOf, endTold, readTold}
+use Rattle.numbers.specs.inside.GroupLaws.{most-groups}
 use Rattle.numbers.specs.inside.ReadingBounds.{Within, within-number}
 use Rattle.numbers.specs.declared.reader.Number.{Number}
 use Rattle.numbers.specs.declared.reader.Number.the-variants.{Whole, Refused}
@@ -23,15 +24,6 @@ use Rattle.numbers.specs.declared.writer.Writing.the-variants as writing
 use Rattle.numbers.specs.claims.CallsRoundTrip.{WriteCall, ReadCall, no-count, took, writing-count}
 
 -- ---- writing
-
-most-groups : (more m : ℕ) → length (groupsUpTo more m) ≤ suc more
-most-groups zero m = omega arith
-most-groups (suc more) m = go (most-groups more (m / 128)) (ltb m 128)
-  where
-    go : length (groupsUpTo more (m / 128)) ≤ suc more → (b : Bool)
-        → length (cond b (m ∷ []) ((m % 128 + 128) ∷ groupsUpTo more (m / 128))) ≤ suc (suc more)
-    go h true = omega arith
-    go h false = omega arith
 
 -- "A list of n numbers always fits into n * 10 bytes"
 pub list-fits : (list : List ℤ) → length (encode list) ≤ 10 * length list

@@ -12,7 +12,7 @@ use lib.ListN.{length, getD}
 use Rattle.numbers.specs.declared.writer.Size.{Size}
 use Rattle.numbers.specs.declared.writer.Size.the-variants.{Fits, Over}
 use Rattle.numbers.specs.law.Told.{Told, gives, refuses}
-use Rattle.numbers.specs.law.Groups.{groupsUpTo, encode, writeTold}
+use Rattle.numbers.specs.law.Groups.{groupsUpTo, groups, encode, writeTold}
 
 -- how many bytes a list takes, where they fit
 unfoldable pub sizeOf : List ℤ → ℕ → Size
@@ -32,6 +32,19 @@ some-group (suc more) m = go (ltb m 128)
     go : (b : Bool) → 1 ≤ length (cond b (m ∷ []) ((m % 128 + 128) ∷ groupsUpTo more (m / 128)))
     go true = omega arith
     go false = omega arith
+
+pub most-groups : (more m : ℕ) → length (groupsUpTo more m) ≤ suc more
+most-groups zero m = omega arith
+most-groups (suc more) m = go (most-groups more (m / 128)) (ltb m 128)
+  where
+    go : length (groupsUpTo more (m / 128)) ≤ suc more → (b : Bool)
+        → length (cond b (m ∷ []) ((m % 128 + 128) ∷ groupsUpTo more (m / 128))) ≤ suc (suc more)
+    go h true = omega arith
+    go h false = omega arith
+
+pub at-most-ten : (m : ℕ) → length (groups m) ≤ 10
+unfolding groups
+at-most-ten m = most-groups 9 m
 
 -- what is told of a writing: a count within the room, or 4 at place 0
 module _ (list : List ℤ) (room : ℕ) where

@@ -1,14 +1,14 @@
 -- The groups of a number but for its last, and what is left of the number after them.
 -- Assumes nothing.
 use mathlib.Core.Path.{_≡_, refl, ap, _∙_}
-use mathlib.Core.Bool.{Bool, true, false, cond}
+use mathlib.Core.Bool.{Bool, true, false}
 use mathlib.Core.List.{List, [], _∷_, _++_}
 use Prim.Native.Nat.{ℕ, zero, suc, _+_, _*_, _/_, _%_, _^_, _≤_, _<_}
-use native.Mathlib.Nat.{pow-suc}
+use native.Mathlib.Nat.{pow-suc, one-le-pow}
 use native.Mathlib.Omega.{arith}
 use borrow.Author.Tests.{ltb-true, ltb-false}
 use lib.Dec.{ltb}
-use lib.ListN.{length}
+use lib.ListN.{length, length-append}
 use lib.Pow.{shr-shr}
 use Rattle.numbers.specs.law.Groups.{groups, groupsUpTo}
 use Rattle.numbers.specs.inside.GroupLaws.{one-group, more-groups, some-group}
@@ -23,9 +23,16 @@ abbrev pub past : ℕ → ℕ → ℕ
 past zero m = m
 past (suc n) m = past n (m / 128)
 
+-- n groups that others follow, and what is left as the last
+abbrev pub inGroups : ℕ → ℕ → List ℕ
+inGroups n m = leading n m ++ past n m ∷ []
+
 pub leading-length : (n m : ℕ) → length (leading n m) ≡ n
 leading-length zero m = refl
 leading-length (suc n) m = ap suc (leading-length n (m / 128))
+
+pub in-groups-length : (n m : ℕ) → length (inGroups n m) ≡ suc n
+in-groups-length n m = omega (arith, length-append (leading n m) (past n m ∷ []), leading-length n m)
 
 pub leading-split : (k j m : ℕ) → leading (k + j) m ≡ leading k m ++ leading j (past k m)
 leading-split zero j m = let e : 0 + j ≡ j = omega arith in rw e
@@ -46,57 +53,65 @@ past-shift (suc k) m =
 
 -- ---- the groups of a number, by how many it has
 
--- all but the last, and the last, which is below 128
-pub record Parted (more n m : ℕ) : Type 0 where
-  pub parts : groupsUpTo more m ≡ leading n m ++ past n m ∷ []
-  pub small : past n m < 128
+-- k groups that another follows, and the last
+pub record Sized (k m : ℕ) : Type 0 where
+  pub count : length (groups m) ≡ suc k
+  pub parts : groups m ≡ inGroups k m
+  pub small : past k m < 128
 
-pub parted : (more n m : ℕ) → m < 2 * 128 ^ more → length (groupsUpTo more m) ≡ suc n → Parted more n m
-parted zero zero m h e = record { parts = refl; small = omega (arith, h) }
-parted zero (suc n) m h e = let f : ⊥ = omega (arith, e) in absurd f
-parted (suc more) n m h e = go n (ltb m 128) refl (λ j. parted more j (m / 128) (omega (arith, h, pow-suc 128 more))) e
+parted : (more k m : ℕ) → m < 2 * 128 ^ more → length (groupsUpTo more m) ≡ suc k → (groupsUpTo more m ≡ inGroups k m) × (past k m < 128)
+parted zero zero m h e = (refl, omega (arith, h))
+parted zero (suc k) m h e = let f : ⊥ = omega (arith, e) in absurd f
+parted (suc more) k m h e = go k (ltb m 128) refl (λ j. parted more j (m / 128) (omega (arith, h, pow-suc 128 more))) e
   where
-    go : (n : ℕ) (b : Bool) → ltb m 128 ≡ b → ((j : ℕ) → length (groupsUpTo more (m / 128)) ≡ suc j → Parted more j (m / 128))
-        → length (groupsUpTo (suc more) m) ≡ suc n → Parted (suc more) n m
-    go zero true t again e = let k = ltb-true m 128 t in record { parts = one-group (suc more) m k; small = k }
-    go (suc n) true t again e = let f : ⊥ = omega (arith, e, ap length (one-group (suc more) m (ltb-true m 128 t))) in absurd f
+    go : (k : ℕ) (b : Bool) → ltb m 128 ≡ b
+        → ((j : ℕ) → length (groupsUpTo more (m / 128)) ≡ suc j → (groupsUpTo more (m / 128) ≡ inGroups j (m / 128)) × (past j (m / 128) < 128))
+        → length (groupsUpTo (suc more) m) ≡ suc k → (groupsUpTo (suc more) m ≡ inGroups k m) × (past k m < 128)
+    go zero true t again e = let l = ltb-true m 128 t in (one-group (suc more) m l, l)
+    go (suc k) true t again e = let f : ⊥ = omega (arith, e, ap length (one-group (suc more) m (ltb-true m 128 t))) in absurd f
     go zero false t again e =
         let g = more-groups more m (ltb-false m 128 t) in
         let f : ⊥ = omega (arith, e, ap length g, some-group more (m / 128)) in
         absurd f
-    go (suc n) false t again e =
+    go (suc k) false t again e =
         let g = more-groups more m (ltb-false m 128 t) in
-        let p = again n (omega (arith, e, ap length g)) in
-        record { parts = g ∙ ap (λ (l : List ℕ). (m % 128 + 128) ∷ l) (p .parts); small = p .small }
+        let p = again k (omega (arith, e, ap length g)) in
+        (g ∙ ap (λ (l : List ℕ). (m % 128 + 128) ∷ l) (p .0), p .1)
 
-at-most : (more m : ℕ) → length (groupsUpTo more m) ≤ suc more
-at-most zero m = omega arith
-at-most (suc more) m = go (ltb m 128) (at-most more (m / 128))
+pub sized : (k m : ℕ) → m < 2 ^ 64 → length (groups m) ≡ suc k → Sized k m
+unfolding groups
+sized k m l e = let p = parted 9 k m l e in record { count = e; parts = p .0; small = p .1 }
+
+-- ---- how many groups a number has, by its size
+
+at-least : (more k m : ℕ) → k ≤ more → 128 ^ k ≤ m → suc k ≤ length (groupsUpTo more m)
+at-least more zero m h l = some-group more m
+at-least zero (suc k) m h l = let f : ⊥ = omega (arith, h) in absurd f
+at-least (suc more) (suc k) m h l =
+    let p = pow-suc 128 k in
+    let g = more-groups more m (omega (arith, p, l, one-le-pow k 128 (omega arith))) in
+    omega (arith, ap length g, at-least more k (m / 128) (omega (arith, h)) (omega (arith, p, l)))
+
+at-most : (more k m : ℕ) → m < 128 ^ suc k → length (groupsUpTo more m) ≤ suc k
+at-most zero k m h = omega arith
+at-most (suc more) k m h = go k (ltb m 128) refl h (λ j. at-most more j (m / 128))
   where
-    go : (b : Bool) → length (groupsUpTo more (m / 128)) ≤ suc more
-        → length (cond b (m ∷ []) ((m % 128 + 128) ∷ groupsUpTo more (m / 128))) ≤ suc (suc more)
-    go true h = omega arith
-    go false h = omega (arith, h)
+    go : (k : ℕ) (b : Bool) → ltb m 128 ≡ b → m < 128 ^ suc k
+        → ((j : ℕ) → m / 128 < 128 ^ suc j → length (groupsUpTo more (m / 128)) ≤ suc j) → length (groupsUpTo (suc more) m) ≤ suc k
+    go k true t h again = omega (arith, ap length (one-group (suc more) m (ltb-true m 128 t)))
+    go zero false t h again = let f : ⊥ = omega (arith, ltb-false m 128 t, h) in absurd f
+    go (suc k) false t h again =
+        omega (arith, ap length (more-groups more m (ltb-false m 128 t)), again k (omega (arith, pow-suc 128 (suc k), h)))
 
-pub at-most-ten : (m : ℕ) → length (groups m) ≤ 10
+pub sized-one : (m : ℕ) → m < 128 → Sized 0 m
 unfolding groups
-at-most-ten m = at-most 9 m
+sized-one m h = let g = one-group 9 m h in record { count = ap length g; parts = g; small = h }
 
--- from 2^28 on there are five
-pub five-groups : (m : ℕ) → 268435456 ≤ m → 5 ≤ length (groups m)
+pub sized-by : (k m : ℕ) → k ≤ 8 → 128 ^ k ≤ m → m < 128 ^ suc k → m < 2 ^ 64 → Sized k m
 unfolding groups
-five-groups m h =
-    let a = ap length (more-groups 8 m (omega arith)) in
-    let b = ap length (more-groups 7 (m / 128) (omega arith)) in
-    let c = ap length (more-groups 6 (m / 128 / 128) (omega arith)) in
-    let d = ap length (more-groups 5 (m / 128 / 128 / 128) (omega arith)) in
-    omega (arith, a, b, c, d, some-group 5 (m / 128 / 128 / 128 / 128))
+sized-by k m f l h w = sized k m w (omega (arith, at-least 9 k m (omega (arith, f)) l, at-most 9 k m h))
 
--- one group or two, however many there may be
-short-same : (more less x : ℕ) → x < 16384 → groupsUpTo (suc more) x ≡ groupsUpTo (suc less) x
-short-same more less x h = rw (one-group more (x / 128) (omega arith), one-group less (x / 128) (omega arith))
-
--- three groups or four: two, and those of what is left
-pub middle-groups : (m : ℕ) → 16384 ≤ m → m < 268435456 → groups m ≡ leading 2 m ++ groups (past 2 m)
+-- 128^6 is 2^42
+pub seven-or-more : (m : ℕ) → 4398046511104 ≤ m → 7 ≤ length (groups m)
 unfolding groups
-middle-groups m h k = rw (more-groups 8 m (omega arith), more-groups 7 (m / 128) (omega arith), short-same 6 8 (m / 128 / 128) (omega arith))
+seven-or-more m h = at-least 9 6 m (omega arith) h

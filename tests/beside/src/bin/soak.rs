@@ -7,7 +7,7 @@ use std::time::{Duration, Instant};
 use beside::library;
 use harness::{Beside, Difference, codec_rounds, rounds};
 
-/// One seed in so many has its lists written in every room, which takes as long as many rounds.
+/// The first seed, and one in so many, has its lists written in every room, which takes as long as many rounds.
 const LISTS_IN: u64 = 32;
 
 fn main() -> ExitCode {
@@ -28,7 +28,8 @@ fn soak(time: Duration, first_seed: u64) -> ExitCode {
     let mut beside = Beside::new(library::judge());
     let mut seed = first_seed;
     loop {
-        if let Err(difference) = round(&mut beside, seed) {
+        let lists = seed == first_seed || seed.is_multiple_of(LISTS_IN);
+        if let Err(difference) = round(&mut beside, seed, lists) {
             println!("{difference}");
             println!("again: tests/soak 0 {seed}");
             return ExitCode::FAILURE;
@@ -43,10 +44,10 @@ fn soak(time: Duration, first_seed: u64) -> ExitCode {
     ExitCode::SUCCESS
 }
 
-fn round(beside: &mut Beside, seed: u64) -> Result<(), Difference> {
+fn round(beside: &mut Beside, seed: u64, lists: bool) -> Result<(), Difference> {
     rounds::round(beside, seed)?;
     codec_rounds::round(beside, seed)?;
-    if seed.is_multiple_of(LISTS_IN) {
+    if lists {
         codec_rounds::lists_round(beside, seed)?;
     }
     Ok(())

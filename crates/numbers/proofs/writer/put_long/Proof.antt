@@ -1,85 +1,77 @@
--- The first five groups and the last five make up all of them, and where both are placed the last five stand.
+-- The first six groups and the last four make up all of them, and where both are placed the last four stand.
 use mathlib.Core.Path.{_≡_, ap, _∙_}
-use Prim.Native.Nat.{_+_, _-_}
+use Prim.Native.Nat.{_+_, _-_, _≤_}
 use borrow.Author.Needs.{needs}
 use native.Mathlib.Omega.{arith}
-use lib.ListN.{length, length-set}
+use lib.ListN.{length}
 use lib.Seq.{sets, length-sets}
-use Rattle.numbers.specs.inside.LeadingGroups.{leading, past, five-groups}
-use Rattle.numbers.proofs.Placed.{Five, five, lastFive, place-over}
+use Rattle.numbers.specs.law.Groups.{groups}
+use Rattle.numbers.specs.inside.GroupLaws.{at-most-ten}
+use Rattle.numbers.specs.inside.LeadingGroups.{leading, inGroups, sized, seven-or-more}
+use Rattle.numbers.proofs.Placed.{Ends, leftAfter, ends, place-over}
 use Rattle.numbers.proofs.writer.put_long.Statement.{statement}
 use Rattle.numbers.proofs.writer.put_long.Tie as tie
-use Rattle.numbers.proofs.writer.put_long.Reads as reads
-use Rattle.numbers.proofs.writer.put_long.Lts as lts
-use Rattle.numbers.proofs.writer.put_leading.Reads as put-leading-reads
-use Rattle.numbers.proofs.writer.width.Reads as width-reads
 
-sub-before : tie.Need-sub-before
-sub-before c = omega (arith, c .width .ensures, five-groups (c .before .before .args .m) (c .before .before .pre .0))
+-- three to six groups stand before the last four
+record Shares (w : tie.After-width) : Type 0 where
+  some : 3 ≤ w .width .result - 4
+  few : w .width .result - 4 ≤ 6
+  count : length (groups (w .before .before .args .m)) ≡ (w .width .result - 4) + 4
+  parts : Ends (w .width .result - 4) 3 (w .before .before .args .m)
 
-facts : (w : tie.After-width) → Five (w .before .before .args .m) (w .width .result - 5)
-facts w = five _ _ (search needs) (omega (arith, w .width .ensures, sub-before w))
+shares : (w : tie.After-width) → Shares w
+shares w =
+    let m = w .before .before .args .m in
+    let least = seven-or-more m (w .before .before .pre .0) in
+    let most = at-most-ten m in
+    let e = w .width .ensures in
+    let z = sized (w .width .result - 4 + 3) m (search needs) (omega (arith, e, least)) in
+    record {
+      some = omega (arith, e, least);
+      few = omega (arith, e, most);
+      count = omega (arith, e, least);
+      parts = ends (w .width .result - 4) 3 m z;
+    }
 
-put-leading-requires : tie.Need-put-leading-requires
-put-leading-requires c κs = omega (arith, facts (c .before) .count, c .before .before .before .pre .1)
-
-mul-put-leading : tie.Need-mul-put-leading
-mul-put-leading c = record { fits = omega (arith, facts (c .before .before .before .before .before) .few) }
-
-shr-put-leading : tie.Need-shr-put-leading
-shr-put-leading c = omega (arith, facts (c .before .before .before .before .before) .few)
-
--- the bytes after the first five, and after four of the last five
+-- the bytes after the first six
 first : (p : tie.After-put-leading)
-    → let s = p .before .before .before .before .args in p .put-leading .last .0 ≡ sets (s .bytes .now) (s .at) (leading 5 (s .m))
+    → let s = p .before .before .before .before .args in p .put-leading .last .0 ≡ sets (s .bytes .now) (s .at) (leading 6 (s .m))
 first p = p .put-leading .ensures .1
 
-second : (q : tie.After-put-leading2)
+sub-before : tie.Need-sub-before
+sub-before c = omega (arith, c .width .ensures, seven-or-more (c .before .before .args .m) (c .before .before .pre .0))
+
+put-leading-requires : tie.Need-put-leading-requires
+put-leading-requires c κs = let h = shares (c .before) in omega (arith, h .some, h .count, c .before .before .before .pre .1)
+
+put-count-requires : tie.Need-put-count-requires
+put-count-requires c κs =
+    let p = c .before .before .before in
+    let w = p .before .before in
+    let s = w .before .before in
+    let whole = ap length (first p) ∙ length-sets (s .args .bytes .now) (s .args .at) (leading 6 (s .args .m)) in
+    (shares w .parts .small, omega (arith, shares w .count, s .pre .1, whole))
+
+-- the last four are placed over the first six
+second : (q : tie.After-put-count)
     → let p = q .before .before .before .before in
     let w = p .before .before in
     let s = w .before .before .args in
-    let before = w .width .result - 5 in
-    (q .put-leading2 .result ≡ past 4 (lastFive (s .m) before))
-    × (q .put-leading2 .last .0 ≡ sets (p .put-leading .last .0) (s .at + before) (leading 4 (lastFive (s .m) before)))
-second q = q .put-leading2 .ensures
-
-first-whole : (p : tie.After-put-leading) → length (p .put-leading .last .0) ≡ length (p .before .before .before .before .args .bytes .now)
-first-whole p = let s = p .before .before .before .before .args in ap length (first p) ∙ length-sets (s .bytes .now) (s .at) (leading 5 (s .m))
-
-second-whole : (q : tie.After-put-leading2)
-    → length (q .put-leading2 .last .0) ≡ length (q .before .before .before .before .before .before .before .before .args .bytes .now)
-second-whole q =
-    let p = q .before .before .before .before in
-    ap length (second q .1) ∙ length-sets (p .put-leading .last .0) _ (leading 4 _) ∙ first-whole p
-
-put-leading-requires-2 : tie.Need-put-leading-requires-2
-put-leading-requires-2 c κs =
-    let p = c .before .before .before in
-    let w = p .before .before in
-    omega (arith, facts w .count, w .before .before .pre .1, first-whole p)
-
-cast-bytes : tie.Need-cast-bytes
-cast-bytes c =
-    let q = c .before .before in
-    record { fits = omega (arith, second q .0, facts (q .before .before .before .before .before .before) .small) }
-
-slice-write-bytes : tie.Need-slice-write-bytes
-slice-write-bytes c =
-    let q = c .before .before in
-    let w = q .before .before .before .before .before .before in
-    omega (arith, facts w .count, w .before .before .pre .1, second-whole q)
-
-same-length : tie.Need-same-length
-same-length c = let q = c .before .before in length-set (q .put-leading2 .last .0) _ _ ∙ second-whole q
+    let before = w .width .result - 4 in
+    (q .put-count .result ≡ s .at + before + 3 + 1)
+    × (q .put-count .last .0 ≡ sets (p .put-leading .last .0) (s .at + before) (inGroups 3 (leftAfter before (s .m))))
+second q = q .put-count .ensures
 
 returns : tie.Need-returns
 returns c =
     let q = c .before .before in
     let p = q .before .before .before .before in
     let w = p .before .before in
-    (omega (arith, facts w .count), place-over (facts w) _ _ _ _ _ (first p) (second q .1) (second q .0))
+    let h = shares w in
+    (second q .0 ∙ omega (arith, h .count), place-over (h .parts) _ _ 6 (h .few) (omega (arith, h .some)) _ _ (first p) (second q .1))
 
 pub put-long-spec : {M : Type 1} → statement M
 put-long-spec = tie.close (tie.spec
-    (λ c κs. search needs) sub-before put-leading-requires (λ c. search needs) mul-put-leading shr-put-leading put-leading-requires-2 cast-bytes
-    (λ c. search needs) (λ c. search needs) slice-write-bytes (λ c. search needs) (λ c. search needs) same-length returns)
+    (λ c κs. search needs) sub-before put-leading-requires (λ c. search needs)
+    (λ c. record { fits = omega (arith, shares (c .before .before .before .before .before) .few) })
+    (λ c. omega (arith, shares (c .before .before .before .before .before) .few)) put-count-requires (λ c. search needs) returns)
