@@ -77,7 +77,7 @@ fn put_all(list: &[i64], bytes: &mut [u8])
     }
 }
 
-// The groups of one number, from `at` on; what comes after them is the answer.
+// The groups of one number, from `at` on; what comes after them is the answer. Each limit is 128 times the one before.
 fn put(bytes: &mut [u8], at: usize, m: u64) -> usize
     requires { ⌜ at + length (groups m) ≤ length (now bytes) ⌝ }
     ensures { λ r. ⌜ r ≡ at + length (groups m) ⌝ }
@@ -104,7 +104,7 @@ fn put(bytes: &mut [u8], at: usize, m: u64) -> usize
     put_long(bytes, at, m)
 }
 
-// Seven groups or more: the first six, and then the last four over them. To ask after each would cost more than to place some of them twice.
+// Seven groups or more: the first six, and then the last four over them. Where sizes vary, to ask after each costs more than to place some twice.
 fn put_long(bytes: &mut [u8], at: usize, m: u64) -> usize
     requires { ⌜ 4398046511104 ≤ m ⌝ }
     requires { ⌜ at + length (groups m) ≤ length (now bytes) ⌝ }
