@@ -3,8 +3,8 @@
 //! Both run in the same process on the same inputs, in turns. What counts is the ratio:
 //! speed of the proved code over speed of the plain code, so that 1 is as fast and 0.5
 //! takes twice the time. The proved writer runs against the earlier one too, which has a
-//! spare array: it is a failure if that one is ahead. `--short` takes fewer and shorter
-//! samples.
+//! spare array: it is a failure if that one is ahead in three races in a row. `--short`
+//! takes fewer and shorter samples.
 #![forbid(unsafe_code)]
 
 mod codec;
