@@ -8,7 +8,7 @@ use lib.ListN.{length, set, length-set}
 use lib.Seq.{sets}
 use Rattle.numbers.specs.law.Groups.{groups}
 use Rattle.numbers.specs.inside.OverlayLaws.{sets-append, sets-over}
-use Rattle.numbers.specs.inside.LeadingGroups.{leading, past, inGroups, Sized}
+use Rattle.numbers.specs.inside.LeadingGroups.{leading, past, inGroups, Grouped}
 use Rattle.numbers.specs.inside.LeadingGroups.{leading-length, in-groups-length, leading-split, past-split, past-shift}
 
 -- what is to be placed after the first i groups are those of `rest`
@@ -43,7 +43,7 @@ module _ {old : List ℕ} {at m count : ℕ} {bytes : List ℕ} {rest i : ℕ} (
 
 -- ---- all groups of a number, one after the other
 
-module _ {k m : ℕ} (z : Sized k m) (at : ℕ) where
+module _ {k m : ℕ} (z : Grouped k m) (at : ℕ) where
   pub room-for : (room : ℕ) → at + length (groups m) ≤ room → (past k m < 128) × (at + k < room)
   room-for room h = (z .small, omega (arith, z .count, h))
 
@@ -62,7 +62,7 @@ pub record Ends (before last m : ℕ) : Type 0 where
   pub small : past last (leftAfter before m) < 128
   pub parts : groups m ≡ leading before m ++ inGroups last (leftAfter before m)
 
-pub ends : (before last m : ℕ) → Sized (before + last) m → Ends before last m
+pub ends : (before last m : ℕ) → Grouped (before + last) m → Ends before last m
 ends before last m z =
     let s = past-shift before m in
     let p : past (before + last) m ≡ past last (leftAfter before m) = past-split before last m ∙ ap (past last) s in

@@ -54,7 +54,7 @@ past-shift (suc k) m =
 -- ---- the groups of a number, by how many it has
 
 -- k groups that another follows, and the last
-pub record Sized (k m : ℕ) : Type 0 where
+pub record Grouped (k m : ℕ) : Type 0 where
   pub count : length (groups m) ≡ suc k
   pub parts : groups m ≡ inGroups k m
   pub small : past k m < 128
@@ -78,9 +78,9 @@ parted (suc more) k m h e = go k (ltb m 128) refl (λ j. parted more j (m / 128)
         let p = again k (omega (arith, e, ap length g)) in
         (g ∙ ap (λ (l : List ℕ). (m % 128 + 128) ∷ l) (p .0), p .1)
 
-pub sized : (k m : ℕ) → m < 2 ^ 64 → length (groups m) ≡ suc k → Sized k m
+pub grouped : (k m : ℕ) → m < 2 ^ 64 → length (groups m) ≡ suc k → Grouped k m
 unfolding groups
-sized k m l e = let p = parted 9 k m l e in record { count = e; parts = p .0; small = p .1 }
+grouped k m l e = let p = parted 9 k m l e in record { count = e; parts = p .0; small = p .1 }
 
 -- ---- how many groups a number has, by its size
 
@@ -103,13 +103,13 @@ at-most (suc more) k m h = go k (ltb m 128) refl h (λ j. at-most more j (m / 12
     go (suc k) false t h again =
         omega (arith, ap length (more-groups more m (ltb-false m 128 t)), again k (omega (arith, pow-suc 128 (suc k), h)))
 
-pub sized-one : (m : ℕ) → m < 128 → Sized 0 m
+pub grouped-one : (m : ℕ) → m < 128 → Grouped 0 m
 unfolding groups
-sized-one m h = let g = one-group 9 m h in record { count = ap length g; parts = g; small = h }
+grouped-one m h = let g = one-group 9 m h in record { count = ap length g; parts = g; small = h }
 
-pub sized-by : (k m : ℕ) → k ≤ 8 → 128 ^ k ≤ m → m < 128 ^ suc k → m < 2 ^ 64 → Sized k m
+pub grouped-by : (k m : ℕ) → k ≤ 8 → 128 ^ k ≤ m → m < 128 ^ suc k → m < 2 ^ 64 → Grouped k m
 unfolding groups
-sized-by k m f l h w = sized k m w (omega (arith, at-least 9 k m (omega (arith, f)) l, at-most 9 k m h))
+grouped-by k m f l h w = grouped k m w (omega (arith, at-least 9 k m (omega (arith, f)) l, at-most 9 k m h))
 
 -- 128^6 is 2^42
 pub seven-or-more : (m : ℕ) → 4398046511104 ≤ m → 7 ≤ length (groups m)

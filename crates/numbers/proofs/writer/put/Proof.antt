@@ -1,28 +1,28 @@
 -- Below each power of 128 there is one group more, up to six; from the sixth power on they are placed in two goes.
 use borrow.Author.Needs.{needs}
 use native.Mathlib.Omega.{arith}
-use Rattle.numbers.specs.inside.LeadingGroups.{Sized, sized-one, sized-by}
+use Rattle.numbers.specs.inside.LeadingGroups.{Grouped, grouped-one, grouped-by}
 use Rattle.numbers.proofs.Placed.{room-for, all-placed}
 use Rattle.numbers.proofs.writer.put.Statement.{statement}
 use Rattle.numbers.proofs.writer.put.Tie as tie
 
-one : (t : tie.Then1) → Sized 0 (t .before .before .args .m)
-one t = sized-one _ (t .if1 .taken)
+one : (t : tie.Then1) → Grouped 0 (t .before .before .args .m)
+one t = grouped-one _ (t .if1 .taken)
 
-two : (t : tie.Then2) → Sized 1 (t .before .before .before .args .m)
-two t = sized-by 1 _ (omega arith) (t .before .if1 .left) (t .if2 .taken) (search needs)
+two : (t : tie.Then2) → Grouped 1 (t .before .before .before .args .m)
+two t = grouped-by 1 _ (omega arith) (t .before .if1 .left) (t .if2 .taken) (search needs)
 
-three : (t : tie.Then3) → Sized 2 (t .before .before .before .before .args .m)
-three t = sized-by 2 _ (omega arith) (t .before .if2 .left) (t .if3 .taken) (search needs)
+three : (t : tie.Then3) → Grouped 2 (t .before .before .before .before .args .m)
+three t = grouped-by 2 _ (omega arith) (t .before .if2 .left) (t .if3 .taken) (search needs)
 
-four : (t : tie.Then4) → Sized 3 (t .before .before .before .before .before .args .m)
-four t = sized-by 3 _ (omega arith) (t .before .if3 .left) (t .if4 .taken) (search needs)
+four : (t : tie.Then4) → Grouped 3 (t .before .before .before .before .before .args .m)
+four t = grouped-by 3 _ (omega arith) (t .before .if3 .left) (t .if4 .taken) (search needs)
 
-five : (t : tie.Then5) → Sized 4 (t .before .before .before .before .before .before .args .m)
-five t = sized-by 4 _ (omega arith) (t .before .if4 .left) (t .if5 .taken) (search needs)
+five : (t : tie.Then5) → Grouped 4 (t .before .before .before .before .before .before .args .m)
+five t = grouped-by 4 _ (omega arith) (t .before .if4 .left) (t .if5 .taken) (search needs)
 
-six : (t : tie.Then6) → Sized 5 (t .before .before .before .before .before .before .before .args .m)
-six t = sized-by 5 _ (omega arith) (t .before .if5 .left) (t .if6 .taken) (search needs)
+six : (t : tie.Then6) → Grouped 5 (t .before .before .before .before .before .before .before .args .m)
+six t = grouped-by 5 _ (omega arith) (t .before .if5 .left) (t .if6 .taken) (search needs)
 
 returns : tie.Need-returns
 returns c = let q = c .before .before in let e = q .put-count .ensures in all-placed (one (q .before .before)) _ _ _ _ (e .0) (e .1)

@@ -7,7 +7,7 @@ use lib.ListN.{length}
 use lib.Seq.{sets, length-sets}
 use Rattle.numbers.specs.law.Groups.{groups}
 use Rattle.numbers.specs.inside.GroupLaws.{at-most-ten}
-use Rattle.numbers.specs.inside.LeadingGroups.{leading, inGroups, sized, seven-or-more}
+use Rattle.numbers.specs.inside.LeadingGroups.{leading, inGroups, grouped, seven-or-more}
 use Rattle.numbers.proofs.Placed.{Ends, leftAfter, ends, place-over}
 use Rattle.numbers.proofs.writer.put_long.Statement.{statement}
 use Rattle.numbers.proofs.writer.put_long.Tie as tie
@@ -25,7 +25,7 @@ shares w =
     let least = seven-or-more m (w .before .before .pre .0) in
     let most = at-most-ten m in
     let e = w .width .ensures in
-    let z = sized (w .width .result - 4 + 3) m (search needs) (omega (arith, e, least)) in
+    let z = grouped (w .width .result - 4 + 3) m (search needs) (omega (arith, e, least)) in
     record {
       some = omega (arith, e, least);
       few = omega (arith, e, most);
