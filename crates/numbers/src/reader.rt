@@ -7,10 +7,11 @@ ghost use Rattle.numbers.specs.inside.Shifted.{shifted};
 ghost use Rattle.numbers.specs.law.CodecTold.{readingTold};
 ghost use Rattle.numbers.specs.law.Told.{overlay};
 
-// What stands at the front of some bytes: a number and how many bytes it takes, or the question that has a "no".
+// What stands at the front of some bytes: a number and how many bytes it takes, or the question that has a "no" and how many bytes come before the one
+// at which it has it.
 pub enum Number {
     Whole { value: u64, used: usize },
-    Refused { number: usize },
+    Refused { number: usize, offset: usize },
 }
 
 // What a reading of all bytes answers: the count of numbers, or a refusal.
@@ -40,10 +41,10 @@ pub fn read(bytes: &[u8], list: &mut [i64]) -> Reading
                 count += 1;
                 at += used;
             }
-            Number::Refused { number } => {
+            Number::Refused { number, offset } => {
                 return Reading::Refused {
                     number: number,
-                    place: at,
+                    place: at + offset,
                 };
             }
         }
@@ -77,7 +78,10 @@ fn later(bytes: &[u8], start: usize, group: u64) -> Number
     let mut more: usize = 8;
     while 0 < more {
         if bytes.len() <= at {
-            return Number::Refused { number: 1 };
+            return Number::Refused {
+                number: 1,
+                offset: 9 - more,
+            };
         }
         let b = wide(bytes[at]);
         if b < 128 {
@@ -97,7 +101,10 @@ fn last(b: u64, value: u64, scale: u64, used: usize) -> Number
     ensures { λ r. ⌜ r ≡ shifted value scale used (lastByte b) ⌝ }
 {
     if b == 0 {
-        Number::Refused { number: 2 }
+        Number::Refused {
+            number: 2,
+            offset: used,
+        }
     } else {
         Number::Whole {
             value: value + scale * b,
@@ -112,7 +119,10 @@ fn tenth(bytes: &[u8], at: usize, value: u64) -> Number
     ensures { λ r. ⌜ r ≡ shifted value (2 ^ 63) 9 (laterBytes 0 (drop at (now (bytes .entry)))) ⌝ }
 {
     if bytes.len() <= at {
-        return Number::Refused { number: 1 };
+        return Number::Refused {
+            number: 1,
+            offset: 9,
+        };
     }
     let b = wide(bytes[at]);
     if b == 1 {
@@ -121,7 +131,10 @@ fn tenth(bytes: &[u8], at: usize, value: u64) -> Number
             used: 10,
         }
     } else {
-        Number::Refused { number: 2 }
+        Number::Refused {
+            number: 2,
+            offset: 9,
+        }
     }
 }
 

@@ -1,4 +1,4 @@
--- Bounds of a reading: a number takes a byte at least, counts are within the room, places are bytes, and the numbers of refusals are 1 to 3.
+-- Bounds of a reading: a number takes a byte at least, counts are within the room, places are bytes or their end, and the numbers of refusals are 1 to 3.
 -- Assumes nothing.
 use mathlib.Core.Path.{_≡_, ap, subst}
 use mathlib.Core.Bool.{Bool, true, false, cond}
@@ -13,31 +13,31 @@ use Rattle.numbers.specs.law.Reading.{numberOf, laterBytes, lastByte, in
 use Rattle.numbers.specs.declared.reader.Number.{Number}
 use Rattle.numbers.specs.declared.reader.Number.the-variants.{Whole, Refused}
 
--- ---- a number takes at least one byte and no more than there are, and its refusal is 1 or 2
+-- ---- a number takes at least one byte and no more than there are; its refusal is 1 or 2, at one of them or at their end
 
 abbrev pub Within : ℕ → Number → Type 0
 Within n (Whole value used) = (1 ≤ used) × (used ≤ n)
-Within n (Refused number) = (number ≤ 2) × (1 ≤ number)
+Within n (Refused number offset) = (number ≤ 2) × (offset ≤ n) × (1 ≤ number)
 
 within-front : (group n : ℕ) (r : Number) → Within n r → Within (suc n) (inFront group r)
 within-front group n (Whole v u) w = (omega arith, omega (arith, w .1))
-within-front group n (Refused m) w = w
+within-front group n (Refused m o) w = (w .0, omega (arith, w .1), w .2)
 
 within-last : (b n : ℕ) → Within (suc n) (lastByte b)
 within-last b n = go (eqb b 0)
   where
-    go : (t : Bool) → Within (suc n) (cond t (Refused 2) (Whole b 1))
-    go true = (omega arith, omega arith)
+    go : (t : Bool) → Within (suc n) (cond t (Refused 2 0) (Whole b 1))
+    go true = (omega arith, omega arith, omega arith)
     go false = (omega arith, omega arith)
 
 within-later : (more : ℕ) (bytes : List ℕ) → Within (length bytes) (laterBytes more bytes)
-within-later zero [] = (omega arith, omega arith)
+within-later zero [] = (omega arith, omega arith, omega arith)
 within-later zero (b ∷ bytes) = go (leb b 1)
   where
-    go : (t : Bool) → Within (suc (length bytes)) (cond t (lastByte b) (Refused 2))
+    go : (t : Bool) → Within (suc (length bytes)) (cond t (lastByte b) (Refused 2 0))
     go true = within-last b (length bytes)
-    go false = (omega arith, omega arith)
-within-later (suc more) [] = (omega arith, omega arith)
+    go false = (omega arith, omega arith, omega arith)
+within-later (suc more) [] = (omega arith, omega arith, omega arith)
 within-later (suc more) (b ∷ bytes) = go (within-later more bytes) (ltb b 128)
   where
     go : Within (length bytes) (laterBytes more bytes) → (t : Bool)
@@ -47,7 +47,7 @@ within-later (suc more) (b ∷ bytes) = go (within-later more bytes) (ltb b 128)
 
 pub within-number : (bytes : List ℕ) → Within (length bytes) (numberOf bytes)
 unfolding numberOf
-within-number [] = (omega arith, omega arith)
+within-number [] = (omega arith, omega arith, omega arith)
 within-number (b ∷ bytes) = go (ltb b 128)
   where
     go : (t : Bool) → Within (suc (length bytes)) (cond t (Whole b 1) (inFront (b - 128) (laterBytes 8 bytes)))
@@ -57,12 +57,15 @@ within-number (b ∷ bytes) = go (ltb b 128)
 pub used-some : (bytes : List ℕ) {v u : ℕ} → numberOf bytes ≡ Whole v u → (1 ≤ u) × (u ≤ length bytes)
 used-some bytes e = subst (Within (length bytes)) e (within-number bytes)
 
+pub offset-most : (bytes : List ℕ) {n o : ℕ} → numberOf bytes ≡ Refused n o → o ≤ length bytes
+offset-most bytes e = subst (Within (length bytes)) e (within-number bytes) .1
+
 -- ---- readings
 
--- an ending's number is 1 to 3, and its place is one of the bytes from `place` on
+-- an ending's number is 1 to 3, and its place is one of the bytes or their end
 abbrev Placed : ℕ → Ending → Type 0
 Placed end all = Unit {0}
-Placed end (no number at) = (number ≤ 3) × (at < end) × (1 ≤ number)
+Placed end (no number at) = (number ≤ 3) × (at ≤ end) × (1 ≤ number)
 
 module _ (end : ℕ) where
   read-placed : (room place : ℕ) (bytes : List ℕ) → place + length bytes ≤ end → Placed end (readFrom room place bytes .ended)
@@ -74,7 +77,7 @@ module _ (end : ℕ) where
       go : ((p : ℕ) (l : List ℕ) → p + length l ≤ end → Placed end (readFrom room p l .ended)) → (r : Number) → Within (suc (length bytes)) r
           → Placed end (afterNumber place r (λ used. readFrom room (place + used) (drop used (b ∷ bytes))) .ended)
       go again (Whole v u) s = again (place + u) (drop u (b ∷ bytes)) (omega (arith, length-drop u (b ∷ bytes), s .1))
-      go again (Refused n) s = (omega (arith, s .0), omega arith, s .1)
+      go again (Refused n o) s = (omega (arith, s .0), omega (arith, s .1), s .2)
 
 count-room : (room place : ℕ) (bytes : List ℕ) → length (readFrom room place bytes .stored) ≤ room
 count-room zero place [] = omega arith
@@ -85,7 +88,7 @@ count-room (suc room) place (b ∷ bytes) = go (λ p l. count-room room p l) (nu
     go : ((p : ℕ) (l : List ℕ) → length (readFrom room p l .stored) ≤ room) → (r : Number)
         → length (afterNumber place r (λ used. readFrom room (place + used) (drop used (b ∷ bytes))) .stored) ≤ suc room
     go again (Whole v u) = omega (arith, again (place + u) (drop u (b ∷ bytes)))
-    go again (Refused n) = omega arith
+    go again (Refused n o) = omega arith
 
 -- ---- what is told of a reading
 
@@ -98,12 +101,12 @@ module _ (bytes : List ℕ) (room : ℕ) where
       go all e = let v = ap (λ (t : Told). natAbs (getD (t .values) 0 (pos 0))) e in omega (arith, count-room room 0 bytes)
       go (no n p) e = let v = ap (λ (t : Told). length (t .values)) e in omega arith
 
-  pub refusal-within : (number place : ℕ) → refuses number 0 place ≡ readTold (readOf bytes room) → (number ≤ 3) × (place < length bytes) × (1 ≤ number)
+  pub refusal-within : (number place : ℕ) → refuses number 0 place ≡ readTold (readOf bytes room) → (number ≤ 3) × (place ≤ length bytes) × (1 ≤ number)
   unfolding readTold readOf
   refusal-within number place e = go (readFrom room 0 bytes .ended) (read-placed (length bytes) room 0 bytes (omega arith)) e
     where
       go : (d : Ending) → Placed (length bytes) d → refuses number 0 place ≡ endTold d (length (readFrom room 0 bytes .stored))
-          → (number ≤ 3) × (place < length bytes) × (1 ≤ number)
+          → (number ≤ 3) × (place ≤ length bytes) × (1 ≤ number)
       go all w e = let v = ap (λ (t : Told). length (t .values)) e in let f : ⊥ = omega arith in absurd f
       go (no n p) w e =
           let m = ap (λ (t : Told). t .number) e in

@@ -7,7 +7,7 @@ use Prim.Native.Nat.{ℕ}
 use lib.IntN.{ℤ, pos}
 use Rattle.numbers.specs.law.Told.{gives, refuses}
 use Rattle.plan.specs.inside.Computed.{law}
-use Rattle.plan.specs.claims.TableT.{Row, judges, draws, judgesBytes, RowHolds, AllHold, minus, caseC, planP}
+use Rattle.plan.specs.claims.TableT.{Row, judges, draws, judgesBytes, reads, RowHolds, AllHold, minus, caseC, planP}
 
 -- ---- a compressor that runs backward
 
@@ -62,6 +62,13 @@ bytesP =
     ++ ((0xEC ∷ 0x9C ∷ 0x06 ∷ 0x87 ∷ 0x0E ∷ 0x00 ∷ 0x00 ∷ 0x00 ∷ 0x00 ∷ [])
     ++ (0x98 ∷ 0x11 ∷ 0x88 ∷ 0x0E ∷ 0x00 ∷ 0x00 ∷ [])))
 
+-- nine bytes of a number, and a tenth
+abbrev nineBytes : List ℕ
+nineBytes = 0x80 ∷ 0x80 ∷ 0x80 ∷ 0x80 ∷ 0x80 ∷ 0x80 ∷ 0x80 ∷ 0x80 ∷ 0x80 ∷ []
+
+abbrev tenth : ℕ → List ℕ
+tenth b = nineBytes ++ (b ∷ [])
+
 -- ---- the rows
 
 unfoldable pub furtherRows : List Row
@@ -83,12 +90,21 @@ furtherRows =
     ∷ draws (caseC (pos 60) (pos 1)) (planP (pos 901)) (pos 2) (pos 0) (pos 2) (refuses 41 0 0)
     -- row 1 from bytes, into lists that have just the room
     ∷ judgesBytes bytesC bytesP 33 18 (gives (pos 0 ∷ pos 0 ∷ pos 0 ∷ pos 0 ∷ pos 599988 ∷ pos 611988 ∷ []))
-    -- plan bytes that end in a number, that have a last byte 0, and whose last number has no place
-    ∷ judgesBytes bytesC (0x02 ∷ 0x02 ∷ 0xF0 ∷ []) 33 18 (refuses 5 0 2)
-    ∷ judgesBytes bytesC (0x02 ∷ 0x02 ∷ 0x80 ∷ 0x00 ∷ []) 33 18 (refuses 6 0 2)
+    -- plan bytes that end in a number, that have a last byte 0 and a tenth byte 2, and whose last number has no place
+    ∷ judgesBytes bytesC (0x02 ∷ 0x02 ∷ 0xF0 ∷ []) 33 18 (refuses 5 0 3)
+    ∷ judgesBytes bytesC (0x02 ∷ 0x02 ∷ 0x80 ∷ 0x00 ∷ []) 33 18 (refuses 6 0 3)
+    ∷ judgesBytes bytesC (0x02 ∷ 0x02 ∷ tenth 0x02) 33 18 (refuses 6 0 11)
     ∷ judgesBytes bytesC bytesP 33 17 (refuses 7 0 25)
+    -- a tenth byte 0 is refused where any other but 1 is; the bytes may also end before it
+    ∷ reads (tenth 0x00) (refuses 2 0 9)
+    ∷ reads (tenth 0xFF) (refuses 2 0 9)
+    ∷ reads nineBytes (refuses 1 0 9)
+    -- without a place for a number none of its bytes is asked for: 3 has its first byte, though the next one is missing or out of place
+    ∷ reads (0x02 ∷ 0x80 ∷ []) (refuses 3 0 1)
+    ∷ reads (0x02 ∷ 0x80 ∷ 0x00 ∷ []) (refuses 3 0 1)
     ∷ []
 
 pub further : AllHold furtherRows
 unfolding AllHold RowHolds furtherRows law
-further = (refl, (refl, (refl, (refl, (refl, (refl, (refl, (refl, (refl, (refl, (refl, (refl, (refl, tt)))))))))))))
+further =
+    (refl, (refl, (refl, (refl, (refl, (refl, (refl, (refl, (refl, (refl, (refl, (refl, (refl, (refl, (refl, (refl, (refl, (refl, (refl, tt)))))))))))))))))))

@@ -120,7 +120,7 @@ unfolding values
 fit-refused (Accepted t) e h k l w = let f : ⊥ = omega (arith, ap values e) in absurd f
 fit-refused (Refused m t q) e h k l w = let r = refused-same e in (omega arith, omega arith, omega arith, omega arith)
 
-unread-small : (bytes : List ℕ) (room : ℕ) {n p : ℕ} → readOf bytes room .ended ≡ no n p → (n ≤ 3) × (p < length bytes) × (1 ≤ n)
+unread-small : (bytes : List ℕ) (room : ℕ) {n p : ℕ} → readOf bytes room .ended ≡ no n p → (n ≤ 3) × (p ≤ length bytes) × (1 ≤ n)
 unfolding readTold
 unread-small bytes room {n} {p} e = refusal-within bytes room n p (rw e)
 
