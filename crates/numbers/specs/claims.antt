@@ -5,3 +5,4 @@ pub mod CodecInputs
 pub mod RoundTrip
 pub mod CallsRoundTrip
 pub mod Room
+pub mod WrongByte

@@ -11,6 +11,7 @@ pub mod GroupLaws
 pub mod LeadingGroups
 pub mod ReadingBounds
 pub mod RoundTripLaws
+pub mod ReadingCuts
 pub mod Shifted
 pub mod SignedParts
 pub mod SignedLinear

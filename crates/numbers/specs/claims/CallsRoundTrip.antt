@@ -1,7 +1,7 @@
 -- The round trip, said of the calls: what `write` leaves in the lent bytes, `read` takes back, and what `read` leaves in the lent list, `write` makes the
 -- bytes of. It is carried by the round trip of the definitions (`RoundTrip`): a count that a call answers is the count of what it left at the front.
 -- Assumes nothing.
-use mathlib.Core.Path.{_≡_, refl, ap, sym, _∙_}
+use mathlib.Core.Path.{_≡_, refl, ap, ap₂, sym, _∙_}
 use mathlib.Core.Bool.{Bool, true, false, cond}
 use mathlib.Core.List.{List, [], _∷_}
 use Prim.Native.Nat.{ℕ, _≤_}
@@ -45,6 +45,11 @@ count-is e = ap (λ (t : Told). natAbs (getD (t .values) 0 (pos 0))) e
 pub reading-count : (answer : Reading) (n : ℕ) → readingTold answer ≡ gives (pos n ∷ []) → answer ≡ reading.Count n
 reading-count (reading.Count m) n e = ap reading.Count (count-is e)
 reading-count (reading.Refused number place) n e = no-count e
+
+pub reading-refused : (answer : Reading) (number place : ℕ) → readingTold answer ≡ refuses number 0 place → answer ≡ reading.Refused number place
+reading-refused (reading.Count m) number place e = no-count (sym e)
+reading-refused (reading.Refused n p) number place e =
+    ap₂ reading.Refused (ap (λ (t : Told). t .number) e) (ap (λ (t : Told). natAbs (getD (t .values) 1 (pos 0))) e)
 
 pub writing-count : (answer : Writing) (n : ℕ) → writingTold answer ≡ gives (pos n ∷ []) → answer ≡ writing.Count n
 writing-count (writing.Count m) n e = ap writing.Count (count-is e)

@@ -1,6 +1,6 @@
 -- Bounds of a reading: a number takes a byte at least, counts are within the room, places are bytes or their end, and the numbers of refusals are 1 to 3.
 -- Assumes nothing.
-use mathlib.Core.Path.{_≡_, ap, subst}
+use mathlib.Core.Path.{_≡_, refl, ap, subst, _∙_}
 use mathlib.Core.Bool.{Bool, true, false, cond}
 use mathlib.Core.List.{List, [], _∷_}
 use Prim.Native.Nat.{ℕ, zero, suc, _+_, _-_, _≤_, _<_}
@@ -112,3 +112,15 @@ module _ (bytes : List ℕ) (room : ℕ) where
           let m = ap (λ (t : Told). t .number) e in
           let q = ap (λ (t : Told). natAbs (getD (t .values) 1 (pos 0))) e in
           (omega (arith, w .0), omega (arith, w .1), omega (arith, w .2))
+
+  -- what is told tells how it ended
+  pub read-no : {n p : ℕ} → refuses n 0 p ≡ readTold (readOf bytes room) → readOf bytes room .ended ≡ no n p
+  unfolding readTold
+  read-no {n} {p} e = go (readOf bytes room .ended) refl e
+    where
+      go : (d : Ending) → readOf bytes room .ended ≡ d → refuses n 0 p ≡ endTold d (length (readOf bytes room .stored)) → readOf bytes room .ended ≡ no n p
+      go all h e = let v = ap (λ (t : Told). length (t .values)) e in let f : ⊥ = omega arith in absurd f
+      go (no m q) h e =
+          let a : n ≡ m = ap (λ (t : Told). t .number) e in
+          let b : p ≡ q = ap (λ (t : Told). natAbs (getD (t .values) 1 (pos 0))) e in
+          h ∙ rw (a, b)

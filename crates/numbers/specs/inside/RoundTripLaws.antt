@@ -56,7 +56,7 @@ number-groups m rest h = go (ltb m 128) refl
         rw (n, r) (ap₂ Whole (omega arith) (omega arith))
 
 -- one number more to read
-read-some : (room place : ℕ) (bytes : List ℕ) → 1 ≤ length bytes
+pub read-some : (room place : ℕ) (bytes : List ℕ) → 1 ≤ length bytes
     → readFrom (suc room) place bytes ≡ afterNumber place (numberOf bytes) (λ used. readFrom room (place + used) (drop used bytes))
 read-some room place [] h = let f : ⊥ = omega arith in absurd f
 read-some room place (b ∷ bytes) h = refl

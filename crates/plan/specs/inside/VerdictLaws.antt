@@ -99,17 +99,6 @@ module _ (bytes : List ℕ) (room : ℕ) where
       go all h k = record { ended = h; counted = ap (λ (t : Told). natAbs (getD (t .values) 0 (pos 0))) k; within = count-within bytes room count e }
       go (no n p) h k = let v = ap (λ (t : Told). length (t .values)) k in let f : ⊥ = omega arith in absurd f
 
-  pub read-no : {n p : ℕ} → refuses n 0 p ≡ readTold (readOf bytes room) → readOf bytes room .ended ≡ no n p
-  unfolding readTold
-  read-no {n} {p} e = go (readOf bytes room .ended) refl e
-    where
-      go : (d : Ending) → readOf bytes room .ended ≡ d → refuses n 0 p ≡ endTold d (length (readOf bytes room .stored)) → readOf bytes room .ended ≡ no n p
-      go all h e = let v = ap (λ (t : Told). length (t .values)) e in let f : ⊥ = omega arith in absurd f
-      go (no m q) h e =
-          let a : n ≡ m = ap (λ (t : Told). t .number) e in
-          let b : p ≡ q = ap (λ (t : Told). natAbs (getD (t .values) 1 (pos 0))) e in
-          h ∙ rw (a, b)
-
   -- the numbers that were read are the front of the list
   pub read-front : {count : ℕ} (old list : List ℤ) → ReadAll count → list ≡ overlay (readOf bytes room .stored) old
       → take count list ≡ readOf bytes room .stored

@@ -2,7 +2,8 @@
 use Rattle.plan.proofs.Common.{sym, ap, _∙_, _≤_, arith, needs, now, length}
 use lib.Seq.{length-take-le}
 use Rattle.numbers.specs.law.CodecTold.{readingTold}
-use Rattle.plan.specs.inside.VerdictLaws.{ReadAll, read-all, read-no, read-front, plan-read, plan-unread}
+use Rattle.numbers.specs.inside.ReadingBounds.{read-no}
+use Rattle.plan.specs.inside.VerdictLaws.{ReadAll, read-all, read-front, plan-read, plan-unread}
 use Rattle.plan.proofs.judge.judge_plan_bytes.Statement.{statement}
 use Rattle.plan.proofs.judge.judge_plan_bytes.Tie as tie
 
