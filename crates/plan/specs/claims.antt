@@ -5,6 +5,7 @@ pub mod StationFacts
 pub mod PlanFacts
 pub mod Acceptance
 pub mod BytesAccepted
+pub mod WrongByte
 pub mod Demand3
 pub mod TableT
 pub mod FurtherRows

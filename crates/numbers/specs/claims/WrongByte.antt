@@ -58,10 +58,12 @@ module _ (bytes : List ℕ) (room : ℕ) {p : ℕ} where
   bad-for-good e rest =
       let w = cut-at e .1 refl in
       let c : p + 1 ≡ suc (w .count) = omega (arith, w .at-is) in
-      ap (λ (n : ℕ). readOf (take n bytes ++ rest) room) c ∙ w .after rest ∙ ap (λ (d : Ending). record { stored = readOf bytes room .stored; ended = d }) (sym e)
+      ap (λ (n : ℕ). readOf (take n bytes ++ rest) room) c ∙ w .after rest
+      ∙ ap (λ (d : Ending). record { stored = readOf bytes room .stored; ended = d }) (sym e)
 
   -- All before it is a good beginning, and with it the bytes are refused there.
-  pub first-bad : readOf bytes room .ended ≡ no 2 p → (readOf (take p bytes) room .ended ≡ no 1 p) × (readOf (take (p + 1) bytes) room .ended ≡ no 2 p)
+  pub first-bad : readOf bytes room .ended ≡ no 2 p
+      → (readOf (take p bytes) room .ended ≡ no 1 p) × (readOf (take (p + 1) bytes) room .ended ≡ no 2 p)
   first-bad e =
       let last = ap (λ (l : List ℕ). readOf l room .ended) (sym (append-nil (take (p + 1) bytes))) in
       (ap ended (before-bad e), last ∙ ap ended (bad-for-good e []) ∙ e)

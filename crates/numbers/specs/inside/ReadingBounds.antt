@@ -1,9 +1,9 @@
 -- Bounds of a reading: a number takes a byte at least, counts are within the room, places are bytes or their end, and the numbers of refusals are 1 to 3.
 -- Assumes nothing.
-use mathlib.Core.Path.{_≡_, refl, ap, subst, _∙_}
+use mathlib.Core.Path.{_≡_, ap, subst}
 use mathlib.Core.Bool.{Bool, true, false, cond}
 use mathlib.Core.List.{List, [], _∷_}
-use Prim.Native.Nat.{ℕ, zero, suc, _+_, _-_, _≤_, _<_}
+use Prim.Native.Nat.{ℕ, zero, suc, _+_, _-_, _≤_}
 use native.Mathlib.Omega.{arith}
 use lib.Dec.{ltb, leb, eqb}
 use lib.IntN.{pos, natAbs}
@@ -101,26 +101,19 @@ module _ (bytes : List ℕ) (room : ℕ) where
       go all e = let v = ap (λ (t : Told). natAbs (getD (t .values) 0 (pos 0))) e in omega (arith, count-room room 0 bytes)
       go (no n p) e = let v = ap (λ (t : Told). length (t .values)) e in omega arith
 
-  pub refusal-within : (number place : ℕ) → refuses number 0 place ≡ readTold (readOf bytes room) → (number ≤ 3) × (place ≤ length bytes) × (1 ≤ number)
-  unfolding readTold readOf
-  refusal-within number place e = go (readFrom room 0 bytes .ended) (read-placed (length bytes) room 0 bytes (omega arith)) e
-    where
-      go : (d : Ending) → Placed (length bytes) d → refuses number 0 place ≡ endTold d (length (readFrom room 0 bytes .stored))
-          → (number ≤ 3) × (place ≤ length bytes) × (1 ≤ number)
-      go all w e = let v = ap (λ (t : Told). length (t .values)) e in let f : ⊥ = omega arith in absurd f
-      go (no n p) w e =
-          let m = ap (λ (t : Told). t .number) e in
-          let q = ap (λ (t : Told). natAbs (getD (t .values) 1 (pos 0))) e in
-          (omega (arith, w .0), omega (arith, w .1), omega (arith, w .2))
-
   -- what is told tells how it ended
   pub read-no : {n p : ℕ} → refuses n 0 p ≡ readTold (readOf bytes room) → readOf bytes room .ended ≡ no n p
   unfolding readTold
-  read-no {n} {p} e = go (readOf bytes room .ended) refl e
+  read-no {n} {p} e = go (readOf bytes room .ended) e
     where
-      go : (d : Ending) → readOf bytes room .ended ≡ d → refuses n 0 p ≡ endTold d (length (readOf bytes room .stored)) → readOf bytes room .ended ≡ no n p
-      go all h e = let v = ap (λ (t : Told). length (t .values)) e in let f : ⊥ = omega arith in absurd f
-      go (no m q) h e =
+      go : (d : Ending) → refuses n 0 p ≡ endTold d (length (readOf bytes room .stored)) → d ≡ no n p
+      go all e = let v = ap (λ (t : Told). length (t .values)) e in let f : ⊥ = omega arith in absurd f
+      go (no m q) e =
           let a : n ≡ m = ap (λ (t : Told). t .number) e in
           let b : p ≡ q = ap (λ (t : Told). natAbs (getD (t .values) 1 (pos 0))) e in
-          h ∙ rw (a, b)
+          rw (a, b)
+
+  pub refusal-within : (number place : ℕ) → refuses number 0 place ≡ readTold (readOf bytes room)
+      → (number ≤ 3) × (place ≤ length bytes) × (1 ≤ number)
+  unfolding readOf
+  refusal-within number place e = subst (Placed (length bytes)) (read-no e) (read-placed (length bytes) room 0 bytes (omega arith))

@@ -76,7 +76,8 @@ module _ (read front : List ℕ → Number) (b group : ℕ) (step : (rest : List
   front-take : (n : ℕ) (bytes rest : List ℕ) → front (take (1 + n) (b ∷ bytes) ++ rest) ≡ inFront group (read (take n bytes ++ rest))
   front-take n bytes rest = let s : 1 + n ≡ suc n = omega arith in rw s (step (take n bytes ++ rest))
 
-  local-front : (bytes : List ℕ) (least : ℕ) → least ≤ 1 → (r : Number) → Local read bytes 0 r → Local front (b ∷ bytes) least (inFront group r)
+  local-front : (bytes : List ℕ) (least : ℕ) → least ≤ 1 → (r : Number) → Local read bytes 0 r
+      → Local front (b ∷ bytes) least (inFront group r)
   local-front bytes least h (Whole v u) w = λ rest. front-take u bytes rest ∙ ap (inFront group) (w rest)
   local-front bytes least h (Refused n o) w = (
     λ e. let x = w .0 e in record {
@@ -151,7 +152,8 @@ module _ (room place b : ℕ) (bytes : List ℕ) {v u : ℕ} (whole : numberOf (
       read-some room place (take u (b ∷ bytes) ++ rest) (omega (arith, length-append (take u (b ∷ bytes)) rest, n, used-some (b ∷ bytes) whole .0))
       ∙ rw (local rest, drop-at (take u (b ∷ bytes)) rest u n)
 
-  cut-on : (stored : List ℤ) (e : Ending) → Cut room (place + u) (drop u (b ∷ bytes)) stored e → Cut (suc room) place (b ∷ bytes) (signedOf v ∷ stored) e
+  cut-on : (stored : List ℤ) (e : Ending) → Cut room (place + u) (drop u (b ∷ bytes)) stored e
+      → Cut (suc room) place (b ∷ bytes) (signedOf v ∷ stored) e
   cut-on stored all c = tt
   cut-on stored (no n at) c = (
     λ e. let x = c .0 e in record {
@@ -193,7 +195,9 @@ module _ (room place b : ℕ) (bytes : List ℕ) {n o : ℕ} (refused : numberOf
           count = o;
           at-is = refl;
           inside = x .inside;
-          before = read-some room place (take o (b ∷ bytes)) (omega (arith, length-take-le o (b ∷ bytes) (omega (arith, x .inside)), x .some)) ∙ rw (x .before);
+          before =
+              let n = length-take-le o (b ∷ bytes) (omega (arith, x .inside)) in
+              read-some room place (take o (b ∷ bytes)) (omega (arith, n, x .some)) ∙ rw (x .before);
           after = λ rest. rw (x .after rest);
         },
       )

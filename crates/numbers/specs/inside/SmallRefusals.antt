@@ -1,4 +1,5 @@
--- Refusals have small numbers, steps and places, and no number is 0: what an export needs before it hands them on.
+-- Refusals of a list have small numbers, steps and places, and their numbers are above those of bytes, 1 to 7: what an export needs before it hands them
+-- on, and what tells them from the refusals of a reading.
 -- Assumes nothing.
 use mathlib.Core.Path.{_≡_, refl, sym, subst}
 use mathlib.Core.Bool.{Bool, true, false}
@@ -13,7 +14,7 @@ use Rattle.numbers.specs.declared.answer.Answer.the-variants.{Yes, No}
 
 abbrev pub Small : ℕ → Answer → Type 0
 Small b Yes = Unit {0}
-Small b (No number step place) = (number < b) × (step < b) × (place < b) × (1 ≤ number)
+Small b (No number step place) = (number < b) × (step < b) × (place < b) × (8 ≤ number)
 
 module _ (b : ℕ) where
   pub small-else : (x y : Answer) → Small b x → (x ≡ Yes → Small b y) → Small b (orElse x y)
@@ -21,7 +22,7 @@ module _ (b : ℕ) where
   small-else (No n t p) y s f = s
 
   -- a question and what comes after it
-  pub small-next : (q : Question) (qs : List Question) → q .number < b → q .step < b → q .place < b → 1 ≤ q .number
+  pub small-next : (q : Question) (qs : List Question) → q .number < b → q .step < b → q .place < b → 8 ≤ q .number
       → (q .yes ≡ true → Small b (firstNo qs)) → Small b (firstNo (q ∷ qs))
   small-next q qs h k l m f = go (q .yes) f
     where
@@ -52,7 +53,7 @@ module _ (b : ℕ) where
 -- every question of a list has a small number, step and place
 abbrev pub AllSmall : ℕ → List Question → Type 0
 AllSmall b [] = Unit {0}
-AllSmall b (q ∷ qs) = (q .number < b) × (q .step < b) × (q .place < b) × (1 ≤ q .number) × AllSmall b qs
+AllSmall b (q ∷ qs) = (q .number < b) × (q .step < b) × (q .place < b) × (8 ≤ q .number) × AllSmall b qs
 
 module _ (b : ℕ) where
   pub all-small : (qs : List Question) → AllSmall b qs → Small b (firstNo qs)

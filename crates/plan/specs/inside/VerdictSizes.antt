@@ -96,7 +96,7 @@ values t = length (t .values)
 at : Told → ℕ → ℕ
 at t i = natAbs (getD (t .values) i (pos 0))
 
-refused-same : {n s p m t q : ℕ} → refuses n s p ≡ refuses m t q → (n ≡ m) × (s ≡ t) × (p ≡ q)
+pub refused-same : {n s p m t q : ℕ} → refuses n s p ≡ refuses m t q → (n ≡ m) × (s ≡ t) × (p ≡ q)
 unfolding at
 refused-same e = (ap (λ (x : Told). x .number) e, ap (λ (x : Told). at x 0) e, ap (λ (x : Told). at x 1) e)
 
@@ -115,50 +115,55 @@ module _ (case plan : List ℤ) where
 
 -- ---- the verdict on two byte strings
 
+-- an answer on bytes or on a list: its number, step and place are small, and its number is not 0
+abbrev pub FitAnswer : ℕ → Answer → Type 0
+FitAnswer b Yes = Unit {0}
+FitAnswer b (No number step place) = (number < b) × (step < b) × (place < b) × (1 ≤ number)
+
 fit-refused : (v : Verdict) {n s p : ℕ} → verdictTold v ≡ refuses n s p → n < 2 ^ 63 → s < 2 ^ 63 → p < 2 ^ 63 → 1 ≤ n → Fit (2 ^ 63) v
 unfolding values
 fit-refused (Accepted t) e h k l w = let f : ⊥ = omega (arith, ap values e) in absurd f
 fit-refused (Refused m t q) e h k l w = let r = refused-same e in (omega arith, omega arith, omega arith, omega arith)
 
-unread-small : (bytes : List ℕ) (room : ℕ) {n p : ℕ} → readOf bytes room .ended ≡ no n p → (n ≤ 3) × (p ≤ length bytes) × (1 ≤ n)
+pub unread-small : (bytes : List ℕ) (room : ℕ) {n p : ℕ} → readOf bytes room .ended ≡ no n p → (n ≤ 3) × (p ≤ length bytes) × (1 ≤ n)
 unfolding readTold
 unread-small bytes room {n} {p} e = refusal-within bytes room n p (rw e)
 
-plan-number-small : (n : ℕ) → (planNumber n ≤ 7) × (1 ≤ planNumber n)
+pub plan-number-small : (n : ℕ) → (planNumber n ≤ 7) × (5 ≤ planNumber n)
 plan-number-small n = go (eqb n 1) (eqb n 2)
   where
-    go : (a b : Bool) → (cond a 5 (cond b 6 7) ≤ 7) × (1 ≤ cond a 5 (cond b 6 7))
+    go : (a b : Bool) → (cond a 5 (cond b 6 7) ≤ 7) × (5 ≤ cond a 5 (cond b 6 7))
     go true b = (omega arith, omega arith)
     go false true = (omega arith, omega arith)
     go false false = (omega arith, omega arith)
 
 -- a refusal that is small, or what is told next
-refused-or-fit : (v : Verdict) (a : Answer) {next : Told} → Small (2 ^ 63) a → (verdictTold v ≡ next → Fit (2 ^ 63) v)
+refused-or-fit : (v : Verdict) (a : Answer) {next : Told} → FitAnswer (2 ^ 63) a → (verdictTold v ≡ next → Fit (2 ^ 63) v)
     → verdictTold v ≡ refusedOr a next → Fit (2 ^ 63) v
 refused-or-fit v Yes s h e = h e
 refused-or-fit v (No n t p) s h e = fit-refused v e (s .0) (s .1) (s .2) (s .3)
 
-case-fit : (case : List ℤ) → Small (2 ^ 63) (firstNo (caseQuestions case))
+case-fit : (case : List ℤ) → FitAnswer (2 ^ 63) (firstNo (caseQuestions case))
 case-fit case = go (firstNo (caseQuestions case)) (case-small case)
   where
-    go : (a : Answer) → Small limit a → Small (2 ^ 63) a
+    go : (a : Answer) → Small limit a → FitAnswer (2 ^ 63) a
     go Yes s = s
-    go (No n t p) s = (omega (arith, s .0), omega (arith, s .1), omega (arith, s .2), s .3)
+    go (No n t p) s = (omega (arith, s .0), omega (arith, s .1), omega (arith, s .2), omega (arith, s .3))
 
 module _ (bytes : List ℕ) (room b : ℕ) (short : length bytes < b) (seven : 7 < b) where
-  pub read-fit : Small b (readAnswer (readOf bytes room .ended))
+  pub read-fit : FitAnswer b (readAnswer (readOf bytes room .ended))
   read-fit = go (readOf bytes room .ended) refl
     where
-      go : (d : Ending) → readOf bytes room .ended ≡ d → Small b (readAnswer d)
+      go : (d : Ending) → readOf bytes room .ended ≡ d → FitAnswer b (readAnswer d)
       go all h = tt
       go (no n p) h = let w = unread-small bytes room h in (omega (arith, w .0), omega arith, omega (arith, w .1), w .2)
 
-  pub plan-read-fit : Small b (onPlanBytes (readAnswer (readOf bytes room .ended)))
+  pub plan-read-fit : FitAnswer b (onPlanBytes (readAnswer (readOf bytes room .ended)))
   plan-read-fit = go (readAnswer (readOf bytes room .ended)) read-fit
     where
-      go : (a : Answer) → Small b a → Small b (onPlanBytes a)
+      go : (a : Answer) → FitAnswer b a → FitAnswer b (onPlanBytes a)
       go Yes s = s
-      go (No n t p) s = let w = plan-number-small n in (omega (arith, w .0), s .1, s .2, w .1)
+      go (No n t p) s = let w = plan-number-small n in (omega (arith, w .0), s .1, s .2, omega (arith, w .1))
 
 pub bytes-fit : (caseBytes planBytes : List ℕ) (caseList planList : List ℤ) → length caseBytes < 2 ^ 63 → length planBytes < 2 ^ 63 → (v : Verdict)
     → verdictTold v ≡ bytesJudged caseBytes planBytes caseList planList .told → Fit (2 ^ 63) v

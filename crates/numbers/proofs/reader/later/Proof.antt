@@ -76,6 +76,6 @@ returns-3 c = c .tenth .ensures ∙ gather-tenth _ (c .before .before .loop .inv
 
 pub later-spec : {M : Type 1} → statement M
 later-spec = tie.close (tie.spec
-    Inv-loop μ-loop loop-holds (λ c. omega (arith, c .before .before .loop .inv .few)) returns (λ c. omega arith) (λ c κs. search needs) (λ c. omega arith)
-    last-requires returns-2 (λ c. record { fits = omega (arith, group-small c) }) add-value mul-scale (λ c. omega arith) (λ c. omega arith) (λ c. omega arith) loop-again
-    tenth-requires returns-3)
+    Inv-loop μ-loop loop-holds (λ c. omega (arith, c .before .before .loop .inv .few)) returns (λ c. omega arith) (λ c κs. search needs)
+    (λ c. omega arith) last-requires returns-2 (λ c. record { fits = omega (arith, group-small c) }) add-value mul-scale (λ c. omega arith)
+    (λ c. omega arith) (λ c. omega arith) loop-again tenth-requires returns-3)
