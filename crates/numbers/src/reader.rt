@@ -118,21 +118,22 @@ fn tenth(bytes: &[u8], at: usize, value: u64) -> Number
     requires { ⌜ value < 2 ^ 63 ⌝ }
     ensures { λ r. ⌜ r ≡ shifted value (2 ^ 63) 9 (laterBytes 0 (drop at (now (bytes .entry)))) ⌝ }
 {
-    if bytes.len() <= at {
-        return Number::Refused {
-            number: 1,
-            offset: 9,
-        };
-    }
-    let b = wide(bytes[at]);
-    if b == 1 {
-        Number::Whole {
-            value: value + 9223372036854775808,
-            used: 10,
+    if at < bytes.len() {
+        let b = wide(bytes[at]);
+        if b == 1 {
+            Number::Whole {
+                value: value + 9223372036854775808,
+                used: 10,
+            }
+        } else {
+            Number::Refused {
+                number: 2,
+                offset: 9,
+            }
         }
     } else {
         Number::Refused {
-            number: 2,
+            number: 1,
             offset: 9,
         }
     }
