@@ -86,7 +86,8 @@ extern "C" {
 
 /* The refusals, each with the question that has a "no". k, N, A and S are the case's steps, nodes, arcs and stations. */
 enum gasplan_refusal {
-    /* The bytes of a case, or of any list: place is the first byte of the number. */
+    /* The bytes of a case, or of any list. Place: for 1 the count of bytes, which is the index one past the last; for 2 the
+     * index of the byte that is wrong, the number's tenth or its last; for 3 the index of the number's first byte. */
     GASPLAN_BYTES_END = 1,           /* Is there a byte for the rest of the number? */
     GASPLAN_BYTE_OUT_OF_PLACE = 2,   /* Is a tenth byte 0 or 1, and a last byte after the first not 0? */
     GASPLAN_LIST_FULL = 3,           /* Is a place free for the number? */
@@ -135,9 +136,10 @@ enum gasplan_refusal {
  *
  * 0            out[0] is the count of numbers. They are the first numbers of the list, in order. The list past them is
  *              unchanged. No bytes are no numbers: the count is 0.
- * 1, 2 or 3    out[0] is 0 and out[1] is the index of the first byte of the number that could not be read (1: the bytes end in
- *              it; 2: a byte of it is out of place) or stored (3: the list is full). The numbers before it are the first
- *              numbers of the list. The list past them is unchanged.
+ * 1, 2 or 3    A number could not be read (1: the bytes end in it; 2: a byte of it is out of place) or stored (3: the list is
+ *              full). out[0] is 0. out[1] is bytes_len for 1, the index of the byte that is out of place for 2, and the index
+ *              of the number's first byte for 3. The numbers before it are the first numbers of the list. The list past them
+ *              is unchanged.
  * -1           The list is unchanged. */
 int64_t gasplan_read(const uint8_t *bytes, size_t bytes_len,
                      int64_t *list, size_t list_len,
@@ -181,8 +183,8 @@ int64_t gasplan_judge(const int64_t *case_list, size_t case_len,
  * 1, 2 or 3    The case bytes could not be read. out and the case list are as gasplan_read has them. The plan list is
  *              unchanged.
  * 10 to 17     The case is refused. The case list holds what was read. The plan list is unchanged.
- * 5, 6 or 7    The plan bytes could not be read: as 1, 2 and 3, with out[1] an index into the plan bytes. The case list
- *              holds what was read; the plan list is as gasplan_read has it.
+ * 5, 6 or 7    The plan bytes could not be read: as 1, 2 and 3, with out[1] plan_bytes_len for 5 and an index into the plan
+ *              bytes for 6 and 7. The case list holds what was read; the plan list is as gasplan_read has it.
  * 20 to 33     The plan is refused. Both lists hold what was read.
  * -1           Both lists are unchanged. */
 int64_t gasplan_judge_bytes(const uint8_t *case_bytes, size_t case_bytes_len,
