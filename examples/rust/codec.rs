@@ -20,7 +20,8 @@ fn there_and_back() -> Result<bool, Refusal> {
     Ok(count == again.len() && again == list)
 }
 
-/// Numbers before the one that is refused are in the list; the rest of it is as it was.
+/// Numbers before the one that is refused are in the list; the rest of it is as it was. The place is that of the byte that is
+/// missing (1) or wrong (2), or of the first byte of the number that has no place (3).
 fn refusals() -> bool {
     let (mut list, mut room, mut byte) = ([7; 2], [7; 1], [0xAA; 1]);
     let answers = [
@@ -32,8 +33,10 @@ fn refusals() -> bool {
     for (what, answer) in answers {
         println!("{what}: {answer:?}");
     }
-    let numbers = answers.map(|(_, answer)| answer.map_err(|refusal| refusal.number));
-    numbers == [Err(1), Err(2), Err(3), Err(4)] && (list, room, byte) == ([1, 7], [1], [0xAA])
+    let found =
+        answers.map(|(_, answer)| answer.map_err(|refusal| (refusal.number, refusal.place)));
+    let expected = [(1, 2), (2, 2), (3, 1), (4, 0)].map(Err);
+    found == expected && (list, room, byte) == ([1, 7], [1], [0xAA])
 }
 
 fn main() -> ExitCode {

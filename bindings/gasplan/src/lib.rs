@@ -75,7 +75,8 @@ pub struct Ledger {
     pub residual: i64,
 }
 
-/// Reads bytes into a lent list and gives the count of numbers.
+/// Reads bytes into a lent list and gives the count of numbers. The place of a refusal is the count of bytes where they end in
+/// a number (1), the index of a byte that is out of place (2), or of the first byte of the number that has no place (3).
 #[inline]
 pub fn read(bytes: &[u8], list: &mut [i64]) -> Answer<usize> {
     let mut out = [0; OUT_PLACES];

@@ -23,12 +23,34 @@ fn numbers_become_bytes_and_bytes_numbers() {
 #[test]
 fn refused_reading_stores_what_came_before() {
     let mut list = [7; 3];
-    assert_eq!(read(&[2, 0x80], &mut list), Err(refused(1, 1)));
+    assert_eq!(read(&[2, 0x80], &mut list), Err(refused(1, 2)));
     assert_eq!(list, [1, 7, 7]);
-    assert_eq!(read(&[4, 0x80, 0], &mut list), Err(refused(2, 1)));
+    assert_eq!(read(&[4, 0x80, 0], &mut list), Err(refused(2, 2)));
     assert_eq!(list, [2, 7, 7]);
     assert_eq!(read(&[2, 4, 6, 8], &mut list), Err(refused(3, 3)));
     assert_eq!(list, [1, 2, 3]);
+}
+
+#[test]
+fn the_place_is_that_of_the_byte() {
+    // Where bytes end it is their count, whatever the number's first byte is.
+    for more in 1..=9 {
+        let bytes = [&[2, 4][..], &[0x80; 9][..more]].concat();
+        assert_eq!(read_all(&bytes), Err(refused(1, 2 + more)));
+    }
+    // A needless last byte has its own index.
+    for more in 1..=9 {
+        let bytes = [&[2, 4][..], &[0x80; 9][..more], &[0, 6]].concat();
+        assert_eq!(read_all(&bytes), Err(refused(2, 2 + more)));
+    }
+    // A tenth byte other than 01 is nine after the first.
+    for tenth in [0x00, 0x02, 0x7F, 0x80, 0xFF] {
+        let bytes = [&[2, 4][..], &[0xFF; 9], &[tenth, 6]].concat();
+        assert_eq!(read_all(&bytes), Err(refused(2, 11)));
+    }
+    // A number without a place is not read: its first byte is told, also where it has a wrong one.
+    assert_eq!(read(&[2, 0x80, 0], &mut [7]), Err(refused(3, 1)));
+    assert_eq!(read(&[0x80], &mut []), Err(refused(3, 0)));
 }
 
 #[test]

@@ -64,6 +64,28 @@ fn bytes_are_read_and_judged() {
     assert_eq!(answer, Err(no_place));
 }
 
+/// The two-string call has the reader's places, each in its own string.
+#[test]
+fn a_wrong_byte_is_told_by_its_index() {
+    let (case_bytes, plan_bytes) = (write_all(&CASE).unwrap(), write_all(&PLAN).unwrap());
+    let ten = [[0xFF; 9].as_slice(), &[2]].concat();
+    for (bytes, number, offset) in [(&[0x80][..], 1, 1), (&[0x80, 0], 2, 1), (&ten, 2, 9)] {
+        let said = |case: &[u8], plan: &[u8]| verdict(case, plan).to_string();
+        let case = [&case_bytes, bytes].concat();
+        let place = case_bytes.len() + offset;
+        assert_eq!(
+            said(&case, &plan_bytes),
+            format!("refused {number} 0 {place}")
+        );
+        let plan = [&plan_bytes, bytes].concat();
+        let (number, place) = (number + 4, plan_bytes.len() + offset);
+        assert_eq!(
+            said(&case_bytes, &plan),
+            format!("refused {number} 0 {place}")
+        );
+    }
+}
+
 #[test]
 fn the_program_has_limits() {
     let said = |case: usize, plan: usize| verdict(&vec![0; case], &vec![0; plan]);
