@@ -8,6 +8,7 @@ use gasplan::{Refusal, program, read_all, write_all};
 
 use crate::layout::{CaseLayout, Counts, Layout, PlanLayout, fields};
 use crate::replace::{New, replace};
+use crate::unread::Unread;
 use crate::{parse, parse_as, write};
 
 /// Each error is one line for people, with the file's name.
@@ -53,18 +54,20 @@ pub fn told(path: &Path, error: io::Error) -> String {
 /// The numbers of a binary file.
 pub fn read_bin(path: &Path) -> Result<Vec<i64>> {
     let bytes = fs::read(path).map_err(|error| told(path, error))?;
-    read_all(&bytes).map_err(|refusal| format!("{}: {}", path.display(), unreadable(&refusal)))
+    read_all(&bytes)
+        .map_err(|refusal| format!("{}: {}", path.display(), unreadable(&bytes, refusal)))
 }
 
 /// Why bytes are no numbers.
-pub fn unreadable(refusal: &Refusal) -> String {
-    let why = match refusal.number {
-        1 => "the bytes end before it does",
-        2 => "its tenth byte is above 1, or its last byte is a 00 that it does not need",
-        _ => "no place is free for it",
-    };
+pub fn unreadable(bytes: &[u8], refusal: Refusal) -> String {
     let Refusal { number, place, .. } = refusal;
-    format!("refused {number}: the number that starts at byte {place}: {why}")
+    if !matches!(number, 1 | 2) {
+        return format!(
+            "refused {number}: no place is free for the number that begins at byte {place}"
+        );
+    }
+    let unread = Unread::at(bytes, place);
+    format!("refused {number}, {}: {}", unread.place(), unread.words(""))
 }
 
 /// The numbers of a text file. Where it is known what the text is to hold, its first word has to say so.

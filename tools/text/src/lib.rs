@@ -11,6 +11,7 @@ pub mod model;
 pub mod parse;
 pub mod replace;
 pub mod terminal;
+pub mod unread;
 pub mod words;
 pub mod write;
 

@@ -156,7 +156,9 @@ fn a_difference_is_named() {
     fs::write(folder.join("case.bin"), [2, 0x80]).unwrap();
     let error = files::check(&folder).unwrap_err();
     assert!(
-        error.contains("refused 1: the number that starts at byte 1"),
+        error.contains(
+            "case.bin: refused 1, end after 2 bytes: number 1, from byte 1 on, is 80 [end]"
+        ),
         "{error}"
     );
 }
