@@ -1,50 +1,38 @@
 //! The questions 1 and 2 of case bytes, and 5 and 6 of plan bytes. 3 and 7 are in `limits`.
 
+use gasplan::{Refusal, read_all};
+use gasplan_text::files::{File, layout_of};
+use gasplan_text::layout::due_after;
+use gasplan_text::unread::Unread;
+
 use crate::check::{Check, check};
+use crate::field_rules::field_noes;
+use crate::input::Lists;
 
-const MOST_BYTES: usize = 10;
-const MORE: u8 = 0x80;
-
-/// The bytes from a number's first to its last, at most ten.
-fn bytes_of_number(bytes: &[u8], place: usize) -> &[u8] {
-    let rest = bytes.get(place..).unwrap_or_default();
-    let last = rest.iter().take(MOST_BYTES).position(|&byte| byte < MORE);
-    let length = last.map_or(rest.len().min(MOST_BYTES), |at| at + 1);
-    &rest[..length]
+/// The place in words, and the number that could not be read with its wrong byte marked.
+pub fn unread(bytes: &[u8], file: File, lists: &Lists, refusal: Refusal) -> (String, Vec<Check>) {
+    let unread = Unread::at(bytes, refusal.place);
+    let number = match file {
+        File::Case => refusal.number,
+        File::Plan => refusal.number - 4,
+    };
+    let is_no = unread.no().is_some_and(|(question, _)| question == number);
+    let field = field_words(&bytes[..unread.first], file, lists);
+    (unread.place(), vec![check(!is_no, unread.words(&field))])
 }
 
-fn hexadecimal(bytes: &[u8]) -> String {
-    let texts: Vec<String> = bytes.iter().map(|byte| format!("{byte:02X}")).collect();
-    texts.join(" ")
-}
-
-/// 1 and 5.
-pub fn ends_early(bytes: &[u8], place: usize) -> Vec<Check> {
-    let number = bytes_of_number(bytes, place);
-    let last_says_more = number.last().is_none_or(|&byte| byte >= MORE);
-    vec![check(
-        !(last_says_more && number.len() < MOST_BYTES),
-        format!(
-            "the number's bytes are {}: each is 80 or more, so another follows, and the file ends after {} bytes",
-            hexadecimal(number),
-            bytes.len()
-        ),
-    )]
-}
-
-/// 2 and 6.
-pub fn out_of_place(bytes: &[u8], place: usize) -> Vec<Check> {
-    let number = bytes_of_number(bytes, place);
-    let text = hexadecimal(number);
-    let last = number.last().copied().unwrap_or(0);
-    vec![
-        check(
-            number.len() < MOST_BYTES || last <= 1,
-            format!("the number's bytes are {text}: the tenth is {last:02X}, above 01"),
-        ),
-        check(
-            number.len() < 2 || last != 0,
-            format!("the number's bytes are {text}: the last is 00, which a number does not need"),
-        ),
-    ]
+/// The field that the number after these bytes was to be. It is named where no number before leaves open which field follows,
+/// and in a plan where the case is whole, since that says which rows it has.
+fn field_words(before: &[u8], file: File, lists: &Lists) -> String {
+    let list = read_all(before).unwrap_or_default();
+    let is_clear = match file {
+        File::Case => field_noes(&list).left_out.is_empty(),
+        File::Plan => lists.case.is_some(),
+    };
+    if !is_clear {
+        return String::new();
+    }
+    let due = due_after(layout_of(file, &lists.case_list).as_mut(), &list);
+    let field = due.map_or("past the last field".to_string(), |it| it.address());
+    format!(" ({field})")
 }

@@ -49,7 +49,7 @@ pub fn explain(
     region: Option<Region>,
 ) -> Explanation {
     let (item, mark, checks) = match refusal.number {
-        1..=7 => of_bytes(input, refusal),
+        1..=7 => of_bytes(input, lists, refusal),
         10..=12 => of_field(&lists.case_list, refusal),
         20 => {
             let checks = field_rules::rule_20(&lists.case_list, &lists.plan_list);
@@ -75,18 +75,16 @@ pub fn explain(
 
 type Answer = (String, Option<Mark>, Vec<Check>);
 
-fn of_bytes(input: &Input, refusal: Refusal) -> Answer {
+fn of_bytes(input: &Input, lists: &Lists, refusal: Refusal) -> Answer {
     let file = match refusal.number > 4 {
         true => File::Plan,
         false => File::Case,
     };
-    let (bytes, place) = (input.bytes(file), refusal.place);
-    let checks = match refusal.number {
-        1 | 5 => byte_rules::ends_early(bytes, place),
-        2 | 6 => byte_rules::out_of_place(bytes, place),
-        _ => Vec::new(),
+    let (place, checks) = match refusal.number {
+        1 | 2 | 5 | 6 => byte_rules::unread(input.bytes(file), file, lists, refusal),
+        _ => (format!("byte {}", refusal.place), Vec::new()),
     };
-    (format!("{}.bin, byte {place}", file.name()), None, checks)
+    (format!("{}.bin, {place}", file.name()), None, checks)
 }
 
 fn of_field(case: &[i64], refusal: Refusal) -> Answer {

@@ -1,6 +1,6 @@
 //! The questions 10 to 12 of a case's fields, and 20 of a plan's head and length.
 
-use gasplan_text::layout::{CaseLayout, Counts, Field, Form, Layout, Part};
+use gasplan_text::layout::{CaseLayout, Counts, Field, Form, Layout, Part, due_after};
 use gasplan_text::words;
 
 use crate::amount::Unit;
@@ -14,12 +14,7 @@ pub fn part_of(case: &[i64], place: usize) -> Option<Part> {
 
 /// The field that is due at a place.
 fn due_at(case: &[i64], place: usize) -> Option<Field> {
-    let mut layout = CaseLayout::default();
-    for &number in case.get(..place)? {
-        layout.due()?;
-        layout.take(number);
-    }
-    layout.due()
+    due_after(&mut CaseLayout::default(), case.get(..place)?)
 }
 
 pub fn rule_10(case: &[i64], place: usize) -> Vec<Check> {

@@ -38,10 +38,10 @@ const FIELDS: &str =
 fn bytes_that_cannot_be_read() {
     let case = "10 to 17 and 20 to 33: the case's numbers cannot be read";
     let plan = "20 to 33: the plan's numbers cannot be read";
-    gives("two-nodes --append case 80", &["1 0 58"], &[case]);
-    gives("two-nodes --append plan '80 00'", &["6 0 26"], &[plan]);
+    gives("two-nodes --append case 80", &["1 0 59"], &[case]);
+    gives("two-nodes --append plan '80 00'", &["6 0 27"], &[plan]);
     let both = "two-nodes --append case 80 --append plan '80 00'";
-    gives(both, &["1 0 58", "6 0 26"], &[case, plan]);
+    gives(both, &["1 0 59", "6 0 27"], &[case, plan]);
 }
 
 #[test]

@@ -93,7 +93,7 @@ fn the_refused_item_is_marked() {
 #[test]
 fn a_file_that_is_no_case_has_words_alone() {
     let picture = picture("two-nodes --append case 80");
-    assert!(picture.contains("refused 1 0 58"));
+    assert!(picture.contains("refused 1 0 59"));
     assert!(!picture.contains("data-item"));
 }
 

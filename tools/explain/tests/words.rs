@@ -93,11 +93,13 @@ fn stations_and_machines_are_named() {
 fn bytes_are_shown_in_hexadecimal() {
     says(
         "two-nodes --append plan '82 80 00'",
-        "plan.bin, byte 26: the number's bytes are 82 80 00: the last is 00, which a number does not need",
+        "plan.bin, byte 28: number 18 (past the last field), from byte 26 on, is 82 80 [00]: \
+         its last byte is 00, which a number does not need",
     );
     says(
         "two-nodes --append case 'FF*9 02'",
-        "case.bin, byte 58: the number's bytes are FF FF FF FF FF FF FF FF FF 02: the tenth is 02, above 01",
+        "case.bin, byte 67: number 33 (past the last field), from byte 58 on, is FF FF FF FF FF FF FF FF FF [02]: \
+         its tenth byte is 02, and only 01 may stand there",
     );
 }
 

@@ -87,3 +87,12 @@ pub fn fields(layout: &mut dyn Layout, list: &[i64]) -> Vec<Field> {
     }
     found
 }
+
+/// The field that is due after these numbers; none where a list is whole with them, or with fewer.
+pub fn due_after(layout: &mut dyn Layout, list: &[i64]) -> Option<Field> {
+    for &number in list {
+        layout.due()?;
+        layout.take(number);
+    }
+    layout.due()
+}

@@ -1,0 +1,217 @@
+//! Bytes that cannot be read: the number's bytes are shown, and the one at the verdict's place is marked.
+
+mod common;
+
+use std::ops::Range;
+
+use common::{ask, example, input_of};
+use explain::answer::answer;
+use explain::report::NOT_PROVED;
+use explain::request::Request;
+use explain::{Input, explain_refusal};
+use gasplan::Refusal;
+use gasplan_text::files::File;
+use inputs::damage::damage_bytes;
+use inputs::{Rng, generate};
+
+const CASE_END: &str = "rule 1, case bytes end early: is there a byte for the rest of the number?";
+const CASE_BYTE: &str = "rule 2, case byte out of place: is a tenth byte 00 or 01, and a last byte after the first not 00?";
+const PLAN_END: &str = "rule 5, plan bytes end early: is there a byte for the rest of the number?";
+const PLAN_BYTE: &str = "rule 6, plan byte out of place: is a tenth byte 00 or 01, and a last byte after the first not 00?";
+
+/// The example `two-nodes` with other bytes in one of its files.
+fn with(file: File, range: Range<usize>, bytes: &[u8]) -> Input {
+    let mut input = example("two-nodes");
+    input.bytes_mut(file).splice(range, bytes.iter().copied());
+    input
+}
+
+/// Ten bytes, of which the first nine say that another follows.
+fn ten(last: u8) -> [u8; 10] {
+    let mut bytes = [0xFF; 10];
+    bytes[9] = last;
+    bytes
+}
+
+/// Is this what is printed, to the letter?
+fn prints(input: &Input, verdict: &str, rule: &str, line: &str) {
+    let request = Request::of(&["folder".to_string()]).unwrap();
+    let text = answer(input, &request).text;
+    assert_eq!(text, format!("{verdict}\n{rule}\n{line}\n{NOT_PROVED}\n"));
+    marks_its_place(input, input.verdict().unwrap_err());
+}
+
+/// The file that a refusal by its bytes is about.
+fn file_of(number: i64) -> File {
+    if number > 4 { File::Plan } else { File::Case }
+}
+
+/// The bytes that are shown are those from the number's first up to the place, where the mark is, and all before are whole.
+fn marks_its_place(input: &Input, refusal: Refusal) {
+    let Refusal { number, place, .. } = refusal;
+    let bytes = input.bytes(file_of(number));
+    let explanation = explain_refusal(input, refusal, None);
+    let [finding] = explanation.findings.as_slice() else {
+        panic!("{refusal}: {:?}", explanation.findings);
+    };
+    let (_, words) = finding.split_once(", from byte ").expect(finding);
+    let (first, words) = words.split_once(" on, is ").expect(finding);
+    let (shown, _) = words.split_once(": ").expect(finding);
+    let first: usize = first.parse().expect(finding);
+    let mut wanted: Vec<String> = bytes[first..place]
+        .iter()
+        .map(|byte| format!("{byte:02X}"))
+        .collect();
+    wanted.push(match number {
+        1 | 5 => "[end]".to_string(),
+        _ => format!("[{:02X}]", bytes[place]),
+    });
+    assert_eq!(shown, wanted.join(" "), "{refusal}");
+    assert_eq!(matches!(number, 1 | 5), place == bytes.len(), "{refusal}");
+    assert!(gasplan::read_all(&bytes[..first]).is_ok(), "{refusal}");
+    assert!(bytes[first..place].iter().all(|&byte| byte >= 0x80));
+}
+
+#[test]
+fn a_last_byte_00() {
+    prints(
+        &with(File::Case, 0..1, &[0x82, 0x00]),
+        "refused 2 0 1",
+        CASE_BYTE,
+        "case.bin, byte 1: number 0 (edition), from byte 0 on, is 82 [00]: its last byte is 00, which a number does not need",
+    );
+    prints(
+        &with(File::Case, 57..58, &[0x80, 0x80, 0x00]),
+        "refused 2 0 59",
+        CASE_BYTE,
+        "case.bin, byte 59: number 32 (arc 0 zero), from byte 57 on, is 80 80 [00]: its last byte is 00, which a number does not need",
+    );
+    prints(
+        &with(File::Plan, 0..1, &[0x82, 0x00]),
+        "refused 6 0 1",
+        PLAN_BYTE,
+        "plan.bin, byte 1: number 0 (version), from byte 0 on, is 82 [00]: its last byte is 00, which a number does not need",
+    );
+    prints(
+        &with(File::Plan, 2..5, &[0xF0, 0x9C, 0x86, 0x00]),
+        "refused 6 0 5",
+        PLAN_BYTE,
+        "plan.bin, byte 5: number 2 (step 1 node 0 p), from byte 2 on, is F0 9C 86 [00]: its last byte is 00, which a number does not need",
+    );
+}
+
+/// Nine bytes before it and a tenth in one of the files; the tenth's place is that of the first and nine.
+#[test]
+fn a_tenth_byte() {
+    let nine = "FF FF FF FF FF FF FF FF FF";
+    for last in [0x00, 0x02, 0x80, 0xFF] {
+        let why = match last {
+            0x00 => "its last byte is 00, which a number does not need".to_string(),
+            _ => format!("its tenth byte is {last:02X}, and only 01 may stand there"),
+        };
+        let shown = format!("{nine} [{last:02X}]: {why}");
+        let told = |file: &str, place: usize, number: &str| {
+            let first = place - 9;
+            format!("{file}.bin, byte {place}: number {number}, from byte {first} on, is {shown}")
+        };
+        let first = with(File::Case, 0..1, &ten(last));
+        prints(
+            &first,
+            "refused 2 0 9",
+            CASE_BYTE,
+            &told("case", 9, "0 (edition)"),
+        );
+        let at_the_end = with(File::Case, 57..58, &ten(last));
+        prints(
+            &at_the_end,
+            "refused 2 0 66",
+            CASE_BYTE,
+            &told("case", 66, "32 (arc 0 zero)"),
+        );
+        let plan = with(File::Plan, 1..2, &ten(last));
+        prints(
+            &plan,
+            "refused 6 0 10",
+            PLAN_BYTE,
+            &told("plan", 10, "1 (steps)"),
+        );
+        let whole = with(File::Plan, 26..26, &ten(last));
+        prints(
+            &whole,
+            "refused 6 0 35",
+            PLAN_BYTE,
+            &told("plan", 35, "18 (past the last field)"),
+        );
+    }
+    // A tenth byte 01 may stand there.
+    let input = with(File::Plan, 26..26, &ten(0x01));
+    assert_eq!(input.verdict().unwrap_err().number, 20);
+}
+
+#[test]
+fn bytes_that_end() {
+    prints(
+        &with(File::Case, 57..58, &[0x80]),
+        "refused 1 0 58",
+        CASE_END,
+        "case.bin, end after 58 bytes: number 32 (arc 0 zero), from byte 57 on, is 80 [end]: \
+         each byte is 80 or more, so another is due",
+    );
+    prints(
+        &with(File::Case, 0..58, &[0x80]),
+        "refused 1 0 1",
+        CASE_END,
+        "case.bin, end after 1 byte: number 0 (edition), from byte 0 on, is 80 [end]: \
+         each byte is 80 or more, so another is due",
+    );
+    prints(
+        &with(File::Plan, 25..26, &[0x80]),
+        "refused 5 0 26",
+        PLAN_END,
+        "plan.bin, end after 26 bytes: number 17 (step 1 arc 0 machines), from byte 25 on, is 80 [end]: \
+         each byte is 80 or more, so another is due",
+    );
+    prints(
+        &with(File::Plan, 26..26, &[0xFF; 9]),
+        "refused 5 0 35",
+        PLAN_END,
+        "plan.bin, end after 35 bytes: number 18 (past the last field), from byte 26 on, is \
+         FF FF FF FF FF FF FF FF FF [end]: each byte is 80 or more, so another is due",
+    );
+}
+
+/// A field is named where it is clear which one is due.
+#[test]
+fn fields_that_are_not_clear_have_no_name() {
+    let text = ask("two-nodes --all --append case 80 --append plan '80 00'").text;
+    let case = "  verdict  1 0 59  case bytes end early: case.bin, end after 59 bytes\n           \
+                number 33 (past the last field), from byte 58 on, is 80 [end]: ";
+    assert!(text.contains(case), "{text}");
+    let plan = "  also     6 0 27  plan byte out of place: plan.bin, byte 27\n           \
+                number 18, from byte 26 on, is 80 [00]: ";
+    assert!(text.contains(plan), "{text}");
+    let text = ask("two-nodes --change case steps 49 --append case 80").text;
+    let unclear = "\ncase.bin, end after 59 bytes: number 33, from byte 58 on, is 80 [end]: ";
+    assert!(text.contains(unclear), "{text}");
+}
+
+#[test]
+fn the_mark_is_at_the_verdict_s_place() {
+    let mut seen = [0; 8];
+    for seed in 0..200 {
+        let mut rng = Rng::new(seed);
+        let pair = generate::accepted(&mut rng);
+        let (case, plan) = (pair.case.list(), pair.plan.list());
+        for file in File::BOTH {
+            let mut input = input_of(&case, &plan);
+            damage_bytes(&mut rng, input.bytes_mut(file));
+            if let Err(refusal @ Refusal { number: 1..=7, .. }) = input.verdict() {
+                marks_its_place(&input, refusal);
+                seen[refusal.number as usize] += 1;
+            }
+        }
+    }
+    for number in [1, 2, 5, 6] {
+        assert!(seen[number] >= 10, "{number}: {seen:?}");
+    }
+}
