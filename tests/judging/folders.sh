@@ -30,6 +30,14 @@ verdicts() {
     run "a long plan" ./judge "$room/long-plan"
     ends 2 "too long"
 
+    # as many bytes as case.bin has, or the index of the byte that is wrong
+    example line broken-off && printf '\x80' >>"$room/broken-off/case.bin"
+    run "a case that breaks off" ./judge "$room/broken-off"
+    ends 1 "refused 1 0 $(wc -c <"$room/broken-off/case.bin")"
+    example line padded && printf '\x80\x80\x00\x02' >>"$room/padded/plan.bin"
+    run "a plan with a padded number" ./judge "$room/padded"
+    ends 1 "refused 6 0 $(($(wc -c <"$room/padded/plan.bin") - 2))"
+
     example line "-a b" && ln -s "$PWD/judge" "$room/by-link"
     run "by a link, from elsewhere, a name with a dash and a space" env -C "$room" ./by-link -- "-a b"
     ends 0 "$line"
