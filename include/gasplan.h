@@ -50,8 +50,8 @@ extern "C" {
 
 /* The version of the library: the first number changes when programs over it may have to, the second when something is
  * added. */
-#define GASPLAN_VERSION "1.0.0"
-#define GASPLAN_VERSION_MAJOR 1
+#define GASPLAN_VERSION "2.0.0"
+#define GASPLAN_VERSION_MAJOR 2
 #define GASPLAN_VERSION_MINOR 0
 #define GASPLAN_VERSION_PATCH 0
 
