@@ -41,9 +41,13 @@ fn run_row(beside: &mut Beside, row: Row) -> Result<(String, String), Difference
             let found = format!("{} {} {}", reply.answer, reply.out[0], hex(&list));
             (found, format!("0 {} {bytes:02X?}", list.len()))
         }
-        Row::Unreadable { bytes, number } => {
+        Row::Unreadable {
+            bytes,
+            number,
+            place,
+        } => {
             let reply = beside.read(&bytes, bytes.len())?;
-            (verdict(&reply), format!("refused {number} 0 0"))
+            (verdict(&reply), format!("refused {number} 0 {place}"))
         }
     })
 }

@@ -1,8 +1,10 @@
 //! The inputs at the edges of each question, every one of them for every seed.
 
 use inputs::aimed::edges::{
-    EDGES, EDGES_OF_FIELDS, Edge, Expect, LEDGER_EDGES, LedgerEdge, READ_EDGES, WRITE_EDGES,
+    EDGES, EDGES_OF_FIELDS, Edge, Expect, LEDGER_EDGES, LedgerEdge, READ_EDGES, ReadEdge,
+    WRITE_EDGES,
 };
+use inputs::bytes::{Encoded, encode, on_plan_bytes};
 use inputs::generate;
 use inputs::{Pair, Rng};
 
@@ -46,11 +48,11 @@ pub fn wrong(beside: &mut Beside, seeds: u64) -> Vec<Wrong> {
 fn codec(beside: &mut Beside, seeds: u64) -> Vec<Wrong> {
     let mut wrong = Vec::new();
     for &(name, edges) in READ_EDGES {
-        let ask = |beside: &mut Beside, _: &mut Rng, _: &Pair| {
-            edges().iter().try_for_each(|edge| {
-                let reply = beside.read(&edge.bytes, edge.room)?;
-                expect(&reply, edge.expect, name)
-            })
+        let ask = |beside: &mut Beside, _: &mut Rng, pair: &Pair| {
+            let case = encode(&pair.case.list());
+            edges()
+                .iter()
+                .try_for_each(|edge| read(beside, edge, &case, name))
         };
         wrong.extend(differences(beside, name, seeds, ask));
     }
@@ -87,6 +89,26 @@ fn differences(
         rounds: found.len() as u64,
         first,
     })
+}
+
+/// Reads the bytes alone, then as a case's bytes, then as plan bytes after an accepted case: there 1 to 3 become 5 to 7.
+fn read(
+    beside: &mut Beside,
+    edge: &ReadEdge,
+    case: &Encoded,
+    name: &str,
+) -> Result<(), Difference> {
+    let reply = beside.read(&edge.bytes, edge.room)?;
+    expect(&reply, edge.expect, name)?;
+    // What is read whole ends in what the judging says of it.
+    let Expect::Refused(refused) = edge.expect else {
+        return Ok(());
+    };
+    let reply = beside.bytes([&edge.bytes, &[]], [edge.room, 0])?;
+    reply.expect(refused, name)?;
+    let rooms = [case.starts.len(), edge.room];
+    let reply = beside.bytes([&case.bytes, &edge.bytes], rooms)?;
+    reply.expect(on_plan_bytes(refused), name)
 }
 
 fn plan(beside: &mut Beside, edge: &Edge, name: &str) -> Result<(), Difference> {

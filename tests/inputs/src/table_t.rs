@@ -20,10 +20,11 @@ pub enum Row {
         list: Vec<i64>,
         bytes: Vec<u8>,
     },
-    /// The number of a refusal in reading, with step 0 and place 0.
+    /// The number and the place of a refusal in reading, with step 0.
     Unreadable {
         bytes: Vec<u8>,
         number: u8,
+        place: usize,
     },
 }
 
@@ -61,8 +62,8 @@ pub fn rows() -> Vec<(u8, Row)> {
         ),
         (7, bytes(&[-900], &[0x87, 0x0E])),
         (7, bytes(&[64], &[0x80, 0x01])),
-        (8, unreadable(&[0x80], 1)),
-        (8, unreadable(&[0x80, 0x00], 2)),
+        (8, unreadable(&[0x80], 1, 1)),
+        (8, unreadable(&[0x80, 0x00], 2, 1)),
         (8, bytes(&[], &[])),
     ]
 }
@@ -86,10 +87,11 @@ fn bytes(list: &[i64], bytes: &[u8]) -> Row {
     }
 }
 
-fn unreadable(bytes: &[u8], number: u8) -> Row {
+fn unreadable(bytes: &[u8], number: u8, place: usize) -> Row {
     Row::Unreadable {
         bytes: bytes.to_vec(),
         number,
+        place,
     }
 }
 

@@ -17,7 +17,7 @@ pub fn judge_bytes(
     Ok(totals)
 }
 
-/// On plan bytes 1 to 3 become 5 to 7.
+/// On plan bytes 1 to 3 become 5 to 7. The place stays: it counts the bytes of the plan.
 fn rule_5_6_7_plan_bytes(refusal: Refusal) -> Refusal {
     Refusal {
         number: match refusal.number {

@@ -27,8 +27,9 @@ fn number_at(bytes: &[u8], start: usize) -> Answer<(u64, usize)> {
     let mut folded = 0;
     let mut index = 0;
     loop {
-        let byte = rule_1_byte_is_there(bytes, start, index)?;
-        rule_2_byte_is_allowed(byte, start, index)?;
+        let place = start + index;
+        let byte = rule_1_byte_is_there(bytes, place)?;
+        rule_2_byte_is_allowed(byte, index, place)?;
         // Rule 2 lets no number go past its tenth byte: the shift stays in 0..=63.
         folded |= u64::from(byte & !MORE) << (7 * index);
         index += 1;
@@ -38,18 +39,21 @@ fn number_at(bytes: &[u8], start: usize) -> Answer<(u64, usize)> {
     }
 }
 
-fn rule_1_byte_is_there(bytes: &[u8], start: usize, index: usize) -> Answer<u8> {
-    let byte = bytes.get(start + index).copied();
-    ask(1, byte.is_some(), 0, start)?;
+/// Where the bytes ran out, the place is their length.
+fn rule_1_byte_is_there(bytes: &[u8], place: usize) -> Answer<u8> {
+    let byte = bytes.get(place).copied();
+    ask(1, byte.is_some(), 0, bytes.len())?;
     Ok(byte.unwrap_or(0))
 }
 
-fn rule_2_byte_is_allowed(byte: u8, start: usize, index: usize) -> Answer<()> {
+/// The place is that of the byte itself; `index` counts it within its number.
+fn rule_2_byte_is_allowed(byte: u8, index: usize, place: usize) -> Answer<()> {
     let tenth_is_small = index < TENTH || byte <= 1;
     let last_is_needed = index == 0 || byte != 0;
-    ask(2, tenth_is_small && last_is_needed, 0, start)
+    ask(2, tenth_is_small && last_is_needed, 0, place)
 }
 
+/// The place is the first byte of the number that has no place in the list.
 fn rule_3_place_is_free(count: usize, room: usize, start: usize) -> Answer<()> {
     ask(3, count < room, 0, start)
 }

@@ -6,9 +6,11 @@ use super::{arcs, case, fields, groups, known, largest, machines, nodes, pipes, 
 /// Edges of many inputs each.
 pub const READ_EDGES: &[(&str, ReadEdgesOf)] = &[
     ("1 cut", groups::edge_1_cut),
+    ("1 80 at the end", groups::edge_1_80_at_the_end),
     ("2 overlong", groups::edge_2_overlong),
     ("2 tenth", groups::edge_2_tenth),
     ("3 no place", groups::edge_3_no_place),
+    ("3 bad number", groups::edge_3_bad_number),
     ("3 one place", groups::edge_3_one_place),
 ];
 
