@@ -1,12 +1,13 @@
 //! Rounds: an accepted pair from a seed, and everything that is made from it.
 
 use inputs::aimed::{AIMS, LEDGER_AIMS};
-use inputs::bytes::{BYTES_AIMS, encode};
+use inputs::bytes::{BYTES_AIMS, encode, on_plan_bytes};
 use inputs::damage::{any_list, damage_bytes, damage_list};
 use inputs::generate::{self, Size};
-use inputs::{Pair, Refused, Rng};
+use inputs::{Pair, Rng};
 
 use crate::beside::{Beside, Difference, Reply};
+use crate::tally::STRINGS;
 use crate::{demand_3, files};
 
 /// Above this many numbers only some of the changes are made.
@@ -204,14 +205,12 @@ fn strings(beside: &mut Beside, rng: &mut Rng, input: &Input) -> Result<(), Diff
         if let Some(aimed) = aim(rng, &input.case) {
             let reply = beside.bytes([&aimed.bytes, &plan], [aimed.room, rooms[1]])?;
             reply.expect(aimed.expect, name)?;
+            beside.tally.aim_in(name, STRINGS[0]);
         }
         if let Some(aimed) = aim(rng, &input.plan) {
-            let expect = Refused {
-                number: aimed.expect.number + 4,
-                ..aimed.expect
-            };
             let reply = beside.bytes([&case, &aimed.bytes], [rooms[0], aimed.room])?;
-            reply.expect(expect, name)?;
+            reply.expect(on_plan_bytes(aimed.expect), name)?;
+            beside.tally.aim_in(name, STRINGS[1]);
         }
     }
     if rng.once_in(FILES_IN) {

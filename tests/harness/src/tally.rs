@@ -12,6 +12,9 @@ const QUESTIONS: [u8; 31] = [
     30, 31, 32, 33, 40, 41,
 ];
 
+/// What an aimed change of bytes is made on, beside bytes that are read alone: the two strings of one call.
+pub const STRINGS: [&str; 2] = [" in case bytes", " in plan bytes"];
+
 /// Fewer inputs than this leave a question unreached.
 pub const LEAST: u64 = 20;
 
@@ -27,8 +30,8 @@ pub struct Tally {
     pub coded: u64,
     /// Strings and lists made for reading and writing, whatever the room.
     pub strings_and_lists: u64,
-    /// Inputs of each aimed change.
-    pub aimed: BTreeMap<&'static str, u64>,
+    /// Inputs of each aimed change, by its name and the string that it is made on, if any.
+    pub aimed: BTreeMap<(&'static str, &'static str), u64>,
 }
 
 impl Tally {
@@ -44,7 +47,11 @@ impl Tally {
     }
 
     pub fn aim(&mut self, name: &'static str) {
-        *self.aimed.entry(name).or_default() += 1;
+        self.aim_in(name, "");
+    }
+
+    pub fn aim_in(&mut self, name: &'static str, string: &'static str) {
+        *self.aimed.entry((name, string)).or_default() += 1;
     }
 
     pub fn count(&self, question: u8) -> u64 {
@@ -60,8 +67,8 @@ impl Tally {
         for (&number, &count) in &other.refused {
             *self.refused.entry(number).or_default() += count;
         }
-        for (&name, &count) in &other.aimed {
-            *self.aimed.entry(name).or_default() += count;
+        for (&aim, &count) in &other.aimed {
+            *self.aimed.entry(aim).or_default() += count;
         }
         self.accepted += other.accepted;
         self.all_above_0 += other.all_above_0;
@@ -83,21 +90,23 @@ impl Tally {
         if self.all_above_0 < LEAST {
             gaps.push("accepted with all four totals above 0".to_string());
         }
-        let seldom = aims().filter(|name| self.aim_count(name) < LEAST);
-        gaps.extend(seldom.map(|name| format!("aim {name}")));
+        let seldom = aims().filter(|&aim| self.aim_count(aim) < LEAST);
+        gaps.extend(seldom.map(|(name, string)| format!("aim {name}{string}")));
         gaps
     }
 
-    fn aim_count(&self, name: &str) -> u64 {
-        self.aimed.get(name).copied().unwrap_or(0)
+    fn aim_count(&self, aim: (&'static str, &'static str)) -> u64 {
+        self.aimed.get(&aim).copied().unwrap_or(0)
     }
 }
 
-/// The names of all aimed changes.
-fn aims() -> impl Iterator<Item = &'static str> {
-    let bytes = BYTES_AIMS.iter().map(|(name, _)| *name);
-    let lists = AIMS.iter().map(|(name, _)| *name);
-    let ledgers = LEDGER_AIMS.iter().map(|(name, _)| *name);
+/// All aimed changes; those of bytes are due alone and in each string.
+fn aims() -> impl Iterator<Item = (&'static str, &'static str)> {
+    let strings = ["", STRINGS[0], STRINGS[1]];
+    let bytes = BYTES_AIMS.iter();
+    let bytes = bytes.flat_map(move |(name, _)| strings.map(|string| (*name, string)));
+    let lists = AIMS.iter().map(|(name, _)| (*name, ""));
+    let ledgers = LEDGER_AIMS.iter().map(|(name, _)| (*name, ""));
     bytes.chain(lists).chain(ledgers)
 }
 
@@ -116,8 +125,9 @@ impl fmt::Display for Tally {
         writeln!(f, "ledgers {:>10}", self.ledgers)?;
         writeln!(f, "read or written {}", self.coded)?;
         writeln!(f, "aimed at a part of a question:")?;
-        for name in aims() {
-            writeln!(f, "{:>18} {name}", self.aim_count(name))?;
+        for (name, string) in aims() {
+            let count = self.aim_count((name, string));
+            writeln!(f, "{count:>18} {name}{string}")?;
         }
         Ok(())
     }
