@@ -182,6 +182,27 @@ fn a_reader_with_a_fault_falls() {
 }
 
 #[test]
+fn a_byte_early_falls() {
+    for question in [1, 2, 3, 5, 6, 7] {
+        let early = move |answer: i64, out: &mut [i64]| {
+            if answer == question {
+                out[1] -= 1;
+            }
+            answer
+        };
+        let in_strings = Judge {
+            bytes: Some(Box::new(move |case, plan, a, b, out| {
+                early(calls::judge_bytes(case, plan, a, b, out), out)
+            })),
+            ..Judge::default()
+        };
+        assert!(falls(in_strings), "{question} in one of two strings");
+        let alone = reader(move |bytes, list, out| early(calls::read(bytes, list, out), out));
+        assert!(question > 3 || falls(alone), "{question}");
+    }
+}
+
+#[test]
 fn a_writer_with_a_fault_falls() {
     let too_careful = writer(|list, bytes, out| {
         let room = bytes.len().saturating_sub(1);
