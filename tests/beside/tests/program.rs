@@ -67,6 +67,21 @@ fn a_longer_file_is_too_long_and_no_shorter_one() {
     );
 }
 
+/// The byte that is wrong, or the length where the bytes run out, in either file.
+#[test]
+fn a_byte_that_is_wrong_is_named() {
+    let (case, plan) = (encode(&C).bytes, encode(&P).bytes);
+    prints([Some(&[0x80]), Some(&plan)], "refused 1 0 1");
+    prints([Some(&[0x80, 0]), Some(&plan)], "refused 2 0 1");
+    let tenth = [[0x80; 9].as_slice(), &[2]].concat();
+    prints([Some(&tenth), None], "refused 2 0 9");
+    prints([Some(&case), Some(&tenth)], "refused 6 0 9");
+    let (length, cut) = (plan.len() + 2, [&plan, [0xFF; 2].as_slice()].concat());
+    prints([Some(&case), Some(&cut)], &format!("refused 5 0 {length}"));
+    let (at, zero) = (plan.len() + 1, [&plan, [0xFF, 0, 1].as_slice()].concat());
+    prints([Some(&case), Some(&zero)], &format!("refused 6 0 {at}"));
+}
+
 #[test]
 fn lists_may_be_full() {
     let case = full(&C, CASE_NUMBERS);
