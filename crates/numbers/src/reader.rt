@@ -95,7 +95,7 @@ fn later(bytes: &[u8], start: usize, group: u64) -> Number
     tenth(bytes, at, value)
 }
 
-// A last byte after the first, in front of which `used - 1` bytes make up `value`.
+// A last byte after the first, in front of which `used` bytes make up `value`.
 fn last(b: u64, value: u64, scale: u64, used: usize) -> Number
     requires { ⌜ (b < 128) × (value < scale) × (scale ≤ 2 ^ 56) × (used ≤ 9) ⌝ }
     ensures { λ r. ⌜ r ≡ shifted value scale used (lastByte b) ⌝ }
