@@ -20,7 +20,7 @@ product-small {b} h k = let g : b ≤ 127 = omega (arith, h) in mul-le-mul k g
 
 -- ---- the bytes at `at`, by what stands there
 
-pub later-none : (more : ℕ) (bytes : List ℕ) (at : ℕ) → length bytes ≤ at → laterBytes more (drop at bytes) ≡ Refused 1 0
+pub later-none : (more : ℕ) (bytes : List ℕ) (at : ℕ) → length bytes ≤ at → laterBytes more (drop at bytes) ≡ Refused 1 1
 later-none zero bytes at h = rw (drop-of-length-le bytes h)
 later-none (suc more) bytes at h = rw (drop-of-length-le bytes h)
 
@@ -35,10 +35,10 @@ module _ (bytes : List ℕ) (at : ℕ) (h : at < length bytes) where
   pub tenth-one : getD bytes at 0 ≡ 1 → laterBytes 0 (drop at bytes) ≡ Whole 1 1
   tenth-one e = rw (drop-cons bytes at 0 h, e)
 
-  pub tenth-other : (getD bytes at 0 ≡ 1 → ⊥) → laterBytes 0 (drop at bytes) ≡ Refused 2 0
+  pub tenth-other : (getD bytes at 0 ≡ 1 → ⊥) → laterBytes 0 (drop at bytes) ≡ Refused 2 1
   tenth-other n = rw (drop-cons bytes at 0 h) (go (getD bytes at 0) n)
     where
-      go : (b : ℕ) → (b ≡ 1 → ⊥) → cond (leb b 1) (lastByte b) (Refused 2 0) ≡ Refused 2 0
+      go : (b : ℕ) → (b ≡ 1 → ⊥) → cond (leb b 1) (lastByte b) (Refused 2 1) ≡ Refused 2 1
       go zero n = refl
       go (suc zero) n = absurd (n refl)
       go (suc (suc b)) n = rw (lt-leb (suc (suc b)) 1 (omega arith))
@@ -71,9 +71,9 @@ gathering bytes start group h k = record {
 }
 
 module _ {bytes : List ℕ} {start group value scale at more : ℕ} (g : Gathering bytes start group value scale at more) where
-  pub gather-none : length bytes ≤ at → Refused 1 (9 - more) ≡ inFront group (laterBytes 8 (drop start bytes))
+  pub gather-none : length bytes ≤ at → Refused 1 (10 - more) ≡ inFront group (laterBytes 8 (drop start bytes))
   gather-none h =
-      let e : 9 - more ≡ 9 - more + 0 = omega arith in
+      let e : 10 - more ≡ 9 - more + 1 = omega (arith, g .few) in
       ap (Refused 1) e ∙ sym (g .result ∙ ap (shifted value scale (9 - more)) (later-none more bytes at h))
 
 -- with a byte before the tenth still to come

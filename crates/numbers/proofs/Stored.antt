@@ -85,8 +85,8 @@ module _ {bytes : List ℕ} {old list : List ℤ} {at count : ℕ} (s : Storing 
       let e : length old - count ≡ suc (length old - (count + 1)) = omega (arith, s .whole) in
       rw e (read-number (length old - (count + 1)) at bytes h)
 
-  pub store-no : {n o : ℕ} → at < length bytes → count < length list → numberOf (drop at bytes) ≡ Refused n o
-      → Stopped bytes old list (no n (at + o)) count
+  pub store-no : {n m : ℕ} → at < length bytes → count < length list → numberOf (drop at bytes) ≡ Refused n m
+      → Stopped bytes old list (no n (at + m - 1)) count
   store-no h k e = store-stop (read-one h k ∙ rw e)
 
   pub store-turn : {v u : ℕ} → at < length bytes → count < length list → numberOf (drop at bytes) ≡ Whole v u

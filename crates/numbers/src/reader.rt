@@ -7,11 +7,11 @@ ghost use Rattle.numbers.specs.inside.Shifted.{shifted};
 ghost use Rattle.numbers.specs.law.CodecTold.{readingTold};
 ghost use Rattle.numbers.specs.law.Told.{overlay};
 
-// What stands at the front of some bytes: a number and how many bytes it takes, or the question that has a "no" and how many bytes come before the one
-// at which it has it.
+// What stands at the front of some bytes: a number and how many bytes it takes, or the question that has a "no" and how many bytes were asked for, the
+// last of them the one at which it has it.
 pub enum Number {
     Whole { value: u64, used: usize },
-    Refused { number: usize, offset: usize },
+    Refused { number: usize, asked: usize },
 }
 
 // What a reading of all bytes answers: the count of numbers, or a refusal.
@@ -41,10 +41,10 @@ pub fn read(bytes: &[u8], list: &mut [i64]) -> Reading
                 count += 1;
                 at += used;
             }
-            Number::Refused { number, offset } => {
+            Number::Refused { number, asked } => {
                 return Reading::Refused {
                     number: number,
-                    place: at + offset,
+                    place: at + asked - 1,
                 };
             }
         }
@@ -80,7 +80,7 @@ fn later(bytes: &[u8], start: usize, group: u64) -> Number
         if bytes.len() <= at {
             return Number::Refused {
                 number: 1,
-                offset: 9 - more,
+                asked: 10 - more,
             };
         }
         let b = wide(bytes[at]);
@@ -103,7 +103,7 @@ fn last(b: u64, value: u64, scale: u64, used: usize) -> Number
     if b == 0 {
         Number::Refused {
             number: 2,
-            offset: used,
+            asked: used + 1,
         }
     } else {
         Number::Whole {
@@ -128,13 +128,13 @@ fn tenth(bytes: &[u8], at: usize, value: u64) -> Number
         } else {
             Number::Refused {
                 number: 2,
-                offset: 9,
+                asked: 10,
             }
         }
     } else {
         Number::Refused {
             number: 1,
-            offset: 9,
+            asked: 10,
         }
     }
 }

@@ -60,7 +60,7 @@ stored-within (suc room) place (b ∷ bytes) = go (λ p l. stored-within room p 
     go : ((p : ℕ) (l : List ℕ) → length (readFrom room p l .stored) ≤ length l) → (r : Number) → Within (suc (length bytes)) r
         → length (afterNumber place r (λ used. readFrom room (place + used) (drop used (b ∷ bytes))) .stored) ≤ suc (length bytes)
     go again (Whole v u) w = omega (arith, again (place + u) (drop u (b ∷ bytes)), length-drop u (b ∷ bytes), w .0, w .1)
-    go again (Refused n o) w = omega arith
+    go again (Refused n k) w = omega arith
 
 -- "n bytes never hold more than n numbers"
 pub bytes-hold : (bytes : List ℕ) (room : ℕ) → length (readOf bytes room .stored) ≤ length bytes
@@ -86,7 +86,7 @@ ends-not-full (suc room) place (b ∷ bytes) h = go (λ p l. ends-not-full room 
     go : ((p : ℕ) (l : List ℕ) → length l ≤ room → NotFull (readFrom room p l .ended)) → (r : Number) → Within (suc (length bytes)) r
         → NotFull (afterNumber place r (λ used. readFrom room (place + used) (drop used (b ∷ bytes))) .ended)
     go again (Whole v u) w = again (place + u) (drop u (b ∷ bytes)) (omega (arith, length-drop u (b ∷ bytes), w .0, w .1))
-    go again (Refused n o) w = w .0
+    go again (Refused n k) w = w .0
 
 -- of the call: a list with a place for each byte is never full: it does not refuse by 3
 pub never-full : {bytes : List ℕ} {list left : List ℤ} {number place : ℕ} → length bytes ≤ length list

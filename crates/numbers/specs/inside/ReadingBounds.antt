@@ -13,31 +13,31 @@ use Rattle.numbers.specs.law.Reading.{numberOf, laterBytes, lastByte, in
 use Rattle.numbers.specs.declared.reader.Number.{Number}
 use Rattle.numbers.specs.declared.reader.Number.the-variants.{Whole, Refused}
 
--- ---- a number takes at least one byte and no more than there are; its refusal is 1 or 2, at one of them or at their end
+-- ---- a number takes at least one byte and no more than there are; its refusal is 1 or 2, where at least one was asked for and at most one more than there are
 
 abbrev pub Within : ℕ → Number → Type 0
 Within n (Whole value used) = (1 ≤ used) × (used ≤ n)
-Within n (Refused number offset) = (number ≤ 2) × (offset ≤ n) × (1 ≤ number)
+Within n (Refused number asked) = (number ≤ 2) × (asked ≤ suc n) × (1 ≤ number) × (1 ≤ asked)
 
 within-front : (group n : ℕ) (r : Number) → Within n r → Within (suc n) (inFront group r)
 within-front group n (Whole v u) w = (omega arith, omega (arith, w .1))
-within-front group n (Refused m o) w = (w .0, omega (arith, w .1), w .2)
+within-front group n (Refused m k) w = (w .0, omega (arith, w .1), w .2, omega arith)
 
 within-last : (b n : ℕ) → Within (suc n) (lastByte b)
 within-last b n = go (eqb b 0)
   where
-    go : (t : Bool) → Within (suc n) (cond t (Refused 2 0) (Whole b 1))
-    go true = (omega arith, omega arith, omega arith)
+    go : (t : Bool) → Within (suc n) (cond t (Refused 2 1) (Whole b 1))
+    go true = (omega arith, omega arith, omega arith, omega arith)
     go false = (omega arith, omega arith)
 
 within-later : (more : ℕ) (bytes : List ℕ) → Within (length bytes) (laterBytes more bytes)
-within-later zero [] = (omega arith, omega arith, omega arith)
+within-later zero [] = (omega arith, omega arith, omega arith, omega arith)
 within-later zero (b ∷ bytes) = go (leb b 1)
   where
-    go : (t : Bool) → Within (suc (length bytes)) (cond t (lastByte b) (Refused 2 0))
+    go : (t : Bool) → Within (suc (length bytes)) (cond t (lastByte b) (Refused 2 1))
     go true = within-last b (length bytes)
-    go false = (omega arith, omega arith, omega arith)
-within-later (suc more) [] = (omega arith, omega arith, omega arith)
+    go false = (omega arith, omega arith, omega arith, omega arith)
+within-later (suc more) [] = (omega arith, omega arith, omega arith, omega arith)
 within-later (suc more) (b ∷ bytes) = go (within-later more bytes) (ltb b 128)
   where
     go : Within (length bytes) (laterBytes more bytes) → (t : Bool)
@@ -47,7 +47,7 @@ within-later (suc more) (b ∷ bytes) = go (within-later more bytes) (ltb b 128)
 
 pub within-number : (bytes : List ℕ) → Within (length bytes) (numberOf bytes)
 unfolding numberOf
-within-number [] = (omega arith, omega arith, omega arith)
+within-number [] = (omega arith, omega arith, omega arith, omega arith)
 within-number (b ∷ bytes) = go (ltb b 128)
   where
     go : (t : Bool) → Within (suc (length bytes)) (cond t (Whole b 1) (inFront (b - 128) (laterBytes 8 bytes)))
@@ -57,8 +57,8 @@ within-number (b ∷ bytes) = go (ltb b 128)
 pub used-some : (bytes : List ℕ) {v u : ℕ} → numberOf bytes ≡ Whole v u → (1 ≤ u) × (u ≤ length bytes)
 used-some bytes e = subst (Within (length bytes)) e (within-number bytes)
 
-pub offset-most : (bytes : List ℕ) {n o : ℕ} → numberOf bytes ≡ Refused n o → o ≤ length bytes
-offset-most bytes e = subst (Within (length bytes)) e (within-number bytes) .1
+pub asked-some : (bytes : List ℕ) {n k : ℕ} → numberOf bytes ≡ Refused n k → (1 ≤ k) × (k ≤ suc (length bytes))
+asked-some bytes e = let w = subst (Within (length bytes)) e (within-number bytes) in (w .3, w .1)
 
 -- ---- readings
 
@@ -77,7 +77,7 @@ module _ (end : ℕ) where
       go : ((p : ℕ) (l : List ℕ) → p + length l ≤ end → Placed end (readFrom room p l .ended)) → (r : Number) → Within (suc (length bytes)) r
           → Placed end (afterNumber place r (λ used. readFrom room (place + used) (drop used (b ∷ bytes))) .ended)
       go again (Whole v u) s = again (place + u) (drop u (b ∷ bytes)) (omega (arith, length-drop u (b ∷ bytes), s .1))
-      go again (Refused n o) s = (omega (arith, s .0), omega (arith, s .1), s .2)
+      go again (Refused n k) s = (omega (arith, s .0), omega (arith, s .1, s .3), s .2)
 
 count-room : (room place : ℕ) (bytes : List ℕ) → length (readFrom room place bytes .stored) ≤ room
 count-room zero place [] = omega arith
@@ -88,7 +88,7 @@ count-room (suc room) place (b ∷ bytes) = go (λ p l. count-room room p l) (nu
     go : ((p : ℕ) (l : List ℕ) → length (readFrom room p l .stored) ≤ room) → (r : Number)
         → length (afterNumber place r (λ used. readFrom room (place + used) (drop used (b ∷ bytes))) .stored) ≤ suc room
     go again (Whole v u) = omega (arith, again (place + u) (drop u (b ∷ bytes)))
-    go again (Refused n o) = omega arith
+    go again (Refused n k) = omega arith
 
 -- ---- what is told of a reading
 

@@ -20,21 +20,23 @@ use Rattle.numbers.specs.declared.reader.Number.the-variants.{Whole, Ref
 -- ---- one number, as `read` reads it
 
 -- the bytes end inside it, and a byte 1 more ends it
-pub record Unfinished (read : List ℕ → Number) (bytes : List ℕ) (offset : ℕ) : Type 0 where
-  pub upto : offset ≡ length bytes
+pub record Unfinished (read : List ℕ → Number) (bytes : List ℕ) (asked : ℕ) : Type 0 where
+  pub upto : asked ≡ suc (length bytes)
   pub value : ℕ
-  pub mended : read (bytes ++ (1 ∷ [])) ≡ Whole value (suc (length bytes))
+  pub mended : read (bytes ++ (1 ∷ [])) ≡ Whole value asked
 
--- those before `offset` end inside it, and the byte there is out of place, whatever follows
-pub record Spoilt (read : List ℕ → Number) (bytes : List ℕ) (least offset : ℕ) : Type 0 where
+-- those before the last that was asked for end inside it, and that one is out of place, whatever follows
+pub record Spoilt (read : List ℕ → Number) (bytes : List ℕ) (least asked : ℕ) : Type 0 where
+  pub offset : ℕ
+  pub is : asked ≡ suc offset
   pub some : least ≤ offset
   pub inside : offset < length bytes
-  pub before : read (take offset bytes) ≡ Refused 1 offset
-  pub after : (rest : List ℕ) → read (take (suc offset) bytes ++ rest) ≡ Refused 2 offset
+  pub before : read (take offset bytes) ≡ Refused 1 asked
+  pub after : (rest : List ℕ) → read (take (suc offset) bytes ++ rest) ≡ Refused 2 asked
 
 abbrev Local : (List ℕ → Number) → List ℕ → ℕ → Number → Type 0
 Local read bytes least (Whole value used) = (rest : List ℕ) → read (take used bytes ++ rest) ≡ Whole value used
-Local read bytes least (Refused number offset) = (number ≡ 1 → Unfinished read bytes offset) × (number ≡ 2 → Spoilt read bytes least offset)
+Local read bytes least (Refused number asked) = (number ≡ 1 → Unfinished read bytes asked) × (number ≡ 2 → Spoilt read bytes least asked)
 
 never-both {ℓ} : {X : Type ℓ} {n : ℕ} → n ≡ 1 → n ≡ 2 → X
 never-both e f = let z : ⊥ = omega arith in absurd z
@@ -42,32 +44,34 @@ never-both e f = let z : ⊥ = omega arith in absurd z
 -- a byte that decides by itself
 abbrev One : Number → Type 0
 One (Whole value used) = used ≡ 1
-One (Refused number offset) = (number ≡ 2) × (offset ≡ 0)
+One (Refused number asked) = (number ≡ 2) × (asked ≡ 1)
 
 one-last : (b : ℕ) → One (lastByte b)
 one-last b = go (eqb b 0)
   where
-    go : (t : Bool) → One (cond t (Refused 2 0) (Whole b 1))
+    go : (t : Bool) → One (cond t (Refused 2 1) (Whole b 1))
     go true = (refl, refl)
     go false = refl
 
-one-tenth : (b : ℕ) → One (cond (leb b 1) (lastByte b) (Refused 2 0))
+one-tenth : (b : ℕ) → One (cond (leb b 1) (lastByte b) (Refused 2 1))
 one-tenth b = go (leb b 1)
   where
-    go : (t : Bool) → One (cond t (lastByte b) (Refused 2 0))
+    go : (t : Bool) → One (cond t (lastByte b) (Refused 2 1))
     go true = one-last b
     go false = (refl, refl)
 
-module _ (read : List ℕ → Number) (b : ℕ) (bytes : List ℕ) (none : read [] ≡ Refused 1 0) where
+module _ (read : List ℕ → Number) (b : ℕ) (bytes : List ℕ) (none : read [] ≡ Refused 1 1) where
   one-local : (r : Number) → One r → ((rest : List ℕ) → read (b ∷ rest) ≡ r) → Local read (b ∷ bytes) 0 r
   one-local (Whole v u) o same = λ rest. rw o (same rest ∙ ap (Whole v) o)
   one-local (Refused n k) o same = (
     λ e. never-both e (o .0),
     λ e. record {
+      offset = 0;
+      is = o .1;
       some = omega arith;
-      inside = omega (arith, o .1);
-      before = rw (o .1) none;
-      after = λ rest. rw (o .1) (same rest ∙ rw (o .0, o .1));
+      inside = omega arith;
+      before = none ∙ ap (Refused 1) (sym (o .1));
+      after = λ rest. same rest ∙ ap (λ (m : ℕ). Refused m k) (o .0);
     },
   )
 
@@ -79,23 +83,19 @@ module _ (read front : List ℕ → Number) (b group : ℕ) (step : (rest : List
   local-front : (bytes : List ℕ) (least : ℕ) → least ≤ 1 → (r : Number) → Local read bytes 0 r
       → Local front (b ∷ bytes) least (inFront group r)
   local-front bytes least h (Whole v u) w = λ rest. front-take u bytes rest ∙ ap (inFront group) (w rest)
-  local-front bytes least h (Refused n o) w = (
+  local-front bytes least h (Refused n k) w = (
     λ e. let x = w .0 e in record {
       upto = omega (arith, x .upto);
       value = group + 128 * x .value;
-      mended =
-          let s : 1 + suc (length bytes) ≡ suc (suc (length bytes)) = omega arith in
-          step (bytes ++ (1 ∷ [])) ∙ ap (inFront group) (x .mended) ∙ ap (Whole (group + 128 * x .value)) s;
+      mended = step (bytes ++ (1 ∷ [])) ∙ ap (inFront group) (x .mended);
     },
     λ e. let x = w .1 e in record {
+      offset = suc (x .offset);
+      is = omega (arith, x .is);
       some = omega (arith, h);
       inside = omega (arith, x .inside);
-      before =
-          let s : 1 + o ≡ suc o = omega arith in
-          ap (λ (n : ℕ). front (take n (b ∷ bytes))) s ∙ step (take o bytes) ∙ ap (inFront group) (x .before);
-      after = λ rest.
-          let s : suc (1 + o) ≡ 1 + suc o = omega arith in
-          ap (λ (n : ℕ). front (take n (b ∷ bytes) ++ rest)) s ∙ front-take (suc o) bytes rest ∙ ap (inFront group) (x .after rest);
+      before = step (take (x .offset) bytes) ∙ ap (inFront group) (x .before);
+      after = λ rest. step (take (suc (x .offset)) bytes ++ rest) ∙ ap (inFront group) (x .after rest);
     },
   )
 
@@ -180,24 +180,24 @@ read-none zero place = refl
 read-none (suc room) place = refl
 
 -- a number in front that is refused
-module _ (room place b : ℕ) (bytes : List ℕ) {n o : ℕ} (refused : numberOf (b ∷ bytes) ≡ Refused n o) where
-  cut-here : Cut (suc room) place (b ∷ bytes) [] (no n (place + o))
+module _ (room place b : ℕ) (bytes : List ℕ) {n k : ℕ} (refused : numberOf (b ∷ bytes) ≡ Refused n k) where
+  cut-here : Cut (suc room) place (b ∷ bytes) [] (no n (place + k - 1))
   cut-here =
       let w = subst (Local numberOf (b ∷ bytes) 1) refused (number-local b bytes) in (
         λ e. let x = w .0 e in record {
           upto = omega (arith, x .upto);
           mended =
-              let h : length (bytes ++ (1 ∷ [])) ≤ suc (length bytes) = omega (arith, length-append bytes (1 ∷ [])) in
-              let d : drop (suc (length bytes)) (bytes ++ (1 ∷ [])) ≡ [] = drop-of-length-le (bytes ++ (1 ∷ [])) h in
+              let h : length (b ∷ bytes ++ (1 ∷ [])) ≤ k = omega (arith, length-append bytes (1 ∷ []), x .upto) in
+              let d : drop k (b ∷ bytes ++ (1 ∷ [])) ≡ [] = drop-of-length-le (b ∷ bytes ++ (1 ∷ [])) h in
               rw (x .mended, d) (read-none room _);
         },
         λ e. let x = w .1 e in record {
-          count = o;
-          at-is = refl;
+          count = x .offset;
+          at-is = omega (arith, x .is);
           inside = x .inside;
           before =
-              let n = length-take-le o (b ∷ bytes) (omega (arith, x .inside)) in
-              read-some room place (take o (b ∷ bytes)) (omega (arith, n, x .some)) ∙ rw (x .before);
+              let m = length-take-le (x .offset) (b ∷ bytes) (omega (arith, x .inside)) in
+              read-some room place (take (x .offset) (b ∷ bytes)) (omega (arith, m, x .some)) ∙ rw (x .before);
           after = λ rest. rw (x .after rest);
         },
       )
@@ -214,4 +214,4 @@ read-cut (suc room) place (b ∷ bytes) = go (λ p l. read-cut room p l) (number
     go again (Whole v u) n =
         let next = readFrom room (place + u) (drop u (b ∷ bytes)) in
         cut-on room place b bytes n (next .stored) (next .ended) (again (place + u) (drop u (b ∷ bytes)))
-    go again (Refused x o) n = cut-here room place b bytes n
+    go again (Refused x k) n = cut-here room place b bytes n

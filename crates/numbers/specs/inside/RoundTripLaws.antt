@@ -87,11 +87,11 @@ pub record Regrouped (more v u : ℕ) (bytes : List ℕ) : Type 0 where
 whole-last : (b v u : ℕ) → lastByte b ≡ Whole v u → (1 ≤ b) × (b ≡ v) × (1 ≡ u)
 whole-last b v u e = go (eqb b 0) refl e
   where
-    go : (t : Bool) → eqb b 0 ≡ t → cond t (Refused 2 0) (Whole b 1) ≡ Whole v u → (1 ≤ b) × (b ≡ v) × (1 ≡ u)
+    go : (t : Bool) → eqb b 0 ≡ t → cond t (Refused 2 1) (Whole b 1) ≡ Whole v u → (1 ≤ b) × (b ≡ v) × (1 ≡ u)
     go true t e = let z : _≡_ {A = ℕ} 0 1 = cc in let f : ⊥ = omega arith in absurd f
     go false t e = let n = eqb-false b 0 t in (omega arith, cc, cc)
 
-never {ℓ} : {X : Type ℓ} {n o v u : ℕ} → Refused n o ≡ Whole v u → X
+never {ℓ} : {X : Type ℓ} {n k v u : ℕ} → Refused n k ≡ Whole v u → X
 never e = let z : _≡_ {A = ℕ} 0 1 = cc in let f : ⊥ = omega arith in absurd f
 
 -- a number whose first group is `group`, with the number that its other groups are
@@ -107,7 +107,7 @@ fronted group v u (Whole value used) e =
     let a : group + 128 * value ≡ v = cc in
     let b : 1 + used ≡ u = cc in
     record { value = value; used = used; rest = refl; v-is = sym a; u-is = omega arith }
-fronted group v u (Refused n o) e = never e
+fronted group v u (Refused n k) e = never e
 
 -- the first byte and the groups of the rest are the groups of the whole
 regrouped : (more b v u value used : ℕ) (bytes : List ℕ) → 128 ≤ v → v % 128 + 128 ≡ b → v / 128 ≡ value → u ≡ suc used
@@ -118,7 +118,7 @@ later-whole : (more : ℕ) (bytes : List ℕ) (v u : ℕ) → Bytes bytes → la
 later-whole zero [] v u f e = never e
 later-whole zero (b ∷ bytes) v u f e = go (leb b 1) refl e
   where
-    go : (t : Bool) → leb b 1 ≡ t → cond t (lastByte b) (Refused 2 0) ≡ Whole v u → Regrouped zero v u (b ∷ bytes)
+    go : (t : Bool) → leb b 1 ≡ t → cond t (lastByte b) (Refused 2 1) ≡ Whole v u → Regrouped zero v u (b ∷ bytes)
     go true t e =
         let k = leb-true b 1 t in
         let w = whole-last b v u e in
@@ -191,4 +191,4 @@ encode-read (suc room) place (b ∷ bytes) f e = go (λ p l. encode-read room p 
     go again (Whole v u) n e =
         rw (unsigned-signed v, again (place + u) (drop u (b ∷ bytes)) (bytes-drop u (b ∷ bytes) f) e)
         (number-whole (b ∷ bytes) v u f n)
-    go again (Refused x o) n e = ended-no e
+    go again (Refused x k) n e = ended-no e

@@ -10,13 +10,13 @@ use Rattle.numbers.specs.declared.reader.Number.the-variants.{Whole, Ref
 -- the first `used` bytes make up `value`, and the groups of what follows stand at `scale`
 abbrev pub shifted : ℕ → ℕ → ℕ → Number → Number
 shifted value scale used (Whole v u) = Whole (value + scale * v) (used + u)
-shifted value scale used (Refused number offset) = Refused number (used + offset)
+shifted value scale used (Refused number asked) = Refused number (used + asked)
 
 pub shifted-first : (group : ℕ) (r : Number) → inFront group r ≡ shifted group 128 1 r
 shifted-first group (Whole v u) = refl
-shifted-first group (Refused n o) = refl
+shifted-first group (Refused n k) = refl
 
 pub shifted-more : (value scale used group : ℕ) (r : Number)
     → shifted value scale used (inFront group r) ≡ shifted (value + scale * group) (scale * 128) (used + 1) r
 shifted-more value scale used group (Whole v u) = ap₂ Whole (omega arith) (omega arith)
-shifted-more value scale used group (Refused n o) = ap (Refused n) (omega arith)
+shifted-more value scale used group (Refused n k) = ap (Refused n) (omega arith)

@@ -11,26 +11,26 @@ use Rattle.numbers.specs.law.Told.{Told, gives, refuses}
 use Rattle.numbers.specs.declared.reader.Number.{Number}
 use Rattle.numbers.specs.declared.reader.Number.the-variants.{Whole, Refused}
 
--- ---- one number at the front of the bytes: its value and how many bytes it takes, or the question that has a "no" and how many bytes come before the
--- one "at which the question had no yes"
+-- ---- one number at the front of the bytes: its value and how many bytes it takes, or the question that has a "no" and how many bytes were asked for, the
+-- last of them the one "at which the question had no yes"
 
 -- a last byte after the first: "a last byte after the first not 0?"
 abbrev pub lastByte : ℕ → Number
-lastByte b = cond (eqb b 0) (Refused 2 0) (Whole b 1)
+lastByte b = cond (eqb b 0) (Refused 2 1) (Whole b 1)
 
 -- a group in front of a number that was read
 abbrev pub inFront : ℕ → Number → Number
 inFront group (Whole value used) = Whole (group + 128 * value) (1 + used)
-inFront group (Refused number offset) = Refused number (1 + offset)
+inFront group (Refused number asked) = Refused number (1 + asked)
 
 -- the bytes after the first, of which `more` may come before the tenth of the number: "1 is there one? 2 is a tenth byte 0 or 1"
 abbrev pub laterBytes : ℕ → List ℕ → Number
-laterBytes more [] = Refused 1 0
-laterBytes zero (b ∷ bytes) = cond (leb b 1) (lastByte b) (Refused 2 0)
+laterBytes more [] = Refused 1 1
+laterBytes zero (b ∷ bytes) = cond (leb b 1) (lastByte b) (Refused 2 1)
 laterBytes (suc more) (b ∷ bytes) = cond (ltb b 128) (lastByte b) (inFront (b - 128) (laterBytes more bytes))
 
 unfoldable pub numberOf : List ℕ → Number
-numberOf [] = Refused 1 0
+numberOf [] = Refused 1 1
 numberOf (b ∷ bytes) = cond (ltb b 128) (Whole b 1) (inFront (b - 128) (laterBytes 8 bytes))
 
 -- ---- all numbers
@@ -54,7 +54,7 @@ withFirst n r = record { stored = n ∷ r .stored; ended = r .ended }
 -- what follows from the number at `place`, where `rest used` reads on after it
 abbrev pub afterNumber : ℕ → Number → (ℕ → Read) → Read
 afterNumber place (Whole value used) rest = withFirst (signedOf value) (rest used)
-afterNumber place (Refused number offset) rest = stopped (no number (place + offset))
+afterNumber place (Refused number asked) rest = stopped (no number (place + asked - 1))
 
 -- the bytes from `place` on, with `room` places free in the list: "3 is a place free?"
 abbrev pub readFrom : ℕ → ℕ → List ℕ → Read

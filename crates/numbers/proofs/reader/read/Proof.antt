@@ -1,6 +1,6 @@
 -- What the list holds at the end stays the same: what is read from `at` on is still to be stored from `count` on.
 use mathlib.Core.Path.{_≡_, sym, _∙_}
-use Prim.Native.Nat.{_-_}
+use Prim.Native.Nat.{suc, _-_, _≤_}
 use native.Mathlib.Omega.{arith}
 use borrow.Author.Needs.{needs}
 use denote.Ref.{now}
@@ -9,7 +9,7 @@ use mir.Syntax.{w64}
 use mir.Val.{toZ, ofZ}
 use Rattle.numbers.specs.law.Mapping.{signedOf}
 use Rattle.numbers.specs.law.Reading.{numberOf}
-use Rattle.numbers.specs.inside.ReadingBounds.{used-some, offset-most}
+use Rattle.numbers.specs.inside.ReadingBounds.{used-some, asked-some}
 use Rattle.numbers.specs.declared.reader.Number.the-variants.{Whole}
 use lib.ListN.{length, drop, length-drop}
 use Rattle.numbers.proofs.Stored.{Storing, storing, store-end, store-full, store-no, store-turn}
@@ -63,14 +63,16 @@ loop-again c =
     let v : toZ w64 (ofZ w64 (c .signed .result)) ≡ signedOf (n .n .given .0 .0) = toZ-ofZ {w = w64} (record { sfits = c .signed .ok }) ∙ c .signed .ensures in
     rw v (store-turn (i .before .loop .inv) (i .loop-test .taken) (e .if1 .left) (number-is n))
 
+-- at least one byte was asked for, and at most one more than there are
+asked : (c : tie.After-n2 Inv-loop μ-loop) → let k = c .before .before in let l = k .before .before .before in
+    let bytes = drop (l .loop .at) (now (l .before .before .args .bytes)) in (1 ≤ c .n2 .given .0 .1 .0) × (c .n2 .given .0 .1 .0 ≤ suc (length bytes))
+asked c = asked-some _ (sym (c .before .before .number-at .ensures) ∙ c .n2 .given .1)
+
 place-fits : tie.Need-add-t15 Inv-loop μ-loop
 place-fits c =
-    let n = c .before in
-    let k = n .before .before in
-    let l = k .before .before .before in
+    let l = c .before .before .before .before .before .before in
     let bytes = now (l .before .before .args .bytes) in
-    let o = offset-most (drop (l .loop .at) bytes) (sym (k .number-at .ensures) ∙ n .n2 .given .1) in
-    record { fits = omega (arith, o, length-drop (l .loop .at) bytes, l .loop .inv .inside) }
+    record { fits = omega (arith, asked (c .before) .1, length-drop (l .loop .at) bytes, l .loop .inv .inside) }
 
 same-length-2 : tie.Need-same-length-2 Inv-loop μ-loop
 same-length-2 c = c .before .before .before .before .before .before .loop .inv .whole
@@ -93,4 +95,4 @@ pub read-spec : {M : Type 1} → statement M
 read-spec = tie.close (tie.spec
     Inv-loop μ-loop loop-holds (λ c. c .before .before .loop .inv .whole) returns (λ c κs. search needs)
     (λ c. search needs) (λ c κs. search needs) (λ c. search needs) (λ c. search needs) add-count add-at loop-less
-    loop-again (λ c. search needs) place-fits same-length-2 returns-2 (λ c. c .before .loop .inv .whole) returns-3)
+    loop-again (λ c. search needs) place-fits (λ c. omega (arith, asked (c .before) .0)) same-length-2 returns-2 (λ c. c .before .loop .inv .whole) returns-3)
