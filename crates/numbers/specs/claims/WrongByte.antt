@@ -1,11 +1,11 @@
 -- The byte that is wrong: what the place of a refusal by 1 or 2 says of a file that was transferred. `readOf bytes room` is the reading of all the bytes
 -- into a list with `room` places; `no 1 p` and `no 2 p` are its refusals by 1 and by 2 at the place p.
 --
--- By 1: the bytes are good as far as they go, and more of them should have come. The place is their length: that is where to go on sending.
--- By 2: the byte at the place is wrong, and none before it is to blame. Cut the file right before that byte, and it is good as far as it goes;
--- keep that byte, and nothing that is sent after it makes the file readable.
+-- By 1: the bytes are a good beginning and end inside a number. The place is their length: the byte that is due there is missing.
+-- By 2: the bytes before the place are a good beginning, and with the byte at the place they are none: whatever follows it, they are refused there.
 --
--- "Good as far as it goes" is meant in full: the bytes end inside a number, and there is a byte, 01, after which all of them are read without refusal.
+-- A good beginning is meant in full: the bytes end inside a number, and with a byte 01 after them all are read without refusal. Which byte was changed on
+-- the way is not said: where 02 has become 82 and 00 follows, 00 is the byte at the place.
 -- Carried by a look at one number: it goes by the bytes up to its own end or its refusal, and never by those after.
 -- Assumes nothing.
 use mathlib.Core.Path.{_≡_, refl, ap, sym, subst, _∙_}
@@ -38,7 +38,7 @@ module _ (bytes : List ℕ) (room : ℕ) {p : ℕ} where
   unfolding readOf
   end-mended e = cut-at e .0 refl .mended
 
-  -- ---- 2, a byte that is out of place
+  -- ---- 2, a byte that is wrong
 
   -- It is one of the bytes.
   pub bad-inside : readOf bytes room .ended ≡ no 2 p → p < length bytes
@@ -87,7 +87,7 @@ module _ {bytes : List ℕ} {list left : List ℤ} {p : ℕ} where
       let b = before-bad bytes (length list) e in
       (reading-refused answer 1 p (again .answered ∙ ap readTold b), again .lent ∙ ap (λ (x : Read). overlay (x .stored) list) b ∙ sym (r .lent))
 
-  -- 2: a call on any bytes that are the same up to the place and at it answers 2 at that place and leaves the same in the list.
+  -- 2: a call on any bytes that are the same up to the place and at it, with the same lent list, answers 2 at that place and leaves the same in the list.
   pub read-bad-for-good : (rest : List ℕ) {answer : Reading} {back : List ℤ} → ReadCall bytes list (reading.Refused 2 p) left
       → ReadCall (take (p + 1) bytes ++ rest) list answer back → (answer ≡ reading.Refused 2 p) × (back ≡ left)
   read-bad-for-good rest {answer} r again =

@@ -13,7 +13,7 @@ use Rattle.numbers.specs.law.Reading.{numberOf, laterBytes, lastByte, in
 use Rattle.numbers.specs.declared.reader.Number.{Number}
 use Rattle.numbers.specs.declared.reader.Number.the-variants.{Whole, Refused}
 
--- ---- a number takes at least one byte and no more than there are; its refusal is 1 or 2, where at least one was asked for and at most one more than there are
+-- ---- a number takes at least one byte and no more than there are; its refusal is 1 or 2, with at least one asked for and at most one more than there are
 
 abbrev pub Within : ℕ → Number → Type 0
 Within n (Whole value used) = (1 ≤ used) × (used ≤ n)

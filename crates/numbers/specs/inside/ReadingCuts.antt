@@ -1,5 +1,5 @@
 -- Bytes that are cut short or followed by others: a reading goes by the bytes up to its place, and of those after it says nothing. Where they end inside a
--- number, a byte 1 more ends that number; where a byte is out of place, those before it end inside a number.
+-- number, a byte 1 more ends that number; where a byte is wrong, those before it end inside a number.
 -- Assumes nothing.
 use mathlib.Core.Path.{_≡_, refl, ap, sym, subst, _∙_}
 use mathlib.Core.Bool.{Bool, true, false, cond}
@@ -20,13 +20,13 @@ use Rattle.numbers.specs.declared.reader.Number.the-variants.{Whole, Ref
 -- ---- one number, as `read` reads it
 
 -- the bytes end inside it, and a byte 1 more ends it
-pub record Unfinished (read : List ℕ → Number) (bytes : List ℕ) (asked : ℕ) : Type 0 where
+pub record NumberEnds (read : List ℕ → Number) (bytes : List ℕ) (asked : ℕ) : Type 0 where
   pub upto : asked ≡ suc (length bytes)
   pub value : ℕ
   pub mended : read (bytes ++ (1 ∷ [])) ≡ Whole value asked
 
--- those before the last that was asked for end inside it, and that one is out of place, whatever follows
-pub record Spoilt (read : List ℕ → Number) (bytes : List ℕ) (least asked : ℕ) : Type 0 where
+-- those before the last that was asked for end inside it, and that one is wrong, whatever follows
+pub record NumberWrong (read : List ℕ → Number) (bytes : List ℕ) (least asked : ℕ) : Type 0 where
   pub offset : ℕ
   pub is : asked ≡ suc offset
   pub some : least ≤ offset
@@ -36,7 +36,7 @@ pub record Spoilt (read : List ℕ → Number) (bytes : List ℕ) (least asked :
 
 abbrev Local : (List ℕ → Number) → List ℕ → ℕ → Number → Type 0
 Local read bytes least (Whole value used) = (rest : List ℕ) → read (take used bytes ++ rest) ≡ Whole value used
-Local read bytes least (Refused number asked) = (number ≡ 1 → Unfinished read bytes asked) × (number ≡ 2 → Spoilt read bytes least asked)
+Local read bytes least (Refused number asked) = (number ≡ 1 → NumberEnds read bytes asked) × (number ≡ 2 → NumberWrong read bytes least asked)
 
 never-both {ℓ} : {X : Type ℓ} {n : ℕ} → n ≡ 1 → n ≡ 2 → X
 never-both e f = let z : ⊥ = omega arith in absurd z
@@ -122,12 +122,12 @@ number-local b bytes = go (ltb b 128) refl
 
 module _ (room place : ℕ) (bytes : List ℕ) (stored : List ℤ) where
   -- the bytes end inside a number, and a byte 1 more ends it
-  pub record EndsInside (at : ℕ) : Type 0 where
+  pub record ReadingEnds (at : ℕ) : Type 0 where
     pub upto : at ≡ place + length bytes
     pub mended : readFrom room place (bytes ++ (1 ∷ [])) .ended ≡ all
 
-  -- the first `count` bytes end inside a number, and the one after them is out of place, whatever follows
-  pub record GoesWrong (at : ℕ) : Type 0 where
+  -- the first `count` bytes end inside a number, and the one after them is wrong, whatever follows
+  pub record ReadingWrong (at : ℕ) : Type 0 where
     pub count : ℕ
     pub at-is : at ≡ place + count
     pub inside : count < length bytes
@@ -136,7 +136,7 @@ module _ (room place : ℕ) (bytes : List ℕ) (stored : List ℤ) where
 
   abbrev pub Cut : Ending → Type 0
   Cut all = Unit {0}
-  Cut (no number at) = (number ≡ 1 → EndsInside at) × (number ≡ 2 → GoesWrong at)
+  Cut (no number at) = (number ≡ 1 → ReadingEnds at) × (number ≡ 2 → ReadingWrong at)
 
 -- a whole number in front
 module _ (room place b : ℕ) (bytes : List ℕ) {v u : ℕ} (whole : numberOf (b ∷ bytes) ≡ Whole v u) where

@@ -12,9 +12,13 @@ use Rattle.numbers.specs.law.Items.{over}
 use Rattle.numbers.specs.declared.answer.Answer.{Answer}
 use Rattle.numbers.specs.declared.answer.Answer.the-variants.{Yes, No}
 
+-- a refusal's number is at least `least`, and its number, step and place are below b
+abbrev pub Between : ℕ → ℕ → Answer → Type 0
+Between least b Yes = Unit {0}
+Between least b (No number step place) = (number < b) × (step < b) × (place < b) × (least ≤ number)
+
 abbrev pub Small : ℕ → Answer → Type 0
-Small b Yes = Unit {0}
-Small b (No number step place) = (number < b) × (step < b) × (place < b) × (8 ≤ number)
+Small b a = Between 8 b a
 
 module _ (b : ℕ) where
   pub small-else : (x y : Answer) → Small b x → (x ≡ Yes → Small b y) → Small b (orElse x y)

@@ -9,7 +9,7 @@ use lib.ListN.{length}
 use Rattle.numbers.specs.law.Told.{Told}
 use Rattle.numbers.specs.law.Question.{firstNo}
 use Rattle.numbers.specs.law.Reading.{Ending, all, no, readOf}
-use Rattle.numbers.specs.inside.SmallRefusals.{Small}
+use Rattle.numbers.specs.inside.SmallRefusals.{Between, Small}
 use Rattle.numbers.specs.declared.answer.Answer.{Answer}
 use Rattle.numbers.specs.declared.answer.Answer.the-variants.{Yes, No}
 use Rattle.case.specs.law.Judged.{caseQuestions}
@@ -18,7 +18,7 @@ use Rattle.plan.specs.law.Totals.{totalsOf}
 use Rattle.plan.specs.law.Judged.{questions, verdictOf, verdictTold, judgeOf}
 use Rattle.plan.specs.law.JudgedBytes.{readAnswer, onPlanBytes, refusedOr, bytesJudged}
 use Rattle.plan.specs.inside.SmallRefusals.{judge-small}
-use Rattle.plan.specs.inside.VerdictSizes.{FitAnswer, read-fit, plan-read-fit}
+use Rattle.plan.specs.inside.VerdictSizes.{read-fit, plan-read-fit}
 use Rattle.plan.specs.claims.Acceptance.{PlanRules, sound, complete}
 use Rattle.plan.specs.declared.verdict.Verdict.the-variants.{Accepted}
 
@@ -50,11 +50,11 @@ module _ (b : ℕ) (next : Told) where
   past Yes s e = (refl, e)
   past (No n t p) s e = let f : ⊥ = omega (arith, s .3, e) in absurd f
 
-  read-past : (d : Ending) → FitAnswer b (readAnswer d) → refusedOr (readAnswer d) next .number ≡ 0 → (d ≡ all) × (next .number ≡ 0)
+  read-past : (d : Ending) → Between 1 b (readAnswer d) → refusedOr (readAnswer d) next .number ≡ 0 → (d ≡ all) × (next .number ≡ 0)
   read-past all s e = (refl, e)
   read-past (no n p) s e = let f : ⊥ = omega (arith, s .3, e) in absurd f
 
-  plan-read-past : (d : Ending) → FitAnswer b (onPlanBytes (readAnswer d)) → refusedOr (onPlanBytes (readAnswer d)) next .number ≡ 0
+  plan-read-past : (d : Ending) → Between 1 b (onPlanBytes (readAnswer d)) → refusedOr (onPlanBytes (readAnswer d)) next .number ≡ 0
       → (d ≡ all) × (next .number ≡ 0)
   plan-read-past all s e = (refl, e)
   plan-read-past (no n p) s e = let f : ⊥ = omega (arith, s .3, e) in absurd f

@@ -1,4 +1,4 @@
--- Rows that are not table T's, in the same form: totals that its rows leave at 0, the ledger's refusals, and the call on two byte strings.
+-- Rows that are not table T's, in the same form: totals that its rows leave at 0, the ledger's refusals, the call on two byte strings, and refused readings.
 -- They are carried by computation, as the table is.
 -- Assumes nothing.
 use mathlib.Core.Path.{refl}
@@ -95,7 +95,7 @@ furtherRows =
     ∷ judgesBytes bytesC (0x02 ∷ 0x02 ∷ 0x80 ∷ 0x00 ∷ []) 33 18 (refuses 6 0 3)
     ∷ judgesBytes bytesC (0x02 ∷ 0x02 ∷ tenth 0x02) 33 18 (refuses 6 0 11)
     ∷ judgesBytes bytesC bytesP 33 17 (refuses 7 0 25)
-    -- a tenth byte 0 is refused where any other but 1 is; the bytes may also end before it
+    -- a tenth byte 0 is refused where FF is, which is no last byte; the bytes may also end before it
     ∷ reads (tenth 0x00) (refuses 2 0 9)
     ∷ reads (tenth 0xFF) (refuses 2 0 9)
     ∷ reads nineBytes (refuses 1 0 9)

@@ -102,7 +102,7 @@ rows =
     -- "7. -900 is 87 0E; 64 is 80 01."
     ∷ codes (minus 900 ∷ []) (0x87 ∷ 0x0E ∷ [])
     ∷ codes (pos 64 ∷ []) (0x80 ∷ 0x01 ∷ [])
-    -- "8. 80 is 1; 80 00 is 2; no bytes, no numbers." The place of 1 is the length of the data, that of 2 the byte 00.
+    -- "8. 80 is 1; 80 00 is 2; no bytes, no numbers." The places are those of P2: of 1 the length of the data, of 2 the byte 00.
     ∷ reads (0x80 ∷ []) (refuses 1 0 1)
     ∷ reads (0x80 ∷ 0x00 ∷ []) (refuses 2 0 1)
     ∷ reads [] (gives (pos 0 ∷ []))

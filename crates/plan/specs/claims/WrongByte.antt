@@ -1,6 +1,6 @@
 -- The byte that is wrong, of the call on two byte strings: 1 and 2 are about the case's bytes and 5 and 6 about the plan's, and each has the place that the
--- reading of its own string gives (numbers/specs/claims/WrongByte.antt). By 1 and 5 it is the length of that string; by 2 and 6 it is the first byte that
--- is wrong: the string cut right before it is told as ended there, and whatever stands after it, the call answers and leaves the same.
+-- reading of its own string gives (numbers/specs/claims/WrongByte.antt). By 1 and 5 it is the length of that string; by 2 and 6 it is the byte that is
+-- wrong: the string cut right before it is told as ended there, and whatever stands after it, the call answers and leaves the same.
 -- Carried by what tells the refusals apart: those of a reading have the numbers 1 to 7, those of a case or a plan higher ones.
 -- Assumes nothing.
 use mathlib.Core.Path.{_≡_, refl, ap, _∙_}
@@ -42,7 +42,7 @@ abbrev inTurn : Ending → Answer → Ending → Told → Told
 inTurn caseEnded caseJudged planEnded next = refusedOr (readAnswer caseEnded) (refusedOr caseJudged (refusedOr (onPlanBytes (readAnswer planEnded)) next))
 
 -- the case is read and accepted, and the reading of the plan is refused by what becomes n
-record PlanUnread (n p : ℕ) (c : Ending) (j : Answer) (d : Ending) : Type 0 where
+record PlanRefused (n p : ℕ) (c : Ending) (j : Answer) (d : Ending) : Type 0 where
   pub case-read : c ≡ all
   pub case-yes : j ≡ Yes
   pub number : ℕ
@@ -50,20 +50,20 @@ record PlanUnread (n p : ℕ) (c : Ending) (j : Answer) (d : Ending) : Type 0 wh
   pub refused : d ≡ no number p
 
 module _ {n p : ℕ} {next : Told} (h : n ≤ 7) (judged : ¬ (next ≡ refuses n 0 p)) where
-  case-unread : (c : Ending) (j : Answer) (d : Ending) → Small limit j → n ≤ 2 → inTurn c j d next ≡ refuses n 0 p → c ≡ no n p
-  case-unread (no m q) j d s k e = let x = refused-same e in rw (x .0, x .2)
-  case-unread all (No m t q) d s k e = let f : ⊥ = omega (arith, s .3, refused-same e .0) in absurd f
-  case-unread all Yes (no m q) s k e = let f : ⊥ = omega (arith, plan-number-small m .1, refused-same e .0) in absurd f
-  case-unread all Yes all s k e = absurd (judged e)
+  case-refused : (c : Ending) (j : Answer) (d : Ending) → Small limit j → n ≤ 2 → inTurn c j d next ≡ refuses n 0 p → c ≡ no n p
+  case-refused (no m q) j d s k e = let x = refused-same e in rw (x .0, x .2)
+  case-refused all (No m t q) d s k e = let f : ⊥ = omega (arith, s .3, refused-same e .0) in absurd f
+  case-refused all Yes (no m q) s k e = let f : ⊥ = omega (arith, plan-number-small m .1, refused-same e .0) in absurd f
+  case-refused all Yes all s k e = absurd (judged e)
 
-  plan-unread : (c : Ending) (j : Answer) (d : Ending) → ((m q : ℕ) → c ≡ no m q → m ≤ 3) → Small limit j → 5 ≤ n
-      → inTurn c j d next ≡ refuses n 0 p → PlanUnread n p c j d
-  plan-unread (no m q) j d w s k e = let f : ⊥ = omega (arith, w m q refl, refused-same e .0) in absurd f
-  plan-unread all (No m t q) d w s k e = let f : ⊥ = omega (arith, s .3, refused-same e .0) in absurd f
-  plan-unread all Yes (no m q) w s k e =
+  plan-refused : (c : Ending) (j : Answer) (d : Ending) → ((m q : ℕ) → c ≡ no m q → m ≤ 3) → Small limit j → 5 ≤ n
+      → inTurn c j d next ≡ refuses n 0 p → PlanRefused n p c j d
+  plan-refused (no m q) j d w s k e = let f : ⊥ = omega (arith, w m q refl, refused-same e .0) in absurd f
+  plan-refused all (No m t q) d w s k e = let f : ⊥ = omega (arith, s .3, refused-same e .0) in absurd f
+  plan-refused all Yes (no m q) w s k e =
       let x = refused-same e in
       record { case-read = refl; case-yes = refl; number = m; is = x .0; refused = rw (x .2) }
-  plan-unread all Yes all w s k e = absurd (judged e)
+  plan-refused all Yes all w s k e = absurd (judged e)
 
 -- "1 to 3 on plan bytes become 5 (for 1), 6, 7"
 abbrev Turned : ℕ → ℕ → Type 0
@@ -90,7 +90,7 @@ module _ (caseBytes planBytes : List ℕ) (caseList planList : List ℤ) {p : �
   unfolding bytesJudged
   case-ended h e =
       let case = readOf caseBytes (length caseList) .stored in
-      case-unread (omega (arith, h)) (not-judged case (readOf planBytes (length planList) .stored) (omega (arith, h)))
+      case-refused (omega (arith, h)) (not-judged case (readOf planBytes (length planList) .stored) (omega (arith, h)))
       (readOf caseBytes (length caseList) .ended) (firstNo (caseQuestions case)) (readOf planBytes (length planList) .ended) (case-small case) h e
 
   -- 1: the place is the length of the case's bytes.
@@ -115,12 +115,12 @@ module _ (caseBytes planBytes : List ℕ) (caseList planList : List ℤ) {p : �
 
   -- 5 and 6: so the plan's reading has the refusal
   plan-ended : {n : ℕ} → 5 ≤ n → n ≤ 7 → bytesJudged caseBytes planBytes caseList planList .told ≡ refuses n 0 p
-      → PlanUnread n p (readOf caseBytes (length caseList) .ended) (firstNo (caseQuestions (readOf caseBytes (length caseList) .stored)))
+      → PlanRefused n p (readOf caseBytes (length caseList) .ended) (firstNo (caseQuestions (readOf caseBytes (length caseList) .stored)))
       (readOf planBytes (length planList) .ended)
   unfolding bytesJudged
   plan-ended h k e =
       let case = readOf caseBytes (length caseList) .stored in
-      plan-unread k (not-judged case (readOf planBytes (length planList) .stored) k)
+      plan-refused k (not-judged case (readOf planBytes (length planList) .stored) k)
       (readOf caseBytes (length caseList) .ended) (firstNo (caseQuestions case)) (readOf planBytes (length planList) .ended)
       (λ m q r. unread-small caseBytes (length caseList) r .0) (case-small case) h e
 

@@ -16,7 +16,7 @@ use Rattle.numbers.specs.law.Signed.{posPart}
 use Rattle.numbers.specs.inside.SignedParts.{ints, taken, size}
 use Rattle.numbers.specs.inside.SignedBounds.{abs-mul}
 use Rattle.numbers.specs.law.Items.{over}
-use Rattle.numbers.specs.inside.SmallRefusals.{Small}
+use Rattle.numbers.specs.inside.SmallRefusals.{Between, Small}
 use Rattle.numbers.specs.law.Reading.{Ending, all, no, readOf, readTold}
 use Rattle.numbers.specs.inside.ReadingBounds.{refusal-within}
 use Rattle.numbers.specs.inside.SumLaws.{sumN-bound}
@@ -115,11 +115,6 @@ module _ (case plan : List ℤ) where
 
 -- ---- the verdict on two byte strings
 
--- an answer on bytes or on a list: its number, step and place are small, and its number is not 0
-abbrev pub FitAnswer : ℕ → Answer → Type 0
-FitAnswer b Yes = Unit {0}
-FitAnswer b (No number step place) = (number < b) × (step < b) × (place < b) × (1 ≤ number)
-
 fit-refused : (v : Verdict) {n s p : ℕ} → verdictTold v ≡ refuses n s p → n < 2 ^ 63 → s < 2 ^ 63 → p < 2 ^ 63 → 1 ≤ n → Fit (2 ^ 63) v
 unfolding values
 fit-refused (Accepted t) e h k l w = let f : ⊥ = omega (arith, ap values e) in absurd f
@@ -138,30 +133,30 @@ plan-number-small n = go (eqb n 1) (eqb n 2)
     go false false = (omega arith, omega arith)
 
 -- a refusal that is small, or what is told next
-refused-or-fit : (v : Verdict) (a : Answer) {next : Told} → FitAnswer (2 ^ 63) a → (verdictTold v ≡ next → Fit (2 ^ 63) v)
+refused-or-fit : (v : Verdict) (a : Answer) {next : Told} → Between 1 (2 ^ 63) a → (verdictTold v ≡ next → Fit (2 ^ 63) v)
     → verdictTold v ≡ refusedOr a next → Fit (2 ^ 63) v
 refused-or-fit v Yes s h e = h e
 refused-or-fit v (No n t p) s h e = fit-refused v e (s .0) (s .1) (s .2) (s .3)
 
-case-fit : (case : List ℤ) → FitAnswer (2 ^ 63) (firstNo (caseQuestions case))
+case-fit : (case : List ℤ) → Between 1 (2 ^ 63) (firstNo (caseQuestions case))
 case-fit case = go (firstNo (caseQuestions case)) (case-small case)
   where
-    go : (a : Answer) → Small limit a → FitAnswer (2 ^ 63) a
+    go : (a : Answer) → Small limit a → Between 1 (2 ^ 63) a
     go Yes s = s
     go (No n t p) s = (omega (arith, s .0), omega (arith, s .1), omega (arith, s .2), omega (arith, s .3))
 
 module _ (bytes : List ℕ) (room b : ℕ) (short : length bytes < b) (seven : 7 < b) where
-  pub read-fit : FitAnswer b (readAnswer (readOf bytes room .ended))
+  pub read-fit : Between 1 b (readAnswer (readOf bytes room .ended))
   read-fit = go (readOf bytes room .ended) refl
     where
-      go : (d : Ending) → readOf bytes room .ended ≡ d → FitAnswer b (readAnswer d)
+      go : (d : Ending) → readOf bytes room .ended ≡ d → Between 1 b (readAnswer d)
       go all h = tt
       go (no n p) h = let w = unread-small bytes room h in (omega (arith, w .0), omega arith, omega (arith, w .1), w .2)
 
-  pub plan-read-fit : FitAnswer b (onPlanBytes (readAnswer (readOf bytes room .ended)))
+  pub plan-read-fit : Between 1 b (onPlanBytes (readAnswer (readOf bytes room .ended)))
   plan-read-fit = go (readAnswer (readOf bytes room .ended)) read-fit
     where
-      go : (a : Answer) → FitAnswer b a → FitAnswer b (onPlanBytes a)
+      go : (a : Answer) → Between 1 b a → Between 1 b (onPlanBytes a)
       go Yes s = s
       go (No n t p) s = let w = plan-number-small n in (omega (arith, w .0), s .1, s .2, omega (arith, w .1))
 
