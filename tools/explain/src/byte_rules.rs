@@ -21,12 +21,12 @@ pub fn unread(bytes: &[u8], file: File, lists: &Lists, refusal: Refusal) -> (Str
     (unread.place(), vec![check(!is_no, unread.words(&field))])
 }
 
-/// The field that the number after these bytes was to be. It is named where no number before leaves open which field follows,
+/// The field that the number after these bytes was to be. It is named where no number before leaves open which fields follow,
 /// and in a plan where the case is whole, since that says which rows it has.
 fn field_words(before: &[u8], file: File, lists: &Lists) -> String {
     let list = read_all(before).unwrap_or_default();
     let is_clear = match file {
-        File::Case => field_noes(&list).left_out.is_empty(),
+        File::Case => !field_noes(&list).leaves_open,
         File::Plan => lists.case.is_some(),
     };
     if !is_clear {

@@ -63,6 +63,8 @@ pub struct FieldNoes {
     /// Number and place of each.
     pub noes: Vec<(i64, usize)>,
     pub left_out: Vec<String>,
+    /// Does a field out of its range leave open which fields follow?
+    pub leaves_open: bool,
 }
 
 /// Asks 10 to 12 of the list, as long as it is clear which field stands where.
@@ -86,6 +88,7 @@ pub fn field_noes(case: &[i64]) -> FieldNoes {
             found.left_out.push(format!(
                 "10 to 12 of the numbers after number {place}: {why}"
             ));
+            found.leaves_open = true;
             return found;
         }
         if field.name == "kind" {

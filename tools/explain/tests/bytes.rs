@@ -180,9 +180,32 @@ fn bytes_that_end() {
     );
 }
 
-/// A field is named where it is clear which one is due.
+/// A number out of its range leaves the field open only where it says which fields follow.
 #[test]
-fn fields_that_are_not_clear_have_no_name() {
+fn a_case_field_is_named_where_it_is_clear() {
+    let clear = "33 (past the last field)";
+    for (change, number) in [
+        ("'node 0 kind' 7", clear),
+        ("mass-tolerance -1", clear),
+        ("'node 1 actlow' 30000", clear),
+        ("edition 2", "33"),
+        ("steps 49", "33"),
+        ("'arc 0 kind' 7", "33"),
+    ] {
+        let text = ask(&format!(
+            "two-nodes --change case {change} --append case 80"
+        ))
+        .text;
+        let line = format!(
+            "\ncase.bin, end after 59 bytes: number {number}, from byte 58 on, is 80 [end]: "
+        );
+        assert!(text.contains(&line), "{change}: {text}");
+    }
+}
+
+/// A plan's fields go by the case.
+#[test]
+fn a_plan_field_has_no_name_without_a_case() {
     let text = ask("two-nodes --all --append case 80 --append plan '80 00'").text;
     let case = "  verdict  1 0 59  case bytes end early: case.bin, end after 59 bytes\n           \
                 number 33 (past the last field), from byte 58 on, is 80 [end]: ";
@@ -190,9 +213,6 @@ fn fields_that_are_not_clear_have_no_name() {
     let plan = "  also     6 0 27  plan byte out of place: plan.bin, byte 27\n           \
                 number 18, from byte 26 on, is 80 [00]: ";
     assert!(text.contains(plan), "{text}");
-    let text = ask("two-nodes --change case steps 49 --append case 80").text;
-    let unclear = "\ncase.bin, end after 59 bytes: number 33, from byte 58 on, is 80 [end]: ";
-    assert!(text.contains(unclear), "{text}");
 }
 
 #[test]
