@@ -100,48 +100,44 @@ fn a_last_byte_00() {
     );
 }
 
-/// Nine bytes before it and a tenth in one of the files; the tenth's place is that of the first and nine.
+/// Tenth bytes that are wrong, and why.
+const TENTHS: [(u8, &str); 4] = [
+    (0x00, "its last byte is 00, which a number does not need"),
+    (0x02, "its tenth byte is 02, and only 01 may stand there"),
+    (0x80, "its tenth byte is 80, and only 01 may stand there"),
+    (0xFF, "its tenth byte is FF, and only 01 may stand there"),
+];
+
+/// Nine bytes and each of the tenths in one of the files.
+fn prints_tenths(file: File, range: Range<usize>, place: usize, number: &str) {
+    let (name, verdict, rule) = match file {
+        File::Case => ("case", format!("refused 2 0 {place}"), CASE_BYTE),
+        File::Plan => ("plan", format!("refused 6 0 {place}"), PLAN_BYTE),
+    };
+    let first = range.start;
+    let told = format!("{name}.bin, byte {place}: number {number}, from byte {first} on");
+    for (tenth, why) in TENTHS {
+        let shown = format!("FF FF FF FF FF FF FF FF FF [{tenth:02X}]");
+        let input = with(file, range.clone(), &ten(tenth));
+        prints(
+            &input,
+            &verdict,
+            rule,
+            &format!("{told}, is {shown}: {why}"),
+        );
+    }
+}
+
+/// The tenth's place is that of the first and nine.
 #[test]
 fn a_tenth_byte() {
-    let nine = "FF FF FF FF FF FF FF FF FF";
-    for last in [0x00, 0x02, 0x80, 0xFF] {
-        let why = match last {
-            0x00 => "its last byte is 00, which a number does not need".to_string(),
-            _ => format!("its tenth byte is {last:02X}, and only 01 may stand there"),
-        };
-        let shown = format!("{nine} [{last:02X}]: {why}");
-        let told = |file: &str, place: usize, number: &str| {
-            let first = place - 9;
-            format!("{file}.bin, byte {place}: number {number}, from byte {first} on, is {shown}")
-        };
-        let first = with(File::Case, 0..1, &ten(last));
-        prints(
-            &first,
-            "refused 2 0 9",
-            CASE_BYTE,
-            &told("case", 9, "0 (edition)"),
-        );
-        let at_the_end = with(File::Case, 57..58, &ten(last));
-        prints(
-            &at_the_end,
-            "refused 2 0 66",
-            CASE_BYTE,
-            &told("case", 66, "32 (arc 0 zero)"),
-        );
-        let plan = with(File::Plan, 1..2, &ten(last));
-        prints(
-            &plan,
-            "refused 6 0 10",
-            PLAN_BYTE,
-            &told("plan", 10, "1 (steps)"),
-        );
-        let whole = with(File::Plan, 26..26, &ten(last));
-        prints(
-            &whole,
-            "refused 6 0 35",
-            PLAN_BYTE,
-            &told("plan", 35, "18 (past the last field)"),
-        );
+    for (file, range, place, number) in [
+        (File::Case, 0..1, 9, "0 (edition)"),
+        (File::Case, 57..58, 66, "32 (arc 0 zero)"),
+        (File::Plan, 1..2, 10, "1 (steps)"),
+        (File::Plan, 26..26, 35, "18 (past the last field)"),
+    ] {
+        prints_tenths(file, range, place, number);
     }
     // A tenth byte 01 may stand there.
     let input = with(File::Plan, 26..26, &ten(0x01));
