@@ -51,8 +51,8 @@ pub const BYTES_AIMS: &[(&str, BytesAim)] = &[
     ("3 no free place for a bad number", aim_3_bad_number),
 ];
 
-/// Spoils the number at this place in the list, and gives the place at which reading is to end.
-type Spoil = fn(&mut Rng, &mut Encoded, usize) -> Option<usize>;
+/// Makes the number at this place in the list a bad one, and gives the place at which reading is to end.
+type MakeBad = fn(&mut Rng, &mut Encoded, usize) -> Option<usize>;
 
 fn refused(number: u8, place: usize) -> Refused {
     Refused {
@@ -86,20 +86,20 @@ fn any_of(rng: &mut Rng, count: usize) -> Option<usize> {
     })
 }
 
-/// The number at this place spoilt, with room for every number of the list.
-fn spoilt(
+/// A list with a bad number at this place, and room for every number.
+fn with_bad_number(
     rng: &mut Rng,
     list: &[i64],
     place: usize,
     number: u8,
-    spoil: Spoil,
+    make_bad: MakeBad,
 ) -> Option<AimedBytes> {
     let mut encoded = encode(list);
-    let wrong = spoil(rng, &mut encoded, place)?;
+    let end = make_bad(rng, &mut encoded, place)?;
     Some(AimedBytes {
         bytes: encoded.bytes,
         room: list.len(),
-        expect: refused(number, wrong),
+        expect: refused(number, end),
     })
 }
 
@@ -148,7 +148,7 @@ fn aim_1_cut(rng: &mut Rng, list: &[i64]) -> Option<AimedBytes> {
     let is_long = |&place: &usize| end_of(&encoded, place) > encoded.starts[place] + 1;
     let long: Vec<usize> = (0..list.len()).filter(is_long).collect();
     let place = long[any_of(rng, long.len())?];
-    spoilt(rng, list, place, 1, cut)
+    with_bad_number(rng, list, place, 1, cut)
 }
 
 /// A byte 80 after the last number, or alone.
@@ -164,17 +164,17 @@ fn aim_1_end(_: &mut Rng, list: &[i64]) -> Option<AimedBytes> {
 
 fn aim_2_overlong(rng: &mut Rng, list: &[i64]) -> Option<AimedBytes> {
     let place = any_of(rng, list.len())?;
-    spoilt(rng, list, place, 2, overlong)
+    with_bad_number(rng, list, place, 2, overlong)
 }
 
 fn aim_2_tenth_0(rng: &mut Rng, list: &[i64]) -> Option<AimedBytes> {
     let place = any_of(rng, list.len())?;
-    spoilt(rng, list, place, 2, tenth_0)
+    with_bad_number(rng, list, place, 2, tenth_0)
 }
 
 fn aim_2_tenth(rng: &mut Rng, list: &[i64]) -> Option<AimedBytes> {
     let place = any_of(rng, list.len())?;
-    spoilt(rng, list, place, 2, tenth_above_1)
+    with_bad_number(rng, list, place, 2, tenth_above_1)
 }
 
 fn aim_3_room(rng: &mut Rng, list: &[i64]) -> Option<AimedBytes> {
@@ -187,12 +187,12 @@ fn aim_3_room(rng: &mut Rng, list: &[i64]) -> Option<AimedBytes> {
     })
 }
 
-/// The list is full before a spoilt number: 3 is asked before any byte of it.
+/// The list is full before a bad number: 3 is asked before any byte of it.
 fn aim_3_bad_number(rng: &mut Rng, list: &[i64]) -> Option<AimedBytes> {
     let mut encoded = encode(list);
     let room = any_of(rng, list.len())?;
-    let spoils: [Spoil; 4] = [cut, overlong, tenth_0, tenth_above_1];
-    rng.pick(&spoils)?(rng, &mut encoded, room)?;
+    let ways: [MakeBad; 4] = [cut, overlong, tenth_0, tenth_above_1];
+    rng.pick(&ways)?(rng, &mut encoded, room)?;
     Some(AimedBytes {
         room,
         expect: refused(3, encoded.starts[room]),

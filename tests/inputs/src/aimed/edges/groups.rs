@@ -142,9 +142,9 @@ pub fn edge_3_no_place() -> Vec<ReadEdge> {
 /// 3 is asked before any byte of a number, and its place is the first of them.
 pub fn edge_3_bad_number() -> Vec<ReadEdge> {
     let cut_off = cuts().flat_map(|bad| last(&bad.bytes, 0, Some((3, 0))));
-    let spoilt = overlong().chain(tenths());
-    let spoilt = spoilt.flat_map(|bad| anywhere(&bad.bytes, 0, Some((3, 0))));
-    cut_off.chain(spoilt).collect()
+    let wrong_byte = overlong().chain(tenths());
+    let wrong_byte = wrong_byte.flat_map(|bad| anywhere(&bad.bytes, 0, Some((3, 0))));
+    cut_off.chain(wrong_byte).collect()
 }
 
 /// The last place is taken by the last number.
