@@ -136,10 +136,10 @@ enum gasplan_refusal {
  *
  * 0            out[0] is the count of numbers. They are the first numbers of the list, in order. The list past them is
  *              unchanged. No bytes are no numbers: the count is 0.
- * 1, 2 or 3    A number could not be read (1: the bytes end in it; 2: a byte of it is out of place) or stored (3: the list is
- *              full). out[0] is 0. out[1] is bytes_len for 1, the index of the byte that is out of place for 2, and the index
- *              of the number's first byte for 3. The numbers before it are the first numbers of the list. The list past them
- *              is unchanged.
+ * 1, 2 or 3    A number could not be read (1: the bytes end in it; 2: a byte of it is wrong) or stored (3: the list is full).
+ *              out[0] is 0. out[1] is bytes_len for 1, the index of the byte that is wrong for 2, and the index of the
+ *              number's first byte for 3. The numbers before it are the first numbers of the list. The list past them is
+ *              unchanged.
  * -1           The list is unchanged. */
 int64_t gasplan_read(const uint8_t *bytes, size_t bytes_len,
                      int64_t *list, size_t list_len,

@@ -76,7 +76,7 @@ pub struct Ledger {
 }
 
 /// Reads bytes into a lent list and gives the count of numbers. The place of a refusal is the count of bytes where they end in
-/// a number (1), the index of a byte that is out of place (2), or of the first byte of the number that has no place (3).
+/// a number (1), the index of the byte that is wrong (2), or of the first byte of the number that has no place (3).
 #[inline]
 pub fn read(bytes: &[u8], list: &mut [i64]) -> Answer<usize> {
     let mut out = [0; OUT_PLACES];
@@ -108,7 +108,8 @@ pub fn judge(case_list: &[i64], plan_list: &[i64]) -> Answer<Totals> {
     yes(answer, out).map(Totals::of)
 }
 
-/// Reads and judges a case, then reads and judges a plan, into two lent lists.
+/// Reads and judges a case, then reads and judges a plan, into two lent lists. Bytes of the plan that cannot be read are refused
+/// by 5, 6 and 7, with the places in the plan's bytes that [`read`] has for 1, 2 and 3.
 #[inline]
 pub fn judge_bytes(
     case_bytes: &[u8],
