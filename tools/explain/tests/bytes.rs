@@ -144,6 +144,18 @@ fn a_tenth_byte() {
     assert_eq!(input.verdict().unwrap_err().number, 20);
 }
 
+/// A byte 02 become 82 takes in the next number's 00, which was sent rightly and is the one that is told.
+#[test]
+fn a_turned_bit() {
+    assert_eq!(example("two-nodes").case_bytes[2..4], [0x02, 0x00]);
+    prints(
+        &with(File::Case, 2..3, &[0x82]),
+        "refused 2 0 3",
+        CASE_BYTE,
+        "case.bin, byte 3: number 2 (arcs), from byte 2 on, is 82 [00]: its last byte is 00, which a number does not need",
+    );
+}
+
 #[test]
 fn bytes_that_end() {
     prints(
