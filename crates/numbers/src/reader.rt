@@ -20,7 +20,7 @@ pub enum Reading {
     Refused { number: usize, place: usize },
 }
 
-// Two wrong answers that the promise rules out: "3" while a place is free, and a count with nothing stored.
+// Wrong answers that the promise rules out: "3" while a place is free, a count with nothing stored, and a number's first byte for the one that is wrong.
 pub fn read(bytes: &[u8], list: &mut [i64]) -> Reading
     ensures { λ r. ⌜ readingTold r ≡ readTold (readOf (now (bytes .entry)) (length (now (list .entry)))) ⌝ }
     ensures { λ _. ⌜ now (list .exit) ≡ overlay (readOf (now (bytes .entry)) (length (now (list .entry))) .stored) (now (list .entry)) ⌝ }

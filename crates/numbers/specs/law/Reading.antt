@@ -51,7 +51,7 @@ stopped e = record { stored = []; ended = e }
 abbrev pub withFirst : ℤ → Read → Read
 withFirst n r = record { stored = n ∷ r .stored; ended = r .ended }
 
--- what follows from the number at `place`, where `rest used` reads on after it
+-- what follows from the number at `place`, where `rest used` reads on after it, and of `asked` bytes the last is at place + asked - 1
 abbrev pub afterNumber : ℕ → Number → (ℕ → Read) → Read
 afterNumber place (Whole value used) rest = withFirst (signedOf value) (rest used)
 afterNumber place (Refused number asked) rest = stopped (no number (place + asked - 1))
