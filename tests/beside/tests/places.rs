@@ -10,7 +10,7 @@ use inputs::table_t::C;
 
 const SEEDS: u64 = 20_000;
 
-/// So many strings at least are to end in each of 1, 2 and 3.
+/// So many strings at least are to be read, and to end in each of 1, 2 and 3.
 const LEAST: u64 = 1_000;
 
 /// What the bytes are handed over as: alone, or as one string of the call on two.

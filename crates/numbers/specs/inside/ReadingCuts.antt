@@ -25,14 +25,14 @@ pub record NumberEnds (read : List ℕ → Number) (bytes : List ℕ) (asked : �
   pub value : ℕ
   pub mended : read (bytes ++ (1 ∷ [])) ≡ Whole value asked
 
--- those before the last that was asked for end inside it, and that one is wrong, whatever follows
+-- the first `count` bytes end inside it, and the one after them, the last that was asked for, is wrong, whatever follows
 pub record NumberWrong (read : List ℕ → Number) (bytes : List ℕ) (least asked : ℕ) : Type 0 where
-  pub offset : ℕ
-  pub is : asked ≡ suc offset
-  pub some : least ≤ offset
-  pub inside : offset < length bytes
-  pub before : read (take offset bytes) ≡ Refused 1 asked
-  pub after : (rest : List ℕ) → read (take (suc offset) bytes ++ rest) ≡ Refused 2 asked
+  pub count : ℕ
+  pub asked-is : asked ≡ suc count
+  pub some : least ≤ count
+  pub inside : count < length bytes
+  pub before : read (take count bytes) ≡ Refused 1 asked
+  pub after : (rest : List ℕ) → read (take (suc count) bytes ++ rest) ≡ Refused 2 asked
 
 abbrev Local : (List ℕ → Number) → List ℕ → ℕ → Number → Type 0
 Local read bytes least (Whole value used) = (rest : List ℕ) → read (take used bytes ++ rest) ≡ Whole value used
@@ -66,8 +66,8 @@ module _ (read : List ℕ → Number) (b : ℕ) (bytes : List ℕ) (none : read 
   one-local (Refused n k) o same = (
     λ e. never-both e (o .0),
     λ e. record {
-      offset = 0;
-      is = o .1;
+      count = 0;
+      asked-is = o .1;
       some = omega arith;
       inside = omega arith;
       before = none ∙ ap (Refused 1) (sym (o .1));
@@ -90,12 +90,12 @@ module _ (read front : List ℕ → Number) (b group : ℕ) (step : (rest : List
       mended = step (bytes ++ (1 ∷ [])) ∙ ap (inFront group) (x .mended);
     },
     λ e. let x = w .1 e in record {
-      offset = suc (x .offset);
-      is = omega (arith, x .is);
+      count = suc (x .count);
+      asked-is = omega (arith, x .asked-is);
       some = omega (arith, h);
       inside = omega (arith, x .inside);
-      before = step (take (x .offset) bytes) ∙ ap (inFront group) (x .before);
-      after = λ rest. step (take (suc (x .offset)) bytes ++ rest) ∙ ap (inFront group) (x .after rest);
+      before = step (take (x .count) bytes) ∙ ap (inFront group) (x .before);
+      after = λ rest. step (take (suc (x .count)) bytes ++ rest) ∙ ap (inFront group) (x .after rest);
     },
   )
 
@@ -192,12 +192,12 @@ module _ (room place b : ℕ) (bytes : List ℕ) {n k : ℕ} (refused : numberOf
               rw (x .mended, d) (read-none room _);
         },
         λ e. let x = w .1 e in record {
-          count = x .offset;
-          at-is = omega (arith, x .is);
+          count = x .count;
+          at-is = omega (arith, x .asked-is);
           inside = x .inside;
           before =
-              let m = length-take-le (x .offset) (b ∷ bytes) (omega (arith, x .inside)) in
-              read-some room place (take (x .offset) (b ∷ bytes)) (omega (arith, m, x .some)) ∙ rw (x .before);
+              let m = length-take-le (x .count) (b ∷ bytes) (omega (arith, x .inside)) in
+              read-some room place (take (x .count) (b ∷ bytes)) (omega (arith, m, x .some)) ∙ rw (x .before);
           after = λ rest. rw (x .after rest);
         },
       )

@@ -18,7 +18,7 @@ use Rattle.numbers.specs.declared.reader.Number.the-variants.{Whole, Ref
 abbrev pub lastByte : ℕ → Number
 lastByte b = cond (eqb b 0) (Refused 2 1) (Whole b 1)
 
--- a group in front of a number that was read
+-- a group in front of a number that was read or refused: a byte more
 abbrev pub inFront : ℕ → Number → Number
 inFront group (Whole value used) = Whole (group + 128 * value) (1 + used)
 inFront group (Refused number asked) = Refused number (1 + asked)

@@ -95,4 +95,5 @@ pub read-spec : {M : Type 1} → statement M
 read-spec = tie.close (tie.spec
     Inv-loop μ-loop loop-holds (λ c. c .before .before .loop .inv .whole) returns (λ c κs. search needs)
     (λ c. search needs) (λ c κs. search needs) (λ c. search needs) (λ c. search needs) add-count add-at loop-less
-    loop-again (λ c. search needs) place-fits (λ c. omega (arith, asked (c .before) .0)) same-length-2 returns-2 (λ c. c .before .loop .inv .whole) returns-3)
+    loop-again (λ c. search needs) place-fits (λ c. omega (arith, asked (c .before) .0)) same-length-2 returns-2
+    (λ c. c .before .loop .inv .whole) returns-3)
