@@ -8,7 +8,7 @@ ghost use Rattle.numbers.specs.law.CodecTold.{readingTold};
 ghost use Rattle.numbers.specs.law.Told.{overlay};
 
 // What stands at the front of some bytes: a number and how many bytes it takes, or the question that has a "no" and how many bytes were asked for, the
-// last of them the one at which it has it.
+// last of them the one that is wrong or missing.
 pub enum Number {
     Whole { value: u64, used: usize },
     Refused { number: usize, asked: usize },

@@ -1,8 +1,9 @@
--- The byte that is wrong: what the place of a refusal by 1 or 2 says of a file that was transferred. `readOf bytes room` is the reading of all the bytes
--- into a list with `room` places; `no 1 p` and `no 2 p` are its refusals by 1 and by 2 at the place p.
+-- The byte that is wrong: what the place of a refusal by 1, 2 or 3 says of a file that was transferred. `readOf bytes room` is the reading of all the bytes
+-- into a list with `room` places; `no 1 p`, `no 2 p` and `no 3 p` are its refusals by 1, 2 and 3 at the place p.
 --
 -- By 1: the bytes are a good beginning and end inside a number. The place is their length: the byte that is due there is missing.
 -- By 2: the bytes before the place are a good beginning, and with the byte at the place they are none: whatever follows it, they are refused there.
+-- By 3: the bytes before the place are whole numbers, as many as the list has places. The byte at the place is the first of a number more.
 --
 -- A good beginning is meant in full: the bytes end inside a number, and with a byte 01 after them all are read without refusal. Which byte was changed on
 -- the way is not said: where 02 has become 82 and 00 follows, 00 is the byte at the place.
@@ -12,13 +13,13 @@ use mathlib.Core.Path.{_≡_, refl, ap, sym, subst, _∙_}
 use mathlib.Core.List.{List, [], _∷_, _++_, append-nil}
 use Prim.Native.Nat.{ℕ, suc, _+_, _<_}
 use native.Mathlib.Omega.{arith}
-use lib.IntN.{ℤ}
+use lib.IntN.{ℤ, pos}
 use lib.ListN.{length, take}
-use Rattle.numbers.specs.law.Told.{overlay}
+use Rattle.numbers.specs.law.Told.{gives, overlay}
 use Rattle.numbers.specs.law.Reading.{Read, Ending, all, no, readOf, readTold}
 use Rattle.numbers.specs.inside.ReadingBounds.{read-no}
 use Rattle.numbers.specs.inside.ReadingCuts.{Cut, read-cut}
-use Rattle.numbers.specs.claims.CallsRoundTrip.{ReadCall, reading-refused}
+use Rattle.numbers.specs.claims.CallsRoundTrip.{ReadCall, reading-count, reading-refused}
 use Rattle.numbers.specs.declared.reader.Reading.{Reading}
 use Rattle.numbers.specs.declared.reader.Reading.the-variants as reading
 
@@ -71,6 +72,18 @@ module _ (bytes : List ℕ) (room : ℕ) {p : ℕ} where
       ended : Read → Ending
       ended r = r .ended
 
+  -- ---- 3, a list that is full
+
+  -- The place is a number's first byte: all before it is read, into every place of the list, and a byte stands there.
+  pub full-place : readOf bytes room .ended ≡ no 3 p
+      → (p < length bytes) × (readOf (take p bytes) room ≡ record { stored = readOf bytes room .stored; ended = all })
+      × (length (readOf bytes room .stored) ≡ room)
+  unfolding readOf
+  full-place e =
+      let w = cut-at e .2 refl in
+      let c : p ≡ w .count = omega (arith, w .at-is) in
+      (omega (arith, w .inside), ap (λ (n : ℕ). readOf (take n bytes) room) c ∙ w .before, w .full)
+
 -- ---- the same of the call `read`, as it promises (`ReadCall` of `CallsRoundTrip`)
 
 module _ {bytes : List ℕ} {list left : List ℤ} {p : ℕ} where
@@ -94,4 +107,14 @@ module _ {bytes : List ℕ} {list left : List ℤ} {p : ℕ} where
       let b = bad-for-good bytes (length list) (read-no bytes (length list) (r .answered)) rest in (
         reading-refused answer 2 p (again .answered ∙ ap readTold b ∙ sym (r .answered)),
         again .lent ∙ ap (λ (x : Read). overlay (x .stored) list) b ∙ sym (r .lent),
+      )
+
+  -- 3: a call on the bytes before the place, with the same lent list, answers with its length as the count and leaves the same in it.
+  pub read-before-full : {answer : Reading} {back : List ℤ} → ReadCall bytes list (reading.Refused 3 p) left → ReadCall (take p bytes) list answer back
+      → (answer ≡ reading.Count (length list)) × (back ≡ left)
+  unfolding readTold
+  read-before-full {answer} r again =
+      let f = full-place bytes (length list) (read-no bytes (length list) (r .answered)) in (
+        reading-count answer (length list) (again .answered ∙ ap readTold (f .1) ∙ ap (λ (n : ℕ). gives (pos n ∷ [])) (f .2)),
+        again .lent ∙ ap (λ (x : Read). overlay (x .stored) list) (f .1) ∙ sym (r .lent),
       )

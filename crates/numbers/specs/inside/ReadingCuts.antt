@@ -1,5 +1,5 @@
 -- Bytes that are cut short or followed by others: a reading goes by the bytes up to its place, and of those after it says nothing. Where they end inside a
--- number, a byte 1 more ends that number; where a byte is wrong, those before it end inside a number.
+-- number, a byte 1 more ends that number; where a byte is wrong, those before it end inside a number; where the list is full, those before are read whole.
 -- Assumes nothing.
 use mathlib.Core.Path.{_≡_, refl, ap, sym, subst, _∙_}
 use mathlib.Core.Bool.{Bool, true, false, cond}
@@ -12,7 +12,7 @@ use lib.ListN.{length, take, drop, length-append, length-drop, take-append-drop,
 use lib.Seq.{length-take-le, drop-at, take-add}
 use Rattle.numbers.specs.law.Mapping.{signedOf}
 use Rattle.numbers.specs.law.Reading.{numberOf, laterBytes, lastByte, inFront, Read, Ending, all, no, withFirst, afterNumber, readFrom}
-use Rattle.numbers.specs.inside.ReadingBounds.{used-some}
+use Rattle.numbers.specs.inside.ReadingBounds.{Within, within-number, used-some}
 use Rattle.numbers.specs.inside.RoundTripLaws.{read-some}
 use Rattle.numbers.specs.declared.reader.Number.{Number}
 use Rattle.numbers.specs.declared.reader.Number.the-variants.{Whole, Refused}
@@ -110,7 +110,7 @@ later-local (suc more) (b ∷ bytes) = go (ltb b 128) refl (later-local more byt
     go true t w = one-local (laterBytes (suc more)) b bytes refl (lastByte b) (one-last b) (λ rest. rw t)
     go false t w = local-front (laterBytes more) (laterBytes (suc more)) b (b - 128) (λ rest. rw t) bytes 0 (omega arith) (laterBytes more bytes) w
 
-pub number-local : (b : ℕ) (bytes : List ℕ) → Local numberOf (b ∷ bytes) 1 (numberOf (b ∷ bytes))
+number-local : (b : ℕ) (bytes : List ℕ) → Local numberOf (b ∷ bytes) 1 (numberOf (b ∷ bytes))
 unfolding numberOf
 number-local b bytes = go (ltb b 128) refl
   where
@@ -134,9 +134,17 @@ module _ (room place : ℕ) (bytes : List ℕ) (stored : List ℤ) where
     pub before : readFrom room place (take count bytes) ≡ record { stored = stored; ended = no 1 at }
     pub after : (rest : List ℕ) → readFrom room place (take (suc count) bytes ++ rest) ≡ record { stored = stored; ended = no 2 at }
 
+  -- the first `count` bytes are read whole and fill the list, and there are more
+  pub record ReadingFull (at : ℕ) : Type 0 where
+    pub count : ℕ
+    pub at-is : at ≡ place + count
+    pub inside : count < length bytes
+    pub before : readFrom room place (take count bytes) ≡ record { stored = stored; ended = all }
+    pub full : length stored ≡ room
+
   abbrev pub Cut : Ending → Type 0
   Cut all = Unit {0}
-  Cut (no number at) = (number ≡ 1 → ReadingEnds at) × (number ≡ 2 → ReadingWrong at)
+  Cut (no number at) = (number ≡ 1 → ReadingEnds at) × (number ≡ 2 → ReadingWrong at) × (number ≡ 3 → ReadingFull at)
 
 -- a whole number in front
 module _ (room place b : ℕ) (bytes : List ℕ) {v u : ℕ} (whole : numberOf (b ∷ bytes) ≡ Whole v u) where
@@ -152,6 +160,10 @@ module _ (room place b : ℕ) (bytes : List ℕ) {v u : ℕ} (whole : numberOf (
       read-some room place (take u (b ∷ bytes) ++ rest) (omega (arith, length-append (take u (b ∷ bytes)) rest, n, used-some (b ∷ bytes) whole .0))
       ∙ rw (local rest, drop-at (take u (b ∷ bytes)) rest u n)
 
+  before-on : (count : ℕ) {r : Read} → readFrom room (place + u) (take count (drop u (b ∷ bytes))) ≡ r
+      → readFrom (suc room) place (take (u + count) (b ∷ bytes)) ≡ withFirst (signedOf v) r
+  before-on count e = rw (take-add u count (b ∷ bytes)) (read-on (take count (drop u (b ∷ bytes))) ∙ ap (withFirst (signedOf v)) e)
+
   cut-on : (stored : List ℤ) (e : Ending) → Cut room (place + u) (drop u (b ∷ bytes)) stored e
       → Cut (suc room) place (b ∷ bytes) (signedOf v ∷ stored) e
   cut-on stored all c = tt
@@ -166,12 +178,19 @@ module _ (room place b : ℕ) (bytes : List ℕ) {v u : ℕ} (whole : numberOf (
       count = u + x .count;
       at-is = omega (arith, x .at-is);
       inside = omega (arith, x .inside, length-drop u (b ∷ bytes));
-      before = rw (take-add u (x .count) (b ∷ bytes)) (read-on (take (x .count) (drop u (b ∷ bytes))) ∙ ap (withFirst (signedOf v)) (x .before));
+      before = before-on (x .count) (x .before);
       after = λ rest.
           let s : suc (u + x .count) ≡ u + suc (x .count) = omega arith in
           ap (λ (n : ℕ). readFrom (suc room) place (take n (b ∷ bytes) ++ rest)) s
           ∙ rw (take-add u (suc (x .count)) (b ∷ bytes), append-assoc (take u (b ∷ bytes)) (take (suc (x .count)) (drop u (b ∷ bytes))) rest)
           (read-on (take (suc (x .count)) (drop u (b ∷ bytes)) ++ rest) ∙ ap (withFirst (signedOf v)) (x .after rest));
+    },
+    λ e. let x = c .2 e in record {
+      count = u + x .count;
+      at-is = omega (arith, x .at-is);
+      inside = omega (arith, x .inside, length-drop u (b ∷ bytes));
+      before = before-on (x .count) (x .before);
+      full = ap suc (x .full);
     },
   )
 
@@ -200,11 +219,16 @@ module _ (room place b : ℕ) (bytes : List ℕ) {n k : ℕ} (refused : numberOf
               read-some room place (take (x .count) (b ∷ bytes)) (omega (arith, m, x .some)) ∙ rw (x .before);
           after = λ rest. rw (x .after rest);
         },
+        λ e. let f : ⊥ = omega (arith, e, subst (Within (length (b ∷ bytes))) refused (within-number (b ∷ bytes)) .0) in absurd f,
       )
 
 pub read-cut : (room place : ℕ) (bytes : List ℕ) → Cut room place bytes (readFrom room place bytes .stored) (readFrom room place bytes .ended)
 read-cut zero place [] = tt
-read-cut zero place (b ∷ bytes) = (λ e. let f : ⊥ = omega (arith, e) in absurd f, λ e. let f : ⊥ = omega (arith, e) in absurd f)
+read-cut zero place (b ∷ bytes) = (
+  λ e. let f : ⊥ = omega (arith, e) in absurd f,
+  λ e. let f : ⊥ = omega (arith, e) in absurd f,
+  λ e. record { count = 0; at-is = omega arith; inside = omega arith; before = refl; full = refl },
+)
 read-cut (suc room) place [] = tt
 read-cut (suc room) place (b ∷ bytes) = go (λ p l. read-cut room p l) (numberOf (b ∷ bytes)) refl
   where
