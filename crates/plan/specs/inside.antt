@@ -24,4 +24,5 @@ pub mod SmallRefusals
 pub mod StepSizes
 pub mod VerdictSizes
 pub mod VerdictLaws
+pub mod ReadRefusals
 pub mod Computed
