@@ -1,5 +1,5 @@
 //! The place of a "no" in reading, by answers alone: what a reader says of a string is held against what it says of the string's beginnings.
-//! Nothing here knows how bytes make up a number.
+//! Of how bytes make up a number nothing is known here but that a byte 01 can end one.
 
 use beside::library;
 use harness::Judge;
@@ -65,11 +65,12 @@ fn ends_there(
     let other = any_bytes(rng);
     let is_there = match (number, bytes.get(..place), bytes.get(place)) {
         (0, ..) => true,
-        // The place is the length.
-        (1, Some(_), None) => true,
+        // The place is the length, and the number could have ended there.
+        (1, Some(_), None) => end_of(&[bytes, &[1]]) == READ,
         // All before the byte could go on, with it nothing can.
         (2, Some(before), Some(&byte)) => {
             end_of(&[before]) == (1, place)
+                && end_of(&[before, &[1]]) == READ
                 && end_of(&[before, &[byte]]) == said
                 && end_of(&[before, &[byte], &other]) == said
         }
@@ -116,24 +117,46 @@ fn the_second_checker_ends_at_the_byte_that_is_wrong() {
     holds(&Judge::second());
 }
 
-/// Places are really told apart: with a wrong one put in, some string does not end there.
+/// With the second checker's answers spoilt, does some string not end where it is said to?
+fn is_found(spoil: impl Fn(i64, &[u8], &mut [i64]) -> i64 + 'static) -> bool {
+    let spoilt = Judge {
+        read: Some(Box::new(move |bytes, list, out| {
+            let answer = read(bytes, list, out);
+            spoil(answer, bytes, out)
+        })),
+        ..Judge::second()
+    };
+    rounds(&spoilt, As::List, 200).is_err()
+}
+
+/// Places are really told apart.
 #[test]
 fn a_wrong_place_is_found() {
     for question in 1..=3 {
         for (name, wrong) in WRONG {
-            let spoilt = Judge {
-                read: Some(Box::new(move |bytes, list, out| {
-                    let answer = read(bytes, list, out);
-                    if answer == question {
-                        out[1] = wrong(bytes, out[1]);
-                    }
-                    answer
-                })),
-                ..Judge::second()
-            };
-            let found = rounds(&spoilt, As::List, 200).is_err();
+            let found = is_found(move |answer, bytes, out| {
+                if answer == question {
+                    out[1] = wrong(bytes, out[1]);
+                }
+                answer
+            });
             assert!(found, "{question}, {name}");
         }
+    }
+}
+
+/// Questions are too: an end is not taken for one where bytes were read, a byte is wrong or the list is full.
+#[test]
+fn an_end_that_is_none_is_found() {
+    for question in [0, 2, 3] {
+        let found = is_found(move |answer, bytes, out| {
+            if answer != question {
+                return answer;
+            }
+            out[1] = bytes.len() as i64;
+            1
+        });
+        assert!(found, "{question}");
     }
 }
 

@@ -99,7 +99,7 @@ furtherRows =
     ∷ reads (tenth 0x00) (refuses 2 0 9)
     ∷ reads (tenth 0xFF) (refuses 2 0 9)
     ∷ reads nineBytes (refuses 1 0 9)
-    -- without a place for a number none of its bytes is asked for: 3 has its first byte, though the next one is missing or out of place
+    -- without a place for a number none of its bytes is asked for: 3 has its first byte, though the next one is missing or wrong
     ∷ reads (0x02 ∷ 0x80 ∷ []) (refuses 3 0 1)
     ∷ reads (0x02 ∷ 0x80 ∷ 0x00 ∷ []) (refuses 3 0 1)
     ∷ []
