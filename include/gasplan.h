@@ -137,6 +137,7 @@ enum gasplan_refusal {
  * 0            out[0] is the count of numbers. They are the first numbers of the list, in order. The list past them is
  *              unchanged. No bytes are no numbers: the count is 0.
  * 1, 2 or 3    A number could not be read (1: the bytes end in it; 2: a byte of it is wrong) or stored (3: the list is full).
+ *              3 is asked before any byte of the number, then of each byte 1 before 2.
  *              out[0] is 0. out[1] is bytes_len for 1, the index of the byte that is wrong for 2, and the index of the
  *              number's first byte for 3. The numbers before it are the first numbers of the list. The list past them is
  *              unchanged.

@@ -109,12 +109,13 @@ module _ {bytes : List ℕ} {list left : List ℤ} {p : ℕ} where
         again .lent ∙ ap (λ (x : Read). overlay (x .stored) list) b ∙ sym (r .lent),
       )
 
-  -- 3: a call on the bytes before the place, with the same lent list, answers with its length as the count and leaves the same in it.
+  -- 3: a byte stands at the place, and a call on those before it, with the same lent list, gives the list's length as the count and leaves the same in it.
   pub read-before-full : {answer : Reading} {back : List ℤ} → ReadCall bytes list (reading.Refused 3 p) left → ReadCall (take p bytes) list answer back
-      → (answer ≡ reading.Count (length list)) × (back ≡ left)
+      → (p < length bytes) × (answer ≡ reading.Count (length list)) × (back ≡ left)
   unfolding readTold
   read-before-full {answer} r again =
       let f = full-place bytes (length list) (read-no bytes (length list) (r .answered)) in (
+        f .0,
         reading-count answer (length list) (again .answered ∙ ap readTold (f .1) ∙ ap (λ (n : ℕ). gives (pos n ∷ [])) (f .2)),
         again .lent ∙ ap (λ (x : Read). overlay (x .stored) list) (f .1) ∙ sym (r .lent),
       )
