@@ -21,18 +21,26 @@ pub fn unread(bytes: &[u8], file: File, lists: &Lists, refusal: Refusal) -> (Str
     (unread.place(), vec![check(!is_no, unread.words(&field))])
 }
 
-/// The field that the number after these bytes was to be. It is named where no number before leaves open which fields follow,
-/// and in a plan where the case is whole, since that says which rows it has.
+/// The field that the number after these bytes was to be, where it is clear which one that is.
 fn field_words(before: &[u8], file: File, lists: &Lists) -> String {
     let list = read_all(before).unwrap_or_default();
-    let is_clear = match file {
-        File::Case => !field_noes(&list).leaves_open,
-        File::Plan => lists.case.is_some(),
-    };
-    if !is_clear {
+    if !is_clear(&list, file, lists) {
         return String::new();
     }
     let due = due_after(layout_of(file, &lists.case_list).as_mut(), &list);
     let field = due.map_or("past the last field".to_string(), |it| it.address());
     format!(" ({field})")
+}
+
+/// In a case, no number before may leave open which fields follow. The rows of a plan are those of its case: that has to be whole
+/// and clear itself, and the plan to begin as 20 asks.
+fn is_clear(list: &[i64], file: File, lists: &Lists) -> bool {
+    match file {
+        File::Case => !field_noes(list).leaves_open,
+        File::Plan => lists.case.as_ref().is_some_and(|case| {
+            let head = [1, case.steps() as i64];
+            let begins = list.iter().zip(head).all(|(&number, due)| number == due);
+            begins && !field_noes(&lists.case_list).leaves_open
+        }),
+    }
 }

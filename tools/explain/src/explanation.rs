@@ -76,10 +76,7 @@ pub fn explain(
 type Answer = (String, Option<Mark>, Vec<Check>);
 
 fn of_bytes(input: &Input, lists: &Lists, refusal: Refusal) -> Answer {
-    let file = match refusal.number > 4 {
-        true => File::Plan,
-        false => File::Case,
-    };
+    let file = File::of_refusal(refusal.number);
     let (place, checks) = match refusal.number {
         1 | 2 | 5 | 6 => byte_rules::unread(input.bytes(file), file, lists, refusal),
         _ => (format!("byte {}", refusal.place), Vec::new()),

@@ -41,7 +41,7 @@ fn too_long(input: &Input) -> String {
 /// 3 and 7.
 fn no_place(input: &Input, refusal: Refusal) -> String {
     let number = refusal.number;
-    let file = if number > 4 { File::Plan } else { File::Case };
+    let file = File::of_refusal(number);
     let (name, most) = (file.name(), count(file.limits().1));
     let numbers = read_all(input.bytes(file)).map(|list| list.len());
     let there = numbers.map_or("more".to_string(), count);

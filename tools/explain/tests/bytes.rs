@@ -223,6 +223,31 @@ fn a_plan_field_has_no_name_without_a_case() {
     assert!(text.contains(plan), "{text}");
 }
 
+/// A plan that does not begin as 20 asks, or whose case leaves its fields open, has no rows that are known.
+#[test]
+fn a_plan_field_is_named_where_it_is_clear() {
+    let clear = "18 (past the last field)";
+    for (change, number) in [
+        ("case mass-tolerance 1", clear),
+        ("plan 'step 1 node 0 p' 1", clear),
+        ("plan version 2", "18"),
+        ("plan steps 2", "18"),
+        ("case edition 2", "18"),
+    ] {
+        let text = ask(&format!(
+            "two-nodes --all --change {change} --append plan '80 00'"
+        ))
+        .text;
+        let line = format!(" number {number}, from byte ");
+        assert!(text.contains(&line), "{change}: {text}");
+    }
+    let mut input = with(File::Plan, 25..26, &[0x80]);
+    let line = |input: &Input| explain_refusal(input, input.verdict().unwrap_err(), None).findings;
+    assert!(line(&input)[0].starts_with("number 17 (step 1 arc 0 machines), "));
+    input.plan_bytes[1] = 0;
+    assert!(line(&input)[0].starts_with("number 17, "));
+}
+
 #[test]
 fn the_mark_is_at_the_verdict_s_place() {
     let mut seen = [0; 8];

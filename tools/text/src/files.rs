@@ -37,6 +37,14 @@ impl File {
         File::BOTH.into_iter().find(|file| stem == file.name())
     }
 
+    /// The file that a refusal by its bytes is about: 1 to 3 are the case's, 5 to 7 the plan's.
+    pub fn of_refusal(number: i64) -> File {
+        match number > 4 {
+            true => File::Plan,
+            false => File::Case,
+        }
+    }
+
     /// The most bytes and the most numbers that the program takes.
     pub fn limits(self) -> (usize, usize) {
         match self {
@@ -58,16 +66,14 @@ pub fn read_bin(path: &Path) -> Result<Vec<i64>> {
         .map_err(|refusal| format!("{}: {}", path.display(), unreadable(&bytes, refusal)))
 }
 
-/// Why bytes are no numbers.
+/// Why bytes are no numbers. The question's number is left out: it is another in a plan, and nothing is judged here.
 pub fn unreadable(bytes: &[u8], refusal: Refusal) -> String {
     let Refusal { number, place, .. } = refusal;
     if !matches!(number, 1 | 2) {
-        return format!(
-            "refused {number}: no place is free for the number that begins at byte {place}"
-        );
+        return format!("cannot be read: no room for the number that begins at byte {place}");
     }
     let unread = Unread::at(bytes, place);
-    format!("refused {number}, {}: {}", unread.place(), unread.words(""))
+    format!("cannot be read, {}: {}", unread.place(), unread.words(""))
 }
 
 /// The numbers of a text file. Where it is known what the text is to hold, its first word has to say so.

@@ -157,7 +157,7 @@ fn a_difference_is_named() {
     let error = files::check(&folder).unwrap_err();
     assert!(
         error.contains(
-            "case.bin: refused 1, end after 2 bytes: number 1, from byte 1 on, is 80 [end]"
+            "case.bin: cannot be read, end after 2 bytes: number 1, from byte 1 on, is 80 [end]"
         ),
         "{error}"
     );

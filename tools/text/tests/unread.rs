@@ -76,22 +76,22 @@ fn told(bytes: &[u8]) -> String {
 fn what_is_said() {
     assert_eq!(
         told(&[0x02, 0x80, 0x00, 0x04]),
-        "refused 2, byte 2: number 1, from byte 1 on, is 80 [00]: its last byte is 00, which a number does not need"
+        "cannot be read, byte 2: number 1, from byte 1 on, is 80 [00]: its last byte is 00, which a number does not need"
     );
     assert_eq!(
         told(&[0xFF; 12]),
-        "refused 2, byte 9: number 0, from byte 0 on, is FF FF FF FF FF FF FF FF FF [FF]: \
+        "cannot be read, byte 9: number 0, from byte 0 on, is FF FF FF FF FF FF FF FF FF [FF]: \
          its tenth byte is FF, and only 01 may stand there"
     );
     assert_eq!(
         told(&[0x87, 0x0E, 0x80, 0x80]),
-        "refused 1, end after 4 bytes: number 1, from byte 2 on, is 80 80 [end]: \
+        "cannot be read, end after 4 bytes: number 1, from byte 2 on, is 80 80 [end]: \
          each byte is 80 or more, so another is due"
     );
     let full = read(&[0x02, 0x04], &mut [0]).unwrap_err();
     assert_eq!(
         unreadable(&[0x02, 0x04], full),
-        "refused 3: no place is free for the number that begins at byte 1"
+        "cannot be read: no room for the number that begins at byte 1"
     );
 }
 
