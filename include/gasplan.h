@@ -49,7 +49,9 @@ extern "C" {
 #endif
 
 /* The version of the library: the first number changes when programs over it may have to, the second when something is
- * added. */
+ * added.
+ *
+ * 2.0.0    The place of 1, 2, 5 and 6 is the byte that is missing or wrong. In 1.0.0 it was the first byte of its number. */
 #define GASPLAN_VERSION "2.0.0"
 #define GASPLAN_VERSION_MAJOR 2
 #define GASPLAN_VERSION_MINOR 0

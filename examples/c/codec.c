@@ -43,7 +43,8 @@ static void there_and_back(void)
     }
 }
 
-/* The place is that of the byte that is missing (1) or wrong (2), or of the first byte of the number that has no place (3). */
+/* The place is that of the byte that is missing (1) or wrong (2), or of the first byte of the number for which the list is
+ * full (3). */
 static void refusals(void)
 {
     const uint8_t unfinished[] = {0x02, 0x80};

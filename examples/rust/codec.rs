@@ -21,7 +21,7 @@ fn there_and_back() -> Result<bool, Refusal> {
 }
 
 /// Numbers before the one that is refused are in the list; the rest of it is as it was. The place is that of the byte that is
-/// missing (1) or wrong (2), or of the first byte of the number that has no place (3).
+/// missing (1) or wrong (2), or of the first byte of the number for which the list is full (3).
 fn refusals() -> bool {
     let (mut list, mut room, mut byte) = ([7; 2], [7; 1], [0xAA; 1]);
     let answers = [

@@ -76,7 +76,7 @@ pub struct Ledger {
 }
 
 /// Reads bytes into a lent list and gives the count of numbers. The place of a refusal is the count of bytes where they end in
-/// a number (1), the index of the byte that is wrong (2), or of the first byte of the number that has no place (3).
+/// a number (1), the index of the byte that is wrong (2), or of the first byte of the number for which the list is full (3).
 #[inline]
 pub fn read(bytes: &[u8], list: &mut [i64]) -> Answer<usize> {
     let mut out = [0; OUT_PLACES];

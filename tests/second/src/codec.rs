@@ -53,7 +53,7 @@ fn rule_2_byte_is_allowed(byte: u8, index: usize, place: usize) -> Answer<()> {
     ask(2, tenth_is_small && last_is_needed, 0, place)
 }
 
-/// The place is the first byte of the number that has no place in the list.
+/// The place is the first byte of the number for which the list is full.
 fn rule_3_place_is_free(count: usize, room: usize, start: usize) -> Answer<()> {
     ask(3, count < room, 0, start)
 }
