@@ -55,7 +55,8 @@ abbrev pub Few : Ending → Type 0
 Few d = (m q : ℕ) → d ≡ no m q → (1 ≤ m) × (m ≤ 3)
 
 module _ {n p : ℕ} {next : Told} (most : n ≤ 3) where
-  pub case-refused : (c : Ending) (j : Answer) (d : Ending) → ¬ (next ≡ refuses n 0 p) → Small limit j → inTurn c j d next ≡ refuses n 0 p → c ≡ no n p
+  pub case-refused : (c : Ending) (j : Answer) (d : Ending) → ¬ (next ≡ refuses n 0 p) → Small limit j
+      → inTurn c j d next ≡ refuses n 0 p → c ≡ no n p
   case-refused (no m q) j d judged s e = let x = refused-same e in rw (x .0, x .2)
   case-refused all (No m t q) d judged s e = let f : ⊥ = omega (arith, s .3, most, refused-same e .0) in absurd f
   case-refused all Yes (no m q) judged s e = let f : ⊥ = omega (arith, plan-number-small m .1, most, refused-same e .0) in absurd f
