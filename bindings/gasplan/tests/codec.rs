@@ -48,7 +48,7 @@ fn the_place_is_that_of_the_byte() {
         let bytes = [&[2, 4][..], &[0xFF; 9], &[tenth, 6]].concat();
         assert_eq!(read_all(&bytes), Err(refused(2, 11)));
     }
-    // A number without a place is not read: its first byte is told, also where it has a wrong one.
+    // A number for which the list is full is not read: its first byte is told, also where it has a wrong one.
     assert_eq!(read(&[2, 0x80, 0], &mut [7]), Err(refused(3, 1)));
     assert_eq!(read(&[0x80], &mut []), Err(refused(3, 0)));
 }

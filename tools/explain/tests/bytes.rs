@@ -41,15 +41,10 @@ fn prints(input: &Input, verdict: &str, rule: &str, line: &str) {
     marks_its_place(input, input.verdict().unwrap_err());
 }
 
-/// The file that a refusal by its bytes is about.
-fn file_of(number: i64) -> File {
-    if number > 4 { File::Plan } else { File::Case }
-}
-
 /// The bytes that are shown are those from the number's first up to the place, where the mark is, and all before are whole.
 fn marks_its_place(input: &Input, refusal: Refusal) {
     let Refusal { number, place, .. } = refusal;
-    let bytes = input.bytes(file_of(number));
+    let bytes = input.bytes(File::of_refusal(number));
     let explanation = explain_refusal(input, refusal, None);
     let [finding] = explanation.findings.as_slice() else {
         panic!("{refusal}: {:?}", explanation.findings);

@@ -90,7 +90,7 @@ furtherRows =
     ∷ draws (caseC (pos 60) (pos 1)) (planP (pos 901)) (pos 2) (pos 0) (pos 2) (refuses 41 0 0)
     -- row 1 from bytes, into lists that have just the room
     ∷ judgesBytes bytesC bytesP 33 18 (gives (pos 0 ∷ pos 0 ∷ pos 0 ∷ pos 0 ∷ pos 599988 ∷ pos 611988 ∷ []))
-    -- plan bytes that end in a number, that have a last byte 0 and a tenth byte 2, and whose last number has no place
+    -- plan bytes that end in a number, that have a last byte 0 and a tenth byte 2, and for whose last number the list is full
     ∷ judgesBytes bytesC (0x02 ∷ 0x02 ∷ 0xF0 ∷ []) 33 18 (refuses 5 0 3)
     ∷ judgesBytes bytesC (0x02 ∷ 0x02 ∷ 0x80 ∷ 0x00 ∷ []) 33 18 (refuses 6 0 3)
     ∷ judgesBytes bytesC (0x02 ∷ 0x02 ∷ tenth 0x02) 33 18 (refuses 6 0 11)

@@ -1,7 +1,7 @@
 -- The byte that is wrong, of the call on two byte strings: 1 to 3 are about the case's bytes and 5 to 7 about the plan's, and each has the place that the
 -- reading of its own string gives (numbers/specs/claims/WrongByte.antt). By 1 and 5 it is the length of that string; by 2 and 6 it is the byte that is
 -- wrong: the string cut right before it is told as ended there, and whatever stands after it, the call answers and leaves the same; by 3 and 7 it is the
--- first byte of the number that has no place.
+-- first byte of the number for which the list is full.
 -- Carried by what tells the refusals apart: those of a reading have the numbers 1 to 7, those of a case or a plan higher ones.
 -- Assumes nothing.
 use mathlib.Core.Path.{_≡_, refl}

@@ -31,7 +31,7 @@ not-judged case plan {n} {p} h e = go (firstNo (questions case plan)) (judge-sma
     go Yes s e = omega (arith, ap (λ (t : Told). length (t .values)) e)
     go (No m t q) s e = omega (arith, s .3, refused-same e .0)
 
--- what is told of the case's reading, then of the case, then of the plan's reading, and then
+-- what is told of the case's reading, then of the case, then of the plan's reading, and else `next`
 abbrev pub inTurn : Ending → Answer → Ending → Told → Told
 inTurn caseEnded caseJudged planEnded next = refusedOr (readAnswer caseEnded) (refusedOr caseJudged (refusedOr (onPlanBytes (readAnswer planEnded)) next))
 
