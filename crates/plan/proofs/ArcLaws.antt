@@ -24,11 +24,12 @@ use Rattle.plan.specs.declared.setting.Setting.{Setting}
 use Rattle.plan.specs.declared.setting.Setting.the-variants.{Unknown, Off, Active}
 use Rattle.plan.specs.law.PlanRecords.{arcRow}
 use Rattle.plan.specs.law.Compared.{isZero}
-use Rattle.plan.specs.law.Setting.{settingOf, settingIn, activeOf, valveOf, directed, stationOffset}
+use Rattle.plan.specs.law.Setting.{settingOf, settingIn, stationOffset}
 use Rattle.plan.specs.law.ArcMachines.{settingMachines, machinesUsed}
 use Rattle.plan.specs.law.Machines.{machineGain, gainPart}
 use Rattle.plan.specs.law.Pipes.{duration, change, pipeImbalance, pressureBalance}
 use Rattle.plan.specs.inside.Sizes.{MachinesSized}
+use Rattle.plan.specs.inside.SettingLaws.{compressing-five}
 use Rattle.plan.specs.inside.Preconditions.{AcceptedCase, AtArc, AtPipe, Compresses}
 use Rattle.plan.proofs.SignedReads.{read, read-bounded, sized}
 use Rattle.plan.specs.inside.CaseSizes.{duration-sized, node-sized, from-node, to-node, pipe-sized, station-in, machines-sized}
@@ -81,30 +82,7 @@ module _ {case rows : List ℤ} {l : List ℕ} {i e : ℕ} (a : AtArc case rows 
     base = node-sized (a .at .accepted) u p i (a .at .step) .p0;
   }
 
--- only compressors and combined arcs compress
-compressing-five : (kind : ℕ) (z : ℤ) (way : Way) → settingOf kind z ≡ Active way Compressing → 5 ≤ kind
-unfolding settingOf activeOf valveOf directed
-compressing-five kind z way e =
-    go (leZ (pos 0) z) (eqb (posPart z) 0) (eqb kind 0) (leb kind 2) (eqb kind 3) (eqb kind 4) (eqb (posPart z) 1) (eqb (posPart z) 2) _ refl refl refl e
-  where
-    go : (a b v d s t f g : Bool) (X : Setting) → leb kind 2 ≡ d → eqb kind 3 ≡ s → eqb kind 4 ≡ t
-        → cond a (cond b Off (cond v (cond f (Active Forward Open) Unknown) (cond d Unknown
-        (cond s (cond f (Active Forward Open) (cond g (Active Backward Open) Unknown))
-        (cond t (cond f (Active Forward Regulating) (cond g (Active Backward Regulating) Unknown)) X))))) Unknown ≡ Active way Compressing → 5 ≤ kind
-    go false b v d s t f g X h k l e = let y : _≡_ {A = ℕ} 0 1 = cc in omega arith
-    go true true v d s t f g X h k l e = let y : _≡_ {A = ℕ} 0 1 = cc in omega arith
-    go true false true d s t true g X h k l e = let y : _≡_ {A = ℕ} 0 1 = cc in omega arith
-    go true false true d s t false g X h k l e = let y : _≡_ {A = ℕ} 0 1 = cc in omega arith
-    go true false false true s t f g X h k l e = let y : _≡_ {A = ℕ} 0 1 = cc in omega arith
-    go true false false false true t true g X h k l e = let y : _≡_ {A = ℕ} 0 1 = cc in omega arith
-    go true false false false true t false true X h k l e = let y : _≡_ {A = ℕ} 0 1 = cc in omega arith
-    go true false false false true t false false X h k l e = let y : _≡_ {A = ℕ} 0 1 = cc in omega arith
-    go true false false false false true true g X h k l e = let y : _≡_ {A = ℕ} 0 1 = cc in omega arith
-    go true false false false false true false true X h k l e = let y : _≡_ {A = ℕ} 0 1 = cc in omega arith
-    go true false false false false true false false X h k l e = let y : _≡_ {A = ℕ} 0 1 = cc in omega arith
-    go true false false false false false f g X h k l e = omega (arith, leb-false kind 2 h, eqb-false kind 3 k, eqb-false kind 4 l)
-
--- they are arcs of a station
+-- an arc that compresses is a station's
 pub compressing-kind : (kind : ℕ) (z : ℤ) (way : Way) → settingOf kind z ≡ Active way Compressing → 3 ≤ kind
 compressing-kind kind z way e = omega (arith, compressing-five kind z way e)
 

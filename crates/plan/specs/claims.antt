@@ -9,3 +9,4 @@ pub mod WrongByte
 pub mod Demand3
 pub mod TableT
 pub mod FurtherRows
+pub mod OutBound

@@ -3,6 +3,7 @@ pub mod StationPass
 pub mod StepAnswer
 pub mod Sizes
 pub mod Preconditions
+pub mod SettingLaws
 pub mod CaseSizes
 pub mod AnsweredSizes
 pub mod NetFlow

@@ -24,6 +24,7 @@ use super::setting::Setting;
 use super::setting::Way;
 use super::setting::setting_of;
 use case::records::Artificial;
+use case::records::Node;
 use numbers::answer::Answer;
 use numbers::answer::ask;
 use numbers::answer::or_else;
@@ -38,11 +39,12 @@ fn offset_of(offsets: &[usize], s: usize) -> usize
     if s < offsets.len() { offsets[s] } else { 0 }
 }
 
-fn out_bound(x: Artificial) -> i64
-    ensures { λ r. ⌜ r ≡ outBound x ⌝ }
+// The out bound of an arc whose out end is `out`.
+fn out_bound(x: Artificial, out: Node) -> i64
+    ensures { λ r. ⌜ r ≡ outBound x out ⌝ }
 {
     if same(x.outbound, 0) {
-        200000
+        out.acthigh
     } else {
         x.outbound
     }
@@ -64,7 +66,7 @@ fn compression_kept(
     let p_in = pressure(rows, u);
     let p_out = pressure(rows, w);
     if at_most(p_in, p_out) {
-        if at_most(p_out, out_bound(artificial(case, e))) {
+        if at_most(p_out, out_bound(artificial(case, e), node(case, w, i))) {
             let ratio = 1000 + machine_gain(case, offset, arc_row(case, rows, e).machines);
             return at_most(1000 * p_out, node(case, u, i).p0 * ratio);
         }

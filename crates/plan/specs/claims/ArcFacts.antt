@@ -1,6 +1,6 @@
 -- 24 to 29 as facts of numbers, both ways. Kinds: 0 valve, 1 regulator, 2 pipe, 3 shortcut, 4 regulating, 5 compressor, 6 combined.
 -- Assumes nothing.
-use mathlib.Core.Path.{_≡_, refl}
+use mathlib.Core.Path.{_≡_, refl, sym, _∙_}
 use mathlib.Core.Bool.{Bool, true, false, false≢true, cond, not, Bool·beq, _&&_, _||_}
 use mathlib.Core.List.{List}
 use mathlib.Core.Logic.{_≢_}
@@ -28,6 +28,7 @@ use Rattle.plan.specs.declared.setting.Mode.{Mode}
 use Rattle.plan.specs.declared.setting.Mode.the-variants.{Open, Regulating, Compressing}
 use Rattle.plan.specs.declared.setting.Setting.{Setting}
 use Rattle.plan.specs.declared.setting.Setting.the-variants.{Unknown, Off, Active}
+use Rattle.plan.specs.inside.SettingLaws.{compressing-five}
 use Rattle.plan.specs.law.Compared.{within, isZero}
 use Rattle.plan.specs.law.PlanRecords.{pressureIn, arcRow}
 use Rattle.plan.specs.law.Setting.{directed, combinedOf, valveOf, activeOf, settingOf, settingIn, inEnd, outEnd, stationOffset}
@@ -174,12 +175,12 @@ rule25-says c r =
     (λ f. (λ h. tt, λ n. (f .off (λ k. n (omega arith)) (λ k. n (omega arith)), λ way mode q k. f .against k way mode q)))
 
 -- 26: "Pressures: open valve or active shortcut equal; regulator always from ≥ to; regulating in ≥ out; compressing in ≤ out, out ≤ out bound, and
--- 1,000 × out ≤ p0 of the in end × (1,000 + the sum of (R - 1,000) over its machines)?" An active arc has its in end at u and its out end at w; "out bound
--- 0..200,000, where 0 means 200,000".
+-- 1,000 × out ≤ p0 of the in end × (1,000 + the sum of (R - 1,000) over its machines)?" An active arc has its in end at u and its out end at w; an
+-- out bound of 0 "stands for acthigh of the out end in that step" (document 02, P8), whatever its slack and its demand.
 pub record Compression (case rows : List ℤ) (i e u w : ℕ) : Type 0 where
   pub raises : (pressureIn rows u) ≤ℤ (pressureIn rows w)
   pub bound : artificialOf case e .outbound ≢ pos 0 → (pressureIn rows w) ≤ℤ (artificialOf case e .outbound)
-  pub unbound : artificialOf case e .outbound ≡ pos 0 → (pressureIn rows w) ≤ℤ (pos 200000)
+  pub empty : artificialOf case e .outbound ≡ pos 0 → (pressureIn rows w) ≤ℤ (nodeOf case w i .acthigh)
   pub reach : (pos 1000 *ℤ pressureIn rows w) ≤ℤ (nodeOf case u i .p0 *ℤ (pos 1000 +ℤ machineGain case (stationOffset case e) (arcRow case rows e .machines)))
 
 abbrev pub PressuresBy : List ℤ → List ℤ → ℕ → ℕ → Mode → ℕ → ℕ → Type 0
@@ -198,8 +199,8 @@ mode-says case rows i e Open u w = same-says _ _
 mode-says case rows i e Regulating u w = le-says _ _
 mode-says case rows i e Compressing u w =
     means (both (le-says _ _) (both (pick (leZ (pressureIn rows w)) (zero-says (artificialOf case e .outbound)) (le-says _ _) (le-says _ _)) (le-says _ _)))
-    (λ t. record { raises = t .0; bound = t .1 .0 .1; unbound = t .1 .0 .0; reach = t .1 .1 })
-    (λ f. (f .raises, ((f .unbound, f .bound), f .reach)))
+    (λ t. record { raises = t .0; bound = t .1 .0 .1; empty = t .1 .0 .0; reach = t .1 .1 })
+    (λ f. (f .raises, ((f .empty, f .bound), f .reach)))
 
 pub rule26-says : (case rows : List ℤ) (i e : ℕ) → Says (pressuresKept case rows i e) (Rule26 case rows i e)
 unfolding pressuresKept
@@ -208,6 +209,23 @@ rule26-says case rows i e =
     (λ way mode. mode-says case rows i e mode (inEnd way (arcOf case e)) (outEnd way (arcOf case e)))))
     (λ t. record { regulator = t .0; active = λ n. t .1 n .1 })
     (λ f. (f .regulator, λ n. (λ q. tt, f .active n)))
+
+-- 26 of an arc that compresses: what a user leans on who sees such an arc in an accepted plan
+pub rule26-compressing : (case rows : List ℤ) (i e : ℕ) (way : Way) → settingIn case rows e ≡ Active way Compressing
+    → Says (pressuresKept case rows i e) (Compression case rows i e (inEnd way (arcOf case e)) (outEnd way (arcOf case e)))
+rule26-compressing case rows i e way s =
+    let k = compressing-five _ _ way s in
+    let other : arcOf case e .kind ≢ 1 = λ h. omega (arith, k, h) in
+    means (rule26-says case rows i e)
+    (λ f. f .active other way Compressing s)
+    (λ f. record { regulator = λ h. absurd (other h); active = λ n x mode q. go x mode (sym s ∙ q) f })
+  where
+    go : (x : Way) (mode : Mode) → Active way Compressing ≡ Active x mode
+        → Compression case rows i e (inEnd way (arcOf case e)) (outEnd way (arcOf case e))
+        → PressuresBy case rows i e mode (inEnd x (arcOf case e)) (outEnd x (arcOf case e))
+    go x Open q f = let z : _≡_ {A = ℕ} 0 1 = cc in absurd (omega arith)
+    go x Regulating q f = let z : _≡_ {A = ℕ} 0 1 = cc in absurd (omega arith)
+    go x Compressing q f = let z : way ≡ x = cc in rw z at f
 
 -- 27: "Not compressing: machines 0? Compressing: at most "most machines", and flow ≤ the sum of their Q?"
 pub record Rule27 (case rows : List ℤ) (e : ℕ) : Type 0 where

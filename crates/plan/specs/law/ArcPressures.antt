@@ -7,7 +7,7 @@ use Prim.Native.Nat.{ℕ}
 use lib.Dec.{eqb}
 use lib.IntN.{ℤ, pos, _+ℤ_, _*ℤ_}
 use lib.Signed.{leZ}
-use Rattle.case.specs.law.Field.{mostPressure}
+use Rattle.case.specs.declared.records.Node.{Node}
 use Rattle.case.specs.declared.records.Artificial.{Artificial}
 use Rattle.case.specs.law.Records.{nodeOf, arcOf, artificialOf}
 use Rattle.plan.specs.declared.setting.Mode.{Mode}
@@ -19,9 +19,9 @@ use Rattle.plan.specs.law.PlanRecords.{pressureIn, arcRow}
 use Rattle.plan.specs.law.Setting.{settingIn, inEnd, outEnd, stationOffset}
 use Rattle.plan.specs.law.Machines.{machineGain}
 
--- "out bound 0..200,000, where 0 means 200,000"
-abbrev pub outBound : Artificial → ℤ
-outBound x = cond (isZero (x .outbound)) mostPressure (x .outbound)
+-- the out bound of an arc whose out end is the node `out` in the step: "0 stands for acthigh of the out end in that step" (document 02, P8)
+abbrev pub outBound : Artificial → Node → ℤ
+outBound x out = cond (isZero (x .outbound)) (out .acthigh) (x .outbound)
 
 -- the pressure that the machines raise: p0 of the in end
 abbrev pub basePressure : List ℤ → ℕ → ℕ → ℤ
@@ -35,7 +35,7 @@ ratioOf case rows e = pos 1000 +ℤ machineGain case (stationOffset case e) (arc
 unfoldable pub compressionKept : List ℤ → List ℤ → ℕ → ℕ → ℕ → ℕ → Bool
 compressionKept case rows i e u w =
     leZ (pressureIn rows u) (pressureIn rows w)
-    && (leZ (pressureIn rows w) (outBound (artificialOf case e))
+    && (leZ (pressureIn rows w) (outBound (artificialOf case e) (nodeOf case w i))
     && leZ (pos 1000 *ℤ pressureIn rows w) (basePressure case i u *ℤ ratioOf case rows e))
 
 -- an active arc from the node `u` to the node `w`

@@ -3,7 +3,7 @@ use Rattle.plan.proofs.Common.{_≡_, sym, ap, ap₂, _∙_, arith, nee
 use Rattle.plan.proofs.Common.{counted}
 use mathlib.Core.Path.{subst}
 use Rattle.case.specs.declared.records.Node.{Node}
-use Rattle.case.specs.law.Records.{artificialOf}
+use Rattle.case.specs.law.Records.{nodeOf, artificialOf}
 use Rattle.plan.specs.law.PlanRecords.{pressureIn, arcRow}
 use Rattle.plan.specs.law.Machines.{machineGain}
 use Rattle.plan.specs.law.Setting.{stationOffset}
@@ -22,7 +22,7 @@ abbrev out-is : tie.Start → ℤ
 out-is s = pressureIn (now (s .args .rows)) (s .args .w)
 
 abbrev most-is : tie.Start → ℤ
-most-is s = outBound (artificialOf (now (s .args .case)) (s .args .e))
+most-is s = let case = now (s .args .case) in outBound (artificialOf case (s .args .e)) (nodeOf case (s .args .w) (s .args .i))
 
 out : (c : tie.After-pressure2) → Held (toZ w64 (ofZ w64 (c .pressure2 .result))) (out-is (c .before .before)) 200000
 out c = read (c .pressure2 .ensures) (c .before .before .pre .out) tt
@@ -30,16 +30,16 @@ out c = read (c .pressure2 .ensures) (c .before .before .pre .out) tt
 rises : (c : tie.After-at-most) → let s = c .before .before .before in c .at-most .result ≡ leZ (in-is s) (out-is s)
 rises c = let p = c .before .before .pressure in c .at-most .ensures ∙ ap₂ leZ (as-told (p .ok) (p .ensures)) (out (c .before) .val)
 
-below : (c : tie.After-at-most2) → let s = c .before .before .before .before .before .before .before in
+below : (c : tie.After-at-most2) → let s = c .before .before .before .before .before .before .before .before in
     c .at-most2 .result ≡ leZ (out-is s) (most-is s)
 below c =
     let b = c .before in
-    let most = as-told (b .out-bound .ok) (b .out-bound .ensures ∙ ap outBound (b .before .artificial .ensures)) in
-    c .at-most2 .ensures ∙ ap₂ leZ (out (b .before .before .before .before) .val) most
+    let most = as-told (b .out-bound .ok) (b .out-bound .ensures ∙ ap₂ outBound (b .before .before .artificial .ensures) (b .before .node .ensures)) in
+    c .at-most2 .ensures ∙ ap₂ leZ (out (b .before .before .before .before .before) .val) most
 
 -- the ratio
 abbrev start : tie.After-machine-gain → tie.Start
-start c = c .before .before .before .before .before .before .before .before .before .before .before
+start c = c .before .before .before .before .before .before .before .before .before .before .before .before
 
 gain : (c : tie.After-machine-gain) → let a = start c .args in let l = now (a .case) in
     Held (toZ w64 (ofZ w64 (c .machine-gain .result)))
@@ -55,32 +55,32 @@ ratio : (c : tie.After-machine-gain) → let a = start c .args in
     Held (toZ w64 (ofZ w64 (pos 1000 +ℤ toZ w64 (ofZ w64 (c .machine-gain .result))))) (ratioOf (now (a .case)) (now (a .rows)) (a .e)) 133000
 ratio c = held (literal (pos 1000) +ʳ gain c) tt
 
-base : (c : tie.After-node) → let a = start (c .before) .args in
-    Held (toZ w64 (ofZ w64 (c .node .result .p0))) (basePressure (now (a .case)) (a .i) (a .u)) 200000
-base c = read (ap (λ (n : Node). n .p0) (c .node .ensures)) (start (c .before) .pre .base) tt
+base : (c : tie.After-node2) → let a = start (c .before) .args in
+    Held (toZ w64 (ofZ w64 (c .node2 .result .p0))) (basePressure (now (a .case)) (a .i) (a .u)) 200000
+base c = read (ap (λ (n : Node). n .p0) (c .node2 .ensures)) (start (c .before) .pre .base) tt
 
 pressure-requires-2 : tie.Need-pressure-requires-2
 pressure-requires-2 c κs = let p = c .before .pre in omega (arith, p .out-node, counted (p .accepted) .nodes)
 
 arc-row-requires : tie.Need-arc-row-requires
-arc-row-requires c κs = let p = c .before .before .before .before .before .before .before .before .pre in (counted (p .accepted), p .arc)
+arc-row-requires c κs = let p = c .before .before .before .before .before .before .before .before .before .pre in (counted (p .accepted), p .arc)
 
 mul-at-most : tie.Need-mul-at-most
-mul-at-most c = held-fits (literal (pos 1000) *ʳ out (c .before .before .before .before .before .before .before .before .before)) tt
+mul-at-most c = held-fits (literal (pos 1000) *ʳ out (c .before .before .before .before .before .before .before .before .before .before)) tt
 
 returns : tie.Need-returns
 unfolding compressionKept
 returns c =
     let d = c .before .before .before .before in
     let t = d .before .before .before in
-    let r = t .before .before .before .before in
+    let r = t .before .before .before .before .before in
     let left = held (literal (pos 1000) *ʳ out (r .before .before)) tt in
     let right = held (base (c .before .before .before) *ʳ ratio d) tt in
     rw (sym (rises (r .before)) ∙ r .if1 .taken, sym (below (t .before)) ∙ t .if2 .taken) (c .at-most3 .ensures ∙ ap₂ leZ (left .val) (right .val))
 
 returns-2 : tie.Need-returns-2
 unfolding compressionKept
-returns-2 c = let r = c .before .before .before .before in rw (sym (rises (r .before)) ∙ r .if1 .taken, sym (below (c .before)) ∙ c .if2 .left)
+returns-2 c = let r = c .before .before .before .before .before in rw (sym (rises (r .before)) ∙ r .if1 .taken, sym (below (c .before)) ∙ c .if2 .left)
 
 returns-3 : tie.Need-returns-3
 unfolding compressionKept
@@ -89,6 +89,7 @@ returns-3 c = rw (sym (rises (c .before)) ∙ c .if1 .left)
 pub compression-kept-spec : {M : Type 1} → statement M
 compression-kept-spec = tie.close (tie.spec
     (λ c κs. omega (arith, c .pre .in-node, counted (c .pre .accepted) .nodes)) pressure-requires-2 (λ c κs. search needs) (λ c κs. search needs)
-    (λ c κs. search needs) (λ c κs. search needs) arc-row-requires (λ c κs. search needs) (λ c. held-fits (literal (pos 1000) +ʳ gain c) tt)
-    mul-at-most (λ c κs. search needs) (λ c. held-fits (base (c .before .before) *ʳ ratio (c .before .before .before)) tt) (λ c κs. search needs)
+    (λ c κs. search needs) (λ c κs. search needs) (λ c κs. search needs) arc-row-requires (λ c κs. search needs)
+    (λ c. held-fits (literal (pos 1000) +ʳ gain c) tt) mul-at-most (λ c κs. search needs)
+    (λ c. held-fits (base (c .before .before) *ʳ ratio (c .before .before .before)) tt) (λ c κs. search needs)
     returns returns-2 returns-3)
