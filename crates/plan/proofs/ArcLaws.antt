@@ -1,12 +1,9 @@
 -- What the functions of one arc share: its ends, the sizes of a pipe's two sides, and the station of a compressing arc.
-use Rattle.plan.proofs.Common.{_≡_, refl, ap, _∙_, Bool, true, false, ℕ, _<_, _≤_, arith, leb, eqb, ℤ, pos, natAbs, _+ℤ_, _-ℤ_, leZ, w64, toZ, ofZ}
+use Rattle.plan.proofs.Common.{_≡_, refl, ap, _∙_, ℕ, _<_, _≤_, arith, ℤ, pos, natAbs, _+ℤ_, _-ℤ_, w64, toZ, ofZ}
 use Rattle.plan.proofs.Common.{Held, literal, _+ʳ_, _-ʳ_, _*ʳ_, counted}
-use mathlib.Core.Bool.{cond}
 use mathlib.Core.List.{List}
-use borrow.Author.Tests.{leb-false, eqb-false}
 use lib.IntN.{_*ℤ_}
 use lib.ListN.{getD}
-use Rattle.numbers.specs.law.Signed.{posPart}
 use Rattle.numbers.specs.inside.SignedBounds.{Bounded}
 use Rattle.numbers.specs.inside.SignedLocals.{loosen}
 use Rattle.numbers.specs.law.Sets.{memberOf}
@@ -18,7 +15,6 @@ use Rattle.case.specs.law.Layout.{numberAt, nodesOf, arcsOf, machineCount}
 use Rattle.case.specs.law.Records.{arcOf, pipeOf, artificialOf, machineRow}
 use Rattle.plan.specs.declared.rows.ArcRow.{ArcRow}
 use Rattle.plan.specs.declared.setting.Way.{Way}
-use Rattle.plan.specs.declared.setting.Way.the-variants.{Forward, Backward}
 use Rattle.plan.specs.declared.setting.Mode.the-variants.{Open, Regulating, Compressing}
 use Rattle.plan.specs.declared.setting.Setting.{Setting}
 use Rattle.plan.specs.declared.setting.Setting.the-variants.{Unknown, Off, Active}

@@ -14,8 +14,8 @@ use Rattle.plan.specs.claims.TableT.{Row, judges, draws, judgesBytes, re
 -- A sink (node 0), an inner node and a source (node 2), which begins at p0; a pipe from 0 to 1 and a compressor from 1 to 2; two steps, of 60 s and 120 s.
 -- The station's directions have node 1 as entry and as exit, its states the compressor off and on. At step 0 it has the first of each. The compressor's out
 -- bound and acthigh of node 1, its out end when it runs backward, are left open.
-abbrev pub backward : (p0 bound acthigh : ℤ) → List ℤ
-backward p0 bound acthigh =
+abbrev pub runsBackward : (p0 bound acthigh : ℤ) → List ℤ
+runsBackward p0 bound acthigh =
     (pos 1 ∷ pos 3 ∷ pos 2 ∷ pos 1 ∷ pos 2 ∷ pos 60 ∷ pos 1 ∷ [])
     ++ ((pos 60 ∷ pos 180 ∷ [])
     ++ ((pos 2 ∷ pos 39997 ∷ pos 30000 ∷ pos 60000 ∷ pos 40000 ∷ pos 59990 ∷ minus 520 ∷ minus 1500 ∷ [])
@@ -31,7 +31,7 @@ backward p0 bound acthigh =
     ++ (pos 2500 ∷ pos 1200 ∷ []))))))))))))
 
 abbrev caseB : (p0 : ℤ) → List ℤ
-caseB p0 = backward p0 (pos 60000) (pos 60000)
+caseB p0 = runsBackward p0 (pos 60000) (pos 60000)
 
 -- From step 1 on the compressor runs backward, so that node 2 is its in end, in the second direction and the second state.
 abbrev pub planB : List ℤ

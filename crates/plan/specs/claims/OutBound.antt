@@ -1,5 +1,5 @@
--- An empty out bound (document 02, P8): "From now on 0 stands for acthigh of the out end in that step", and "A case whose out bounds are all nonzero is
--- judged as before."
+-- An empty out bound (document 02, P8): "From now on 0 stands for acthigh of the out end in that step, in all editions", and "A case whose out bounds are
+-- all nonzero is judged as before": its verdict does not go by what 0 stands for.
 -- Assumes nothing.
 use mathlib.Core.Path.{_≡_, refl, ap, ap₂, _∙_}
 use mathlib.Core.Bool.{Bool, true, false, cond, _&&_}
@@ -14,6 +14,8 @@ use lib.Signed.{leZ}
 use Rattle.numbers.specs.law.Told.{Told, gives, refuses}
 use Rattle.numbers.specs.law.Question.{Question, firstNo}
 use Rattle.numbers.specs.law.Items.{over}
+use Rattle.numbers.specs.law.Signed.{posPart}
+use Rattle.case.specs.law.Field.{mostPressure}
 use Rattle.case.specs.law.Layout.{nodesOf, arcsOf, stationsOf, stepsOf}
 use Rattle.case.specs.law.Records.{nodeOf, arcOf, artificialOf}
 use Rattle.case.specs.law.Judged.{caseQuestions}
@@ -36,59 +38,76 @@ use Rattle.plan.specs.law.Balance.{balanceQuestions, allBalanceQuestions
 use Rattle.plan.specs.law.Step.{stepQuestions}
 use Rattle.plan.specs.law.Totals.{totalsOf}
 use Rattle.plan.specs.law.Judged.{planStep, planQuestions, questions, verdictOf, verdictTold, judgeOf}
+use Rattle.plan.specs.law.RegionFigures.{figuresOf}
+use Rattle.plan.specs.law.Ledger.{regionQuestions, ledgerQuestions, ledgerBy, ledgerTold, ledgerOf}
 use Rattle.plan.specs.inside.SettingLaws.{compressing-five}
 use Rattle.plan.specs.inside.Computed.{law}
-use Rattle.plan.specs.claims.TableT.{Row, judges, AllHold, RowHolds, twoMachines, plan6}
-use Rattle.plan.specs.claims.FurtherRows.{backward, planB}
+use Rattle.plan.specs.claims.TableT.{Row, judges, AllHold, RowHolds, twoMachines, raised, plan6}
+use Rattle.plan.specs.claims.FurtherRows.{runsBackward, planB}
 
 -- ---- 26 and the verdict with another default
 
--- what an out bound of 0 stands for, in the step with index i, at the out end w: `λ i w. pos 200000` in document 01
+-- what an out bound of 0 stands for, in the step with index i, at arc e with the out end w
 abbrev pub Default : Type 0
-Default = (i w : ℕ) → ℤ
+Default = (i e w : ℕ) → ℤ
+
+-- "where 0 means 200,000" (document 01)
+abbrev pub defaultOf01 : Default
+defaultOf01 i e w = mostPressure
+
+-- "acthigh of the out end in that step" (document 02)
+abbrev pub actHigh : List ℤ → Default
+actHigh case i e w = nodeOf case w i .acthigh
 
 -- compressing from the node `u` to the node `w`
-abbrev pub compressionBy : Default → List ℤ → List ℤ → ℕ → ℕ → ℕ → ℕ → Bool
-compressionBy default case rows i e u w =
+abbrev pub compressionWith : Default → List ℤ → List ℤ → ℕ → ℕ → ℕ → ℕ → Bool
+compressionWith default case rows i e u w =
     leZ (pressureIn rows u) (pressureIn rows w)
-    && (leZ (pressureIn rows w) (cond (isZero (artificialOf case e .outbound)) (default i w) (artificialOf case e .outbound))
+    && (leZ (pressureIn rows w) (cond (isZero (artificialOf case e .outbound)) (default i e w) (artificialOf case e .outbound))
     && leZ (pos 1000 *ℤ pressureIn rows w) (basePressure case i u *ℤ ratioOf case rows e))
 
 -- an arc that does not compress is not asked for its out bound
-abbrev pub settingBy : Default → List ℤ → List ℤ → ℕ → ℕ → Setting → Bool
-settingBy default case rows i e Unknown = pressuresKept case rows i e
-settingBy default case rows i e Off = pressuresKept case rows i e
-settingBy default case rows i e (Active way Open) = pressuresKept case rows i e
-settingBy default case rows i e (Active way Regulating) = pressuresKept case rows i e
-settingBy default case rows i e (Active way Compressing) = compressionBy default case rows i e (inEnd way (arcOf case e)) (outEnd way (arcOf case e))
+abbrev pub settingPressuresWith : Default → List ℤ → List ℤ → ℕ → ℕ → Setting → Bool
+settingPressuresWith default case rows i e Unknown = pressuresKept case rows i e
+settingPressuresWith default case rows i e Off = pressuresKept case rows i e
+settingPressuresWith default case rows i e (Active way Open) = pressuresKept case rows i e
+settingPressuresWith default case rows i e (Active way Regulating) = pressuresKept case rows i e
+settingPressuresWith default case rows i e (Active way Compressing) =
+    compressionWith default case rows i e (inEnd way (arcOf case e)) (outEnd way (arcOf case e))
 
 -- 26
-abbrev pub pressuresBy : Default → List ℤ → List ℤ → ℕ → ℕ → Bool
-pressuresBy default case rows i e = settingBy default case rows i e (settingIn case rows e)
+abbrev pub pressuresWith : Default → List ℤ → List ℤ → ℕ → ℕ → Bool
+pressuresWith default case rows i e = settingPressuresWith default case rows i e (settingIn case rows e)
 
 -- a question of the plan: 26 is answered by the default, every other question as it is
-abbrev pub askedBy : Default → List ℤ → List ℤ → Question → Question
-askedBy default case plan q =
+abbrev pub askedWith : Default → List ℤ → List ℤ → Question → Question
+askedWith default case plan q =
     let i = q .step - 1 in
     record {
-      yes = cond (eqb (q .number) 26) (pressuresBy default case (stepRows case plan i) i (q .place)) (q .yes);
+      yes = cond (eqb (q .number) 26) (pressuresWith default case (stepRows case plan i) i (q .place)) (q .yes);
       number = q .number;
       step = q .step;
       place = q .place;
     }
 
--- the questions and the verdict
-abbrev pub questionsBy : Default → List ℤ → List ℤ → List Question
-questionsBy default case plan = caseQuestions case ++ map (askedBy default case plan) (planQuestions case plan)
+-- the questions, the verdict and what the ledger tells
+abbrev pub questionsWith : Default → List ℤ → List ℤ → List Question
+questionsWith default case plan = caseQuestions case ++ map (askedWith default case plan) (planQuestions case plan)
 
-abbrev pub judgedBy : Default → List ℤ → List ℤ → Told
-judgedBy default case plan = verdictTold (verdictOf (firstNo (questionsBy default case plan)) (totalsOf case plan))
+abbrev pub judgedWith : Default → List ℤ → List ℤ → Told
+judgedWith default case plan = verdictTold (verdictOf (firstNo (questionsWith default case plan)) (totalsOf case plan))
+
+abbrev pub ledgerWith : Default → List ℤ → List ℤ → ℤ → ℤ → ℤ → Told
+ledgerWith default case plan set s t =
+    ledgerTold (ledgerBy (firstNo (questionsWith default case plan ++ regionQuestions case set s t)) (figuresOf case plan set (posPart s) (posPart t)))
 
 -- ---- one arc
 
--- a default that is acthigh of the out end wherever arc e has no out bound of its own; arcs of kinds 0 to 4 have none at all
-abbrev pub ActHigh : Default → List ℤ → ℕ → ℕ → Type 0
-ActHigh default case i e = 5 ≤ arcOf case e .kind → artificialOf case e .outbound ≡ pos 0 → (w : ℕ) → default i w ≡ nodeOf case w i .acthigh
+-- a default that is acthigh of the out end, either way, where the out bound of arc e is 0; arcs of kinds 0 to 4 have no out bound
+abbrev IsActHigh : Default → List ℤ → ℕ → ℕ → Type 0
+IsActHigh default case i e =
+    5 ≤ arcOf case e .kind → artificialOf case e .outbound ≡ pos 0 → (way : Way)
+    → default i e (outEnd way (arcOf case e)) ≡ actHigh case i e (outEnd way (arcOf case e))
 
 same-bound : (x default acthigh : ℤ) → (x ≡ pos 0 → default ≡ acthigh) → cond (isZero x) default x ≡ cond (isZero x) acthigh x
 same-bound x default acthigh h = go (isZero x) refl
@@ -97,12 +116,12 @@ same-bound x default acthigh h = go (isZero x) refl
     go true e = h (zero-says x .fact e)
     go false e = refl
 
-pub pressures-alike : (default : Default) (case rows : List ℤ) (i e : ℕ) → ActHigh default case i e
-    → pressuresBy default case rows i e ≡ pressuresKept case rows i e
+pressures-alike : (default : Default) (case rows : List ℤ) (i e : ℕ) → IsActHigh default case i e
+    → pressuresWith default case rows i e ≡ pressuresKept case rows i e
 unfolding pressuresKept compressionKept
 pressures-alike default case rows i e h = go (settingIn case rows e) refl
   where
-    go : (s : Setting) → settingIn case rows e ≡ s → settingBy default case rows i e s ≡ pressuresKept case rows i e
+    go : (s : Setting) → settingIn case rows e ≡ s → settingPressuresWith default case rows i e s ≡ pressuresKept case rows i e
     go Unknown k = refl
     go Off k = refl
     go (Active way Open) k = refl
@@ -113,96 +132,107 @@ pressures-alike default case rows i e h = go (settingIn case rows e) refl
         rw (
           ne-eqb (arcOf case e .kind) 1 (λ o. omega (arith, five, o)),
           k,
-          same-bound (artificialOf case e .outbound) (default i w) (nodeOf case w i .acthigh) (λ z. h five z w),
+          same-bound (artificialOf case e .outbound) (default i e w) (actHigh case i e w) (λ z. h five z way),
         )
 
 -- 26 of an arc whose out bound is not 0 answers as with any default
 pub outbound-given : (default : Default) (case rows : List ℤ) (i e : ℕ) → (5 ≤ arcOf case e .kind → artificialOf case e .outbound ≢ pos 0)
-    → pressuresBy default case rows i e ≡ pressuresKept case rows i e
-outbound-given default case rows i e given = pressures-alike default case rows i e (λ k z w. absurd (given k z))
+    → pressuresWith default case rows i e ≡ pressuresKept case rows i e
+outbound-given default case rows i e given = pressures-alike default case rows i e (λ k z way. absurd (given k z))
 
 -- ---- all questions
 
 -- the questions that a function leaves as they are
-abbrev Left : (Question → Question) → List Question → Type 0
-Left f qs = map f qs ≡ qs
+abbrev Unmoved : (Question → Question) → List Question → Type 0
+Unmoved f qs = map f qs ≡ qs
 
-left-append : (f : Question → Question) (xs ys : List Question) → Left f xs → Left f ys → Left f (xs ++ ys)
-left-append f xs ys h k = map-append f xs ys ∙ ap₂ (λ (x y : List Question). x ++ y) h k
+unmoved-append : (f : Question → Question) (xs ys : List Question) → Unmoved f xs → Unmoved f ys → Unmoved f (xs ++ ys)
+unmoved-append f xs ys h k = map-append f xs ys ∙ ap₂ (λ (x y : List Question). x ++ y) h k
 
-left-over : (f : Question → Question) (g : ℕ → List Question) (j n : ℕ) → ((m : ℕ) → m < n → Left f (g (j + m))) → Left f (over g j n)
-left-over f g j zero h = refl
-left-over f g j (suc n) h =
+unmoved-over : (f : Question → Question) (g : ℕ → List Question) (j n : ℕ) → ((m : ℕ) → m < n → Unmoved f (g (j + m))) → Unmoved f (over g j n)
+unmoved-over f g j zero h = refl
+unmoved-over f g j (suc n) h =
     let z : j + 0 ≡ j = omega arith in
-    left-append f (g j) (over g (suc j) n) (rw z at (h 0 (omega arith)))
-    (left-over f g (suc j) n (λ m l. let y : suc j + m ≡ j + suc m = omega arith in rw y (h (suc m) (omega arith))))
+    unmoved-append f (g j) (over g (suc j) n) (rw z at (h 0 (omega arith)))
+    (unmoved-over f g (suc j) n (λ m l. let y : suc j + m ≡ j + suc m = omega arith in rw y (h (suc m) (omega arith))))
 
-module _ (default : Default) (case plan : List ℤ) (h : (i e : ℕ) → e < arcsOf case → ActHigh default case i e) where
+module _ (default : Default) (case plan : List ℤ) (h : (i e : ℕ) → e < arcsOf case → IsActHigh default case i e) where
   abbrev put : Question → Question
-  put = askedBy default case plan
+  put = askedWith default case plan
 
-  arc-left : (i e : ℕ) → e < arcsOf case → Left put (arcQuestions case (pressureAt case plan i) (stepRows case plan i) i e)
+  arc-unmoved : (i e : ℕ) → e < arcsOf case → Unmoved put (arcQuestions case (pressureAt case plan i) (stepRows case plan i) i e)
   unfolding arcQuestions flowQuestions pressureQuestions pipeQuestions
-  arc-left i e l = let z : i + 1 - 1 ≡ i = omega arith in rw (z, pressures-alike default case (stepRows case plan i) i e (h i e l))
+  arc-unmoved i e l = let z : i + 1 - 1 ≡ i = omega arith in rw (z, pressures-alike default case (stepRows case plan i) i e (h i e l))
 
-  step-left : (i : ℕ) → Left put (planStep case plan i)
+  step-unmoved : (i : ℕ) → Unmoved put (planStep case plan i)
   unfolding planStep stepQuestions allNodeQuestions nodeQuestions allArcQuestions allStationQuestions stationQuestions allBalanceQuestions balanceQuestions
-  step-left i =
+  step-unmoved i =
       let rows = stepRows case plan i in
       let old = pressureAt case plan i in
-      left-append put (allNodeQuestions case rows i) _
-      (left-over put (nodeQuestions case rows i) 0 (nodesOf case) (λ v l. refl))
-      (left-append put (allArcQuestions case old rows i) _
-      (left-over put (arcQuestions case old rows i) 0 (arcsOf case) (λ e l. arc-left i (0 + e) (omega (arith, l))))
-      (left-append put (allStationQuestions case rows i) _
-      (left-over put (stationQuestions case rows i) 0 (stationsOf case) (λ s l. refl))
-      (left-over put (balanceQuestions case rows i) 0 (nodesOf case) (λ v l. refl))))
+      unmoved-append put (allNodeQuestions case rows i) _
+      (unmoved-over put (nodeQuestions case rows i) 0 (nodesOf case) (λ v l. refl))
+      (unmoved-append put (allArcQuestions case old rows i) _
+      (unmoved-over put (arcQuestions case old rows i) 0 (arcsOf case) (λ e l. arc-unmoved i (0 + e) (omega (arith, l))))
+      (unmoved-append put (allStationQuestions case rows i) _
+      (unmoved-over put (stationQuestions case rows i) 0 (stationsOf case) (λ s l. refl))
+      (unmoved-over put (balanceQuestions case rows i) 0 (nodesOf case) (λ v l. refl))))
 
-  -- what goes by the questions goes by them as they are, the ledger and the call on two byte strings too
-  pub questions-alike : questionsBy default case plan ≡ questions case plan
+  questions-alike : questionsWith default case plan ≡ questions case plan
   unfolding questions planQuestions
   questions-alike =
-      let steps = left-over put (planStep case plan) 0 (stepsOf case) (λ i l. step-left (0 + i)) in
+      let steps = unmoved-over put (planStep case plan) 0 (stepsOf case) (λ i l. step-unmoved (0 + i)) in
       ap (λ (qs : List Question). caseQuestions case ++ (headQuestion case plan ∷ qs)) steps
 
-  judged-alike : judgedBy default case plan ≡ judgeOf case plan
+  judged-alike : judgedWith default case plan ≡ judgeOf case plan
   unfolding judgeOf
   judged-alike = rw questions-alike
 
--- ---- the verdict
+-- ---- the verdict and the ledger
 
--- "0 stands for acthigh of the out end in that step": with that default the verdict is the law's, on every case
-pub judged-by-acthigh : (case plan : List ℤ) → judgedBy (λ i w. nodeOf case w i .acthigh) case plan ≡ judgeOf case plan
-judged-by-acthigh case plan = judged-alike (λ i w. nodeOf case w i .acthigh) case plan (λ i e l k z w. refl)
+-- with acthigh of the out end as the default the verdict is the law's, on every case
+pub judged-by-acthigh : (case plan : List ℤ) → judgedWith (actHigh case) case plan ≡ judgeOf case plan
+judged-by-acthigh case plan = judged-alike (actHigh case) case plan (λ i e l k z way. refl)
 
 -- the out bounds of a case are all nonzero
-abbrev pub BoundsGiven : List ℤ → Type 0
-BoundsGiven case = (e : ℕ) → e < arcsOf case → 5 ≤ arcOf case e .kind → artificialOf case e .outbound ≢ pos 0
+abbrev pub OutBoundsGiven : List ℤ → Type 0
+OutBoundsGiven case = (e : ℕ) → e < arcsOf case → 5 ≤ arcOf case e .kind → artificialOf case e .outbound ≢ pos 0
 
--- "A case whose out bounds are all nonzero is judged as before": the verdict on any plan is the one with any default
-pub judged-as-before : (default : Default) (case plan : List ℤ) → BoundsGiven case → judgedBy default case plan ≡ judgeOf case plan
-judged-as-before default case plan given = judged-alike default case plan (λ i e l k z w. absurd (given e l k z))
+module _ (default : Default) (case plan : List ℤ) (given : OutBoundsGiven case) where
+  acthigh-given : (i e : ℕ) → e < arcsOf case → IsActHigh default case i e
+  acthigh-given i e l k z way = absurd (given e l k z)
+
+  -- "A case whose out bounds are all nonzero is judged as before": whatever the default, the verdict on any plan is the same
+  pub judged-as-before : judgedWith default case plan ≡ judgeOf case plan
+  judged-as-before = judged-alike default case plan acthigh-given
+
+  -- and so is what the ledger tells
+  pub ledger-as-before : (set s t : ℤ) → ledgerWith default case plan set s t ≡ ledgerOf case plan set s t
+  unfolding ledgerOf ledgerQuestions
+  ledger-as-before set s t = rw (questions-alike default case plan acthigh-given)
 
 -- ---- rows: the case of table T's row 6 with other bounds, and a compressor that runs backward, whose out end is its from node
 
-unfoldable pub boundRows : List Row
-boundRows =
-    -- 0 stands for acthigh of the out end: 59,999 lets 60,000 through no more, 60,000 does
-    judges (twoMachines (pos 0) (pos 59999)) (plan6 (pos 60000)) (refuses 26 1 0)
-    ∷ judges (twoMachines (pos 0) (pos 60000)) (plan6 (pos 60000)) (gives (pos 0 ∷ pos 0 ∷ pos 7 ∷ pos 0 ∷ pos 0 ∷ pos 0 ∷ []))
-    -- a bound that is given is not cut to acthigh
-    ∷ judges (twoMachines (pos 60000) (pos 59999)) (plan6 (pos 60000)) (gives (pos 0 ∷ pos 0 ∷ pos 7 ∷ pos 0 ∷ pos 0 ∷ pos 0 ∷ []))
-    -- the same backward, where the in end has acthigh 60,000
-    ∷ judges (backward (pos 50000) (pos 0) (pos 59999)) planB (refuses 26 1 1)
-    ∷ judges (backward (pos 50000) (pos 0) (pos 60000)) planB (gives (pos 614 ∷ pos 30 ∷ pos 2207 ∷ pos 120 ∷ pos 239991 ∷ pos 359991 ∷ []))
+unfoldable pub outBoundRows : List Row
+outBoundRows =
+    -- 0 stands for acthigh of the out end: 59,999 does not let 60,000 through, 60,000 does
+    judges (twoMachines (pos 0) (pos 0) (pos 59999)) (plan6 (pos 60000)) (refuses 26 1 0)
+    ∷ judges (twoMachines (pos 0) (pos 0) (pos 60000)) (plan6 (pos 60000)) (gives (pos 0 ∷ pos 0 ∷ pos 7 ∷ pos 0 ∷ pos 0 ∷ pos 0 ∷ []))
+    -- at a sink the slack u- does not lift it
+    ∷ judges (twoMachines (pos 2) (pos 0) (pos 59999)) (raised (pos 60000) (pos 1)) (refuses 26 1 0)
+    -- a bound that is given counts alone, above acthigh and below it
+    ∷ judges (twoMachines (pos 0) (pos 60000) (pos 59999)) (plan6 (pos 60000)) (gives (pos 0 ∷ pos 0 ∷ pos 7 ∷ pos 0 ∷ pos 0 ∷ pos 0 ∷ []))
+    ∷ judges (twoMachines (pos 0) (pos 59999) (pos 60000)) (plan6 (pos 60000)) (refuses 26 1 0)
+    -- 0 backward, where acthigh of the in end is 60,000
+    ∷ judges (runsBackward (pos 50000) (pos 0) (pos 59999)) planB (refuses 26 1 1)
+    ∷ judges (runsBackward (pos 50000) (pos 0) (pos 60000)) planB (gives (pos 614 ∷ pos 30 ∷ pos 2207 ∷ pos 120 ∷ pos 239991 ∷ pos 359991 ∷ []))
     ∷ []
 
-pub bounds : AllHold boundRows
-unfolding AllHold RowHolds boundRows law
-bounds = (refl, (refl, (refl, (refl, (refl, tt)))))
+pub outBounds : AllHold outBoundRows
+unfolding AllHold RowHolds outBoundRows law
+outBounds = (refl, (refl, (refl, (refl, (refl, (refl, (refl, tt)))))))
 
 -- the first of them is accepted with document 01's default
-pub accepted-before : judgedBy (λ i w. pos 200000) (twoMachines (pos 0) (pos 59999)) (plan6 (pos 60000))
+pub accepted-before : judgedWith defaultOf01 (twoMachines (pos 0) (pos 0) (pos 59999)) (plan6 (pos 60000))
     ≡ gives (pos 0 ∷ pos 0 ∷ pos 7 ∷ pos 0 ∷ pos 0 ∷ pos 0 ∷ [])
 unfolding law
 accepted-before = refl

@@ -63,12 +63,12 @@ planP b =
     ++ ((pos 50998 ∷ minus 900 ∷ pos 0 ∷ pos 0 ∷ pos 0 ∷ pos 0 ∷ [])
     ++ (pos 1100 ∷ b ∷ pos 0 ∷ pos 0 ∷ [])))
 
--- a compressor with two machines, its out bound, and acthigh of its out end
-abbrev pub twoMachines : (bound acthigh : ℤ) → List ℤ
-twoMachines bound acthigh =
+-- a compressor with two machines: the kind of its out end, its out bound, and acthigh of its out end
+abbrev pub twoMachines : (kind bound acthigh : ℤ) → List ℤ
+twoMachines kind bound acthigh =
     (pos 1 ∷ pos 2 ∷ pos 1 ∷ pos 1 ∷ pos 1 ∷ pos 0 ∷ pos 0 ∷ pos 60 ∷ [])
     ++ ((pos 0 ∷ pos 40000 ∷ pos 0 ∷ pos 200000 ∷ pos 0 ∷ pos 200000 ∷ pos 0 ∷ [])
-    ++ ((pos 0 ∷ pos 40000 ∷ pos 0 ∷ pos 200000 ∷ pos 0 ∷ acthigh ∷ pos 0 ∷ [])
+    ++ ((kind ∷ pos 40000 ∷ pos 0 ∷ pos 200000 ∷ pos 0 ∷ acthigh ∷ pos 0 ∷ [])
     ++ ((pos 5 ∷ pos 0 ∷ pos 1 ∷ pos 1000 ∷ pos 0 ∷ pos 0 ∷ pos 7 ∷ pos 0 ∷ pos 3 ∷ pos 2 ∷ bound ∷ [])
     ++ ((pos 1 ∷ pos 1 ∷ pos 2 ∷ pos 0 ∷ pos 0 ∷ [])
     ++ ((pos 0 ∷ pos 0 ∷ pos 0 ∷ pos 1 ∷ pos 0 ∷ pos 0 ∷ pos 0 ∷ [])
@@ -76,15 +76,18 @@ twoMachines bound acthigh =
 
 -- "In end with p0 and p 40,000, out bound 200,000, machines 1,200 and 1,300"
 abbrev pub case6 : List ℤ
-case6 = twoMachines (pos 200000) (pos 200000)
+case6 = twoMachines (pos 0) (pos 200000) (pos 200000)
 
--- its out end at the pressure `out`
-abbrev pub plan6 : (out : ℤ) → List ℤ
-plan6 out =
+-- its out end at the pressure `out`, with the slack u-
+abbrev pub raised : (out uminus : ℤ) → List ℤ
+raised out uminus =
     (pos 1 ∷ pos 1 ∷ [])
     ++ ((pos 40000 ∷ pos 0 ∷ pos 0 ∷ pos 0 ∷ pos 0 ∷ pos 0 ∷ [])
-    ++ ((out ∷ pos 0 ∷ pos 0 ∷ pos 0 ∷ pos 0 ∷ pos 0 ∷ [])
+    ++ ((out ∷ pos 0 ∷ pos 0 ∷ pos 0 ∷ pos 0 ∷ uminus ∷ [])
     ++ (pos 0 ∷ pos 0 ∷ pos 1 ∷ pos 3 ∷ pos 0 ∷ pos 0 ∷ [])))
+
+abbrev pub plan6 : (out : ℤ) → List ℤ
+plan6 out = raised out (pos 0)
 
 -- ---- the table
 
