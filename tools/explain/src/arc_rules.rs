@@ -1,13 +1,16 @@
 //! The questions 24 to 27 of an arc in a step.
 
 use gasplan_text::model::{
-    Arc, COMBINED, Machine, PIPE, Plan, REGULATING, REGULATOR, SHORTCUT, VALVE,
+    Arc, COMBINED, Machine, Node, PIPE, Plan, REGULATING, REGULATOR, SHORTCUT, VALVE,
 };
 use gasplan_text::words;
 
 use crate::amount::{Amount, FLOW, MACHINE, MBAR};
 use crate::bound::Bound;
-use crate::check::{Check, at_least, at_most, check, same, subset, sum, wide, within, zero};
+use crate::check::{Check, Side, at_least, at_most, check, same, subset, sum, wide, within, zero};
+
+const EMPTY_BOUND: &str =
+    "an out bound of 0 stands for acthigh of the out end, and the slack u- does not widen it";
 
 /// What an arc does with the pressures of its ends.
 #[derive(Clone, Copy, PartialEq, Eq)]
@@ -154,15 +157,27 @@ pub fn rule_26(plan: &Plan, step: usize, index: usize) -> Vec<Check> {
     }
 }
 
+/// The out bound, or what an empty one stands for.
+fn bounded(arc: &Arc, out_end: &Node, side: Side) -> Check {
+    let under = |name: &str, most: i64| {
+        let bound = format!("{name} {most}");
+        at_most(side, (&bound, wide(most)), MBAR).margin(Bound::OutBound)
+    };
+    match arc.out_bound() {
+        Some(most) => under("the out bound", most),
+        None => under("its acthigh", out_end.acthigh)
+            .because("the out bound is 0")
+            .and(EMPTY_BOUND.to_string()),
+    }
+}
+
 /// How far a compressing arc can raise the pressure.
 fn reach(plan: &Plan, step: usize, index: usize, in_end: usize, out_end: usize) -> Vec<Check> {
     let p_out = plan.pressure(step, out_end);
     let side = format!("p at the out end, node {out_end}, = {p_out}");
     let side = (side.as_str(), wide(p_out));
-    let most = plan.case.arcs[index].out_bound();
-    let bound = format!("the out bound {most}");
-    let bounded = at_most(side, (&bound, wide(most)), MBAR);
-    let mut checks = vec![bounded.margin(Bound::OutBound)];
+    let (arc, node) = (&plan.case.arcs[index], &plan.case.nodes[out_end]);
+    let mut checks = vec![bounded(arc, node, side)];
     let Some(machines) = machines(plan, step, index) else {
         return checks;
     };

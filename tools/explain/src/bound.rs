@@ -53,7 +53,9 @@ impl Bound {
             Bound::Flow => "flow within qmax",
             Bound::Falling => "no rise of pressure over a regulator or a regulating arc",
             Bound::Rising => "no fall of pressure over a compressing arc",
-            Bound::OutBound => "p at the out end at most the out bound, compressing",
+            Bound::OutBound => {
+                "p at the out end at most the out bound, or its acthigh where that is 0, compressing"
+            }
             Bound::Reach => "p at the out end at most what the machines reach, compressing",
             Bound::MostMachines => "machines on at most the most machines, compressing",
             Bound::MachineFlow => "flow at most what the machines take, compressing",

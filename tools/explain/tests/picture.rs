@@ -75,6 +75,7 @@ fn all_items_are_drawn() {
 fn the_refused_item_is_marked() {
     let marked = [
         ("incident", "station 0"),
+        ("empty-bound", "arc 0"),
         ("crowd", "station 0"),
         ("two-nodes --change plan 'step 1 arc 0 b' 901", "arc 0"),
         ("two-nodes --change plan 'step 1 node 1 p' 44999", "node 1"),

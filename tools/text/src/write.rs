@@ -22,7 +22,7 @@ pub fn case(list: &[i64]) -> String {
     let mut text = String::from("case\n");
     let case = Case::of(list);
     let heading = |at: usize, field: &Field| case_heading(&list[at..], field);
-    let comment = |field: &Field, number| arcs_comment(case.as_ref(), field, number);
+    let comment = |field: &Field, number| case_comment(case.as_ref(), field, number);
     put(
         &mut text,
         list,
@@ -130,6 +130,13 @@ fn case_heading(list: &[i64], field: &Field) -> String {
             _ => field.part.to_string(),
         },
         (part, _) => part.to_string(),
+    }
+}
+
+fn case_comment(case: Option<&Case>, field: &Field, number: i64) -> Option<String> {
+    match (field.name, number) {
+        ("out-bound", 0) => Some("0 stands for acthigh of the out end".to_string()),
+        _ => arcs_comment(case, field, number),
     }
 }
 

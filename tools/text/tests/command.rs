@@ -62,6 +62,22 @@ fn a_case_shows_its_parts() {
 }
 
 #[test]
+fn an_empty_out_bound_says_what_it_stands_for() {
+    let said = |name: &str| {
+        let done = run(&["to-text", "case", &example(name)]);
+        String::from_utf8_lossy(&done.stdout).into_owned()
+    };
+    let empty = said("empty-bound/case.bin");
+    let line = "out-bound 0                 # mbar, 0 stands for acthigh of the out end\n";
+    assert!(empty.contains(line), "{empty}");
+    let given = said("line/case.bin");
+    assert!(
+        given.contains("out-bound 66000             # mbar\n"),
+        "{given}"
+    );
+}
+
+#[test]
 fn a_bad_text_is_pointed_at() {
     let folder = Path::new(env!("CARGO_TARGET_TMPDIR")).join("bad");
     fs::create_dir_all(&folder).expect("a folder to write into");

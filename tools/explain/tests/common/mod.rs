@@ -11,7 +11,14 @@ use explain::request::Request;
 use explain::{Explanation, Input};
 use gasplan::{Refusal, write_all};
 
-pub const EXAMPLES: [&str; 5] = ["two-nodes", "line", "day", "incident", "crowd"];
+pub const EXAMPLES: [&str; 6] = [
+    "two-nodes",
+    "line",
+    "day",
+    "incident",
+    "empty-bound",
+    "crowd",
+];
 
 pub fn root() -> PathBuf {
     Path::new(env!("CARGO_MANIFEST_DIR")).join("../..")

@@ -2,9 +2,6 @@
 
 use super::{COMBINED, COMPRESSOR, PIPE, SHORTCUT, VALVE};
 
-/// The pressure that an out bound of 0 stands for.
-const MOST_PRESSURE: i64 = 200_000;
-
 pub struct Node {
     pub kind: i64,
     pub p0: i64,
@@ -148,11 +145,9 @@ impl Arc {
         self.more[5]
     }
 
-    pub fn out_bound(&self) -> i64 {
-        match self.more[6] {
-            0 => MOST_PRESSURE,
-            bound => bound,
-        }
+    /// None where the field is 0, which stands for acthigh of the out end.
+    pub fn out_bound(&self) -> Option<i64> {
+        Some(self.more[6]).filter(|&bound| bound != 0)
     }
 }
 
