@@ -190,14 +190,6 @@ impl Arc {
             (self.from, self.to)
         }
     }
-
-    /// What the out bound field means.
-    pub fn out_bound(&self) -> i64 {
-        match self.more[OUT_BOUND] {
-            0 => MOST_PRESSURE,
-            bound => bound,
-        }
-    }
 }
 
 /// Even settings above 0 are the backward ones.
@@ -264,6 +256,25 @@ impl Pair {
         match step {
             0 => self.case.nodes[node].p0,
             _ => self.node(step, node).p,
+        }
+    }
+
+    /// The arc's in and out end in this step.
+    pub fn ends(&self, step: usize, arc: usize) -> (usize, usize) {
+        self.case.arcs[arc].ends(self.arc(step, arc).setting)
+    }
+
+    /// The out pressure of an arc that compresses in this step.
+    pub fn compressed(&self, step: usize, arc: usize) -> Option<i64> {
+        let compresses = self.case.arcs[arc].compresses(self.arc(step, arc).setting);
+        compresses.then(|| self.pressure(step, self.ends(step, arc).1))
+    }
+
+    /// What the arc's out bound means in this step: 0 stands for acthigh of the out end.
+    pub fn out_bound(&self, step: usize, arc: usize) -> i64 {
+        match self.case.arcs[arc].more[OUT_BOUND] {
+            0 => self.case.nodes[self.ends(step, arc).1].acthigh,
+            bound => bound,
         }
     }
 }

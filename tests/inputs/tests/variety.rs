@@ -5,8 +5,8 @@ use std::collections::BTreeMap;
 use inputs::Rng;
 use inputs::generate::{Size, accepted, of_size};
 use inputs::model::{
-    Arc, ArcRow, BOTH_WAYS, C, COMBINED, COMPRESSOR, F, G, H, MOST_FLOW, MOST_PRESSURE, NodeRow,
-    PIPE, Pair, REGULATING, REGULATOR, SHORTCUT, VALVE, is_backward,
+    Arc, ArcRow, BOTH_WAYS, C, COMBINED, COMPRESSOR, F, G, H, INNER, MOST_FLOW, MOST_PRESSURE,
+    NodeRow, OUT_BOUND, PIPE, Pair, REGULATING, REGULATOR, SHORTCUT, VALVE, is_backward,
 };
 
 const PAIRS: u64 = 1_500;
@@ -126,6 +126,26 @@ fn note_artificial(counts: &mut Counts, name: &str, arc: &Arc, row: ArcRow) {
     }
 }
 
+/// Compressing with an empty out bound: what the out end is, and whether its acthigh is reached and is not high.
+fn note_empty_bound(counts: &mut Counts, pair: &Pair, step: usize, arc: usize) {
+    let out = pair.compressed(step, arc);
+    let out = out.filter(|_| pair.case.arcs[arc].more[OUT_BOUND] == 0);
+    let backward = is_backward(pair.arc(step, arc).setting);
+    let node = &pair.case.nodes[pair.ends(step, arc).1];
+    let no_demand = node.kind != INNER && node.demands[step - 1] == 0;
+    let tight = out == Some(node.acthigh) && node.acthigh < node.high;
+    for (way, is_way) in [("forward", !backward), ("backward", backward)] {
+        let mut note = |part: &str, occurs: bool| {
+            let occurs = occurs && is_way && out.is_some();
+            note(counts, format!("empty bound {way} {part}"), occurs);
+        };
+        note("inner", node.kind == INNER);
+        note("boundary", node.kind != INNER);
+        note("without demand", no_demand);
+        note("tight", tight);
+    }
+}
+
 #[test]
 fn everything_occurs() {
     let mut counts = Counts::new();
@@ -136,8 +156,9 @@ fn everything_occurs() {
             for (row, node) in step.nodes.iter().zip(&pair.case.nodes) {
                 note_node(&mut counts, node.kind, *row, node.demands[index]);
             }
-            for (row, arc) in step.arcs.iter().zip(&pair.case.arcs) {
-                note_arc(&mut counts, arc, *row);
+            for (arc, row) in step.arcs.iter().enumerate() {
+                note_arc(&mut counts, &pair.case.arcs[arc], *row);
+                note_empty_bound(&mut counts, &pair, index + 1, arc);
             }
         }
     }

@@ -84,6 +84,7 @@ pub struct Artificial {
 pub struct Machinery {
     pub set: i64,
     pub most: i64,
+    /// As written: 0 leaves the bound to 26.
     pub out_bound: i64,
 }
 

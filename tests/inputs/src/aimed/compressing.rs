@@ -3,7 +3,7 @@
 use super::arcs::{find_arc, find_row};
 use super::{Aimed, aimed, first_step, holds};
 use crate::model::{
-    Arc, BOTH_WAYS, COMBINED, MACHINES, MOST, MOST_FLOW, OUT_BOUND, PIPE, Pair, REGULATING,
+    Arc, BOTH_WAYS, COMBINED, INNER, MACHINES, MOST, MOST_FLOW, OUT_BOUND, PIPE, Pair, REGULATING,
     REGULATOR, SHORTCUT, VALVE, is_backward,
 };
 use crate::rng::Rng;
@@ -96,15 +96,6 @@ pub fn aim_26_compressing(rng: &mut Rng, pair: &Pair) -> Option<Aimed> {
     aimed(&pair, 26, step, arc)
 }
 
-/// The out pressure of an arc that is compressing in this step.
-fn compressed(pair: &Pair, step: usize, arc: usize) -> Option<i64> {
-    let it = &pair.case.arcs[arc];
-    let setting = pair.arc(step, arc).setting;
-    let (_, out_end) = it.ends(setting);
-    let compresses = it.compresses(setting);
-    compresses.then(|| pair.pressure(step, out_end))
-}
-
 pub fn aim_26_out_bound(rng: &mut Rng, pair: &Pair) -> Option<Aimed> {
     out_bound(rng, pair, |_| true)
 }
@@ -114,26 +105,79 @@ pub fn aim_26_out_bound_backward(rng: &mut Rng, pair: &Pair) -> Option<Aimed> {
     out_bound(rng, pair, is_backward)
 }
 
-/// Lowers an out bound to one mbar below what a step reaches; 0 would mean no bound.
+/// Lowers an out bound to one mbar below what a step reaches; 0 would leave it to acthigh.
 fn out_bound(rng: &mut Rng, pair: &Pair, wanted: fn(i64) -> bool) -> Option<Aimed> {
     let mut pair = pair.clone();
     let test = |step: usize, arc: usize, _: &Arc| {
-        let high = compressed(&pair, step, arc).is_some_and(|out| out > 1);
+        let high = pair.compressed(step, arc).is_some_and(|out| out > 1);
         high && wanted(pair.arc(step, arc).setting)
     };
     let (step, arc) = find_row(rng, &pair, test)?;
-    let bound = compressed(&pair, step, arc)? - 1;
-    pair.case.arcs[arc].more[OUT_BOUND] = bound;
-    let first = first_step(&pair, |step| {
-        compressed(&pair, step, arc).is_some_and(|out| out > bound)
-    })?;
-    aimed(&pair, 26, first, arc)
+    pair.case.arcs[arc].more[OUT_BOUND] = pair.compressed(step, arc)? - 1;
+    let (step, arc) = first_above_bound(&pair)?;
+    aimed(&pair, 26, step, arc)
+}
+
+/// Only on forward arcs, where the out end is to.
+pub fn aim_26_empty_bound(rng: &mut Rng, pair: &Pair) -> Option<Aimed> {
+    empty_bound(rng, pair, |setting| !is_backward(setting))
+}
+
+pub fn aim_26_empty_bound_backward(rng: &mut Rng, pair: &Pair) -> Option<Aimed> {
+    empty_bound(rng, pair, is_backward)
+}
+
+/// Empties an out bound and puts acthigh of its out end one mbar below what a step reaches.
+fn empty_bound(rng: &mut Rng, pair: &Pair, wanted: fn(i64) -> bool) -> Option<Aimed> {
+    let mut pair = pair.clone();
+    let test = |step: usize, arc: usize, _: &Arc| {
+        let low = pair.case.nodes[pair.ends(step, arc).1].low;
+        let high = pair.compressed(step, arc).is_some_and(|out| out > low);
+        high && wanted(pair.arc(step, arc).setting)
+    };
+    let (step, arc) = find_row(rng, &pair, test)?;
+    let (_, out_end) = pair.ends(step, arc);
+    let acthigh = pair.compressed(step, arc)? - 1;
+    pair.case.arcs[arc].more[OUT_BOUND] = 0;
+    set_acthigh(&mut pair, out_end, acthigh);
+    let (step, arc) = first_above_bound(&pair)?;
+    aimed(&pair, 26, step, arc)
+}
+
+/// Gives the node another acthigh, and a boundary node the slacks that 23 then asks for.
+fn set_acthigh(pair: &mut Pair, node: usize, acthigh: i64) {
+    let limits = &mut pair.case.nodes[node];
+    let actlow = limits.actlow.min(acthigh);
+    (limits.actlow, limits.acthigh) = (actlow, acthigh);
+    if limits.kind == INNER {
+        return;
+    }
+    for step in &mut pair.plan.steps {
+        let row = &mut step.nodes[node];
+        row.u_plus = (actlow - row.p).max(0);
+        row.u_minus = (row.p - acthigh).max(0);
+    }
+}
+
+/// The first step and arc whose out pressure is above the out bound.
+pub(super) fn first_above_bound(pair: &Pair) -> Option<(usize, usize)> {
+    first_arc(pair, |step, arc| {
+        let out = pair.compressed(step, arc);
+        out.is_some_and(|out| out > pair.out_bound(step, arc))
+    })
+}
+
+/// The first step in which the test holds for an arc, and the first such arc.
+fn first_arc(pair: &Pair, test: impl Fn(usize, usize) -> bool) -> Option<(usize, usize)> {
+    let rows = |step| (0..pair.case.arcs.len()).map(move |arc| (step, arc));
+    let mut rows = (1..=pair.steps()).flat_map(rows);
+    rows.find(|&(step, arc)| test(step, arc))
 }
 
 /// 1,000 × out less p0 of the in end × (1,000 + what the machines add), if compressing.
 fn overreach(pair: &Pair, step: usize, arc: usize) -> Option<i64> {
-    let out = compressed(pair, step, arc)?;
-    let (in_end, _) = pair.case.arcs[arc].ends(pair.arc(step, arc).setting);
+    let out = pair.compressed(step, arc)?;
+    let (in_end, _) = pair.ends(step, arc);
     let p0 = pair.case.nodes[in_end].p0;
     Some(1_000 * out - p0 * ratio(pair, step, arc))
 }
@@ -157,7 +201,7 @@ fn named_machines(pair: &Pair, step: usize, arc: usize) -> impl Iterator<Item = 
 pub fn aim_26_ratio(rng: &mut Rng, pair: &Pair) -> Option<Aimed> {
     let mut pair = pair.clone();
     let test = |step: usize, arc: usize, _: &Arc| {
-        compressed(&pair, step, arc).is_some() && pair.arc(step, arc).machines != 0
+        pair.compressed(step, arc).is_some() && pair.arc(step, arc).machines != 0
     };
     let (step, arc) = find_row(rng, &pair, test)?;
     while overreach(&pair, step, arc)? <= 0 {
@@ -177,21 +221,17 @@ pub fn aim_26_p0(rng: &mut Rng, pair: &Pair) -> Option<Aimed> {
         let mut pipes = pair.case.arcs.iter().filter(|it| it.kind == PIPE);
         pipes.any(|it| it.from == node || it.to == node)
     };
-    let test = |step: usize, arc: usize, it: &Arc| {
-        let (in_end, _) = it.ends(pair.arc(step, arc).setting);
-        compressed(&pair, step, arc).is_some_and(|out| out > 0) && !has_pipe(in_end)
+    let test = |step: usize, arc: usize, _: &Arc| {
+        let (in_end, _) = pair.ends(step, arc);
+        pair.compressed(step, arc).is_some_and(|out| out > 0) && !has_pipe(in_end)
     };
     let (step, arc) = find_row(rng, &pair, test)?;
-    let (in_end, _) = pair.case.arcs[arc].ends(pair.arc(step, arc).setting);
-    let needed = 1_000 * compressed(&pair, step, arc)? - 1;
+    let (in_end, _) = pair.ends(step, arc);
+    let needed = 1_000 * pair.compressed(step, arc)? - 1;
     pair.case.nodes[in_end].p0 = needed / ratio(&pair, step, arc);
-    for step in 1..=pair.steps() {
-        let fails = |&arc: &usize| overreach(&pair, step, arc).is_some_and(|over| over > 0);
-        if let Some(first) = (0..pair.case.arcs.len()).find(fails) {
-            return aimed(&pair, 26, step, first);
-        }
-    }
-    None
+    let fails = |step, arc| overreach(&pair, step, arc).is_some_and(|over| over > 0);
+    let (step, arc) = first_arc(&pair, fails)?;
+    aimed(&pair, 26, step, arc)
 }
 
 pub fn aim_27_idle(rng: &mut Rng, pair: &Pair) -> Option<Aimed> {
@@ -210,7 +250,7 @@ pub fn aim_27_idle(rng: &mut Rng, pair: &Pair) -> Option<Aimed> {
 pub fn aim_27_most(rng: &mut Rng, pair: &Pair) -> Option<Aimed> {
     let mut pair = pair.clone();
     let count = |pair: &Pair, step: usize, arc: usize| {
-        let compresses = compressed(pair, step, arc).is_some();
+        let compresses = pair.compressed(step, arc).is_some();
         let count = pair.arc(step, arc).machines.count_ones();
         if compresses { i64::from(count) } else { 0 }
     };
@@ -224,7 +264,7 @@ pub fn aim_27_most(rng: &mut Rng, pair: &Pair) -> Option<Aimed> {
 
 pub fn aim_27_flow(rng: &mut Rng, pair: &Pair) -> Option<Aimed> {
     let mut pair = pair.clone();
-    let test = |step: usize, arc: usize, _: &Arc| compressed(&pair, step, arc).is_some();
+    let test = |step: usize, arc: usize, _: &Arc| pair.compressed(step, arc).is_some();
     let (step, arc) = find_row(rng, &pair, test)?;
     let capacity: i64 = named_machines(&pair, step, arc).map(|[flow, _]| flow).sum();
     let flow = capacity + 1;

@@ -71,6 +71,11 @@ pub const AIMS: &[(&str, Aim)] = &[
         "26 out bound, backward",
         compressing::aim_26_out_bound_backward,
     ),
+    ("26 empty out bound", compressing::aim_26_empty_bound),
+    (
+        "26 empty out bound, backward",
+        compressing::aim_26_empty_bound_backward,
+    ),
     ("26 too few machines", compressing::aim_26_ratio),
     ("26 p0 of the in end", compressing::aim_26_p0),
     ("27 machines without compressing", compressing::aim_27_idle),

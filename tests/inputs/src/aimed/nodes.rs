@@ -1,5 +1,6 @@
 //! Aimed changes at nodes: 21 to 23, and 33.
 
+use super::compressing::first_above_bound;
 use super::sides::left_33;
 use super::{Aimed, aimed, find, first_step};
 use crate::model::{F, G, INNER, MOST_FLOW, NodeRow, PIPE, Pair, SOURCE, VALVE};
@@ -141,7 +142,8 @@ pub fn aim_23_actlow(rng: &mut Rng, pair: &Pair) -> Option<Aimed> {
     aimed(&pair, 23, first, node)
 }
 
-/// Lowers the active range's high end below what a step reaches.
+/// Lowers the active range's high end below what a step reaches; where an empty out bound falls with it in an earlier
+/// step, 26 would be the first "no".
 pub fn aim_23_acthigh(rng: &mut Rng, pair: &Pair) -> Option<Aimed> {
     let mut pair = pair.clone();
     let reach = |pair: &Pair, step: usize, node: usize| {
@@ -156,7 +158,8 @@ pub fn aim_23_acthigh(rng: &mut Rng, pair: &Pair) -> Option<Aimed> {
     pair.case.nodes[node].acthigh = acthigh;
     let fails = |step| has_demand(&pair, step, node) && reach(&pair, step, node) > acthigh;
     let first = first_step(&pair, fails)?;
-    aimed(&pair, 23, first, node)
+    let earlier = first_above_bound(&pair).is_some_and(|(step, _)| step < first);
+    (!earlier).then(|| aimed(&pair, 23, first, node))?
 }
 
 /// The least change of a flow, up or down, that takes a left side past E.

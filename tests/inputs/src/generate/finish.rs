@@ -32,7 +32,13 @@ pub fn pair(rng: &mut Rng, mut draft: Draft) -> Pair {
         arcs: draft.arcs.into_iter().map(|it| it.arc).collect(),
         stations,
     };
-    Pair { case, plan }
+    let mut pair = Pair { case, plan };
+    for arc in 0..pair.case.arcs.len() {
+        if pair.case.arcs[arc].has_machines() {
+            pair.case.arcs[arc].more[OUT_BOUND] = out_bound(rng, &pair, arc);
+        }
+    }
+    pair
 }
 
 fn times(spans: &[i64]) -> Vec<i64> {
@@ -74,18 +80,19 @@ fn with_limits(rng: &mut Rng, draft: &Draft, index: usize) -> Arc {
         arc.more[MACHINES] = used | rng.part_of(arc.more[MACHINES]);
         let counts = rows.iter().map(|row| i64::from(row.machines.count_ones()));
         arc.more[MOST] = around(rng, counts.max().unwrap_or(0), 12);
-        let out = |step: usize| {
-            let setting = it.rows[step].setting;
-            let pressure = draft.p[step][arc.ends(setting).1];
-            arc.compresses(setting).then_some(pressure)
-        };
-        let highest = (1..=draft.steps()).filter_map(out).max().unwrap_or(0);
-        arc.more[OUT_BOUND] = match rng.below(4) {
-            0 => 0,
-            _ => around(rng, highest, MOST_PRESSURE),
-        };
     }
     arc
+}
+
+/// Draws an out bound, whose field is still 0: it may stay 0 where no out pressure is above acthigh of its out end.
+fn out_bound(rng: &mut Rng, pair: &Pair, arc: usize) -> i64 {
+    let reached = |step: usize| Some((pair.compressed(step, arc)?, pair.out_bound(step, arc)));
+    let reached: Vec<(i64, i64)> = (1..=pair.steps()).filter_map(reached).collect();
+    let highest = reached.iter().map(|&(out, _)| out).max().unwrap_or(0);
+    if reached.iter().all(|(out, acthigh)| out <= acthigh) && rng.flip() {
+        return 0;
+    }
+    around(rng, highest, MOST_PRESSURE)
 }
 
 /// The step with flows and pressures, still without slacks.

@@ -57,11 +57,9 @@ fn room(pair: &Pair, step: usize) -> BTreeMap<i64, [i64; 2]> {
         *least = (*least).max(limits.low - p);
         *most = (*most).min(limits.high - p);
     }
-    for (index, arc) in pair.case.arcs.iter().enumerate() {
-        let setting = pair.arc(step, index).setting;
-        if arc.compresses(setting) {
-            let out = pair.node(step, arc.ends(setting).1).p;
-            let left = highest_out(pair, step, index) - out;
+    for arc in 0..pair.case.arcs.len() {
+        if let Some(out) = pair.compressed(step, arc) {
+            let left = highest_out(pair, step, arc) - out;
             room.entry(out).and_modify(|it| it[1] = it[1].min(left));
         }
     }
@@ -69,12 +67,11 @@ fn room(pair: &Pair, step: usize) -> BTreeMap<i64, [i64; 2]> {
 }
 
 /// The highest whole out pressure that 26 allows.
-fn highest_out(pair: &Pair, step: usize, index: usize) -> i64 {
-    let arc = &pair.case.arcs[index];
-    let (in_end, _) = arc.ends(pair.arc(step, index).setting);
-    let gains = machines(pair, step, index).map(|[_, ratio]| ratio - 1_000);
+fn highest_out(pair: &Pair, step: usize, arc: usize) -> i64 {
+    let (in_end, _) = pair.ends(step, arc);
+    let gains = machines(pair, step, arc).map(|[_, ratio]| ratio - 1_000);
     let reach = pair.case.nodes[in_end].p0 * (1_000 + gains.sum::<i64>()) / 1_000;
-    reach.min(arc.out_bound())
+    reach.min(pair.out_bound(step, arc))
 }
 
 /// The machines that the arc's row names.

@@ -193,16 +193,10 @@ fn read_artificial(
 }
 
 fn read_machinery(fields: &mut Fields) -> Answer<Machinery> {
-    let set = fields.take(0..=MACHINE_SETS)?;
-    let most = fields.take(0..=MOST_MACHINES)?;
-    let out_bound = match fields.take(0..=MOST_PRESSURE)? {
-        0 => MOST_PRESSURE,
-        bound => bound,
-    };
     Ok(Machinery {
-        set,
-        most,
-        out_bound,
+        set: fields.take(0..=MACHINE_SETS)?,
+        most: fields.take(0..=MOST_MACHINES)?,
+        out_bound: fields.take(0..=MOST_PRESSURE)?,
     })
 }
 

@@ -1,7 +1,7 @@
 //! The questions on arcs: 24 to 29.
 
 use super::Plan;
-use crate::case::Kind;
+use crate::case::{Kind, Machinery, Node};
 use crate::wide;
 
 /// What an arc does with the pressures of its ends.
@@ -85,11 +85,20 @@ pub(super) fn rule_26_pressures(plan: &Plan, step: usize, index: usize) -> bool 
         Mode::Level => p_in == p_out,
         Mode::Regulating => p_in >= p_out,
         Mode::Compressing => {
-            let bound = arc.machinery().map_or(0, |machinery| machinery.out_bound);
+            let out_node = &plan.case.nodes[out_end];
+            let bound = arc.machinery().map_or(0, |its| out_bound(its, out_node));
             let gains = plan.machines(step, index).map(|it| wide(it.ratio) - 1_000);
             let reach = wide(plan.case.nodes[in_end].p0) * (1_000 + gains.sum::<i128>());
             p_in <= p_out && p_out <= bound && 1_000 * wide(p_out) <= reach
         }
+    }
+}
+
+/// An empty out bound, 0, stands for acthigh of the out end; no slack adds to it.
+fn out_bound(machinery: &Machinery, out_end: &Node) -> i64 {
+    match machinery.out_bound {
+        0 => out_end.acthigh,
+        bound => bound,
     }
 }
 

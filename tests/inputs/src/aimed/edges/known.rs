@@ -21,7 +21,7 @@
 
 use super::super::refused;
 use super::turned::turned_set;
-use super::{Both, Branch, Edge, Expect, LedgerEdge};
+use super::{Both, Branch, Edge, Expect, LedgerEdge, LedgerEdgeOf};
 use crate::model::{
     ACTIVE, C, INNER, NodeRow, PIPE, Pair, REGULATOR, SHORTCUT, SINK, SOURCE, VALVE, WEIGHT,
 };
@@ -121,6 +121,29 @@ pub fn edge_totals(_: &mut Rng, _: &Pair) -> Both {
     known().answered(Expect::Totals([23, 10, 1_123, 216, 36_000, 36_098]))
 }
 
+/// The edges of ledgers by their names.
+pub const LEDGER_EDGES: &[(&str, LedgerEdgeOf)] = &[
+    ("ledger all", edge_ledger_all),
+    ("ledger no step", edge_ledger_no_step),
+    ("ledger first step", edge_ledger_first_step),
+    ("ledger middle step", edge_ledger_middle_step),
+    ("ledger last step", edge_ledger_last_step),
+    ("ledger pipe out", edge_ledger_pipe_out),
+    ("ledger pipe in", edge_ledger_pipe_in),
+    ("ledger first pipe", edge_ledger_first_pipe),
+    ("ledger last pipe", edge_ledger_last_pipe),
+    ("ledger valve", edge_ledger_valve),
+    ("40 past the last node", edge_40_past_the_last_node),
+    ("40 past every node", edge_40_past_every_node),
+    ("40 two past the last node", edge_40_two_past_the_last_node),
+    ("ledger no node", edge_ledger_no_node),
+    ("40 last bit", edge_40_last_bit),
+    ("40 past the last bit", edge_40_past_the_last_bit),
+    ("41 below 0", edge_41_below_0),
+    ("41 turned", edge_41_turned),
+    ("41 past the last step", edge_41_past_the_last_step),
+];
+
 const NODES: usize = 7;
 
 /// Every node.
@@ -148,83 +171,83 @@ fn refused_by(number: u8, place: usize, set: i64, s: i64, t: i64) -> [LedgerEdge
     drawn(set, s, t, Expect::Refused(refused(number, 0, place)))
 }
 
-pub fn edge_ledger_all() -> [LedgerEdge; 2] {
+fn edge_ledger_all() -> [LedgerEdge; 2] {
     figures(ALL, 0, 3, [7, 2, 36_000, 36_098, 220, 216])
 }
 
-pub fn edge_ledger_no_step() -> [LedgerEdge; 2] {
+fn edge_ledger_no_step() -> [LedgerEdge; 2] {
     figures(ALL, 2, 2, [7, 2, 36_043, 36_043, 0, 0])
 }
 
-pub fn edge_ledger_first_step() -> [LedgerEdge; 2] {
+fn edge_ledger_first_step() -> [LedgerEdge; 2] {
     figures(ALL, 0, 1, [7, 2, 36_000, 36_007, 20, 33])
 }
 
-pub fn edge_ledger_middle_step() -> [LedgerEdge; 2] {
+fn edge_ledger_middle_step() -> [LedgerEdge; 2] {
     figures(ALL, 1, 2, [7, 2, 36_007, 36_043, 40, 48])
 }
 
-pub fn edge_ledger_last_step() -> [LedgerEdge; 2] {
+fn edge_ledger_last_step() -> [LedgerEdge; 2] {
     figures(ALL, 2, 3, [7, 2, 36_043, 36_098, 160, 135])
 }
 
 /// The edge pipe begins in the set.
-pub fn edge_ledger_pipe_out() -> [LedgerEdge; 2] {
+fn edge_ledger_pipe_out() -> [LedgerEdge; 2] {
     figures(0b1, 0, 3, [1, 0, 0, 0, 40, 40])
 }
 
 /// The edge pipe ends in the set.
-pub fn edge_ledger_pipe_in() -> [LedgerEdge; 2] {
+fn edge_ledger_pipe_in() -> [LedgerEdge; 2] {
     figures(0b100, 0, 3, [1, 0, 0, 0, -20, 20])
 }
 
 /// A pipe inside and a pipe that leaves, and the other way round.
-pub fn edge_ledger_first_pipe() -> [LedgerEdge; 2] {
+fn edge_ledger_first_pipe() -> [LedgerEdge; 2] {
     figures(0b11, 0, 3, [2, 1, 14_000, 14_021, 120, 99])
 }
 
-pub fn edge_ledger_last_pipe() -> [LedgerEdge; 2] {
+fn edge_ledger_last_pipe() -> [LedgerEdge; 2] {
     figures(0b110, 0, 3, [2, 1, 22_000, 22_077, 40, 57])
 }
 
 /// The regulator ends in the set, and the valve, on which gas flows backward, begins in it.
-pub fn edge_ledger_valve() -> [LedgerEdge; 2] {
+fn edge_ledger_valve() -> [LedgerEdge; 2] {
     figures(0b100_0000, 0, 3, [1, 0, 0, 0, 70, 70])
 }
 
-pub fn edge_ledger_no_node() -> [LedgerEdge; 2] {
+fn edge_ledger_no_node() -> [LedgerEdge; 2] {
     figures(0, 0, 3, [0; 6])
 }
 
 /// Past the last node, alone and above every node.
-pub fn edge_40_past_the_last_node() -> [LedgerEdge; 2] {
+fn edge_40_past_the_last_node() -> [LedgerEdge; 2] {
     refused_by(40, NODES, 1 << NODES, 0, 3)
 }
 
-pub fn edge_40_past_every_node() -> [LedgerEdge; 2] {
+fn edge_40_past_every_node() -> [LedgerEdge; 2] {
     refused_by(40, NODES, (4 << NODES) - 1, 0, 3)
 }
 
-pub fn edge_40_two_past_the_last_node() -> [LedgerEdge; 2] {
+fn edge_40_two_past_the_last_node() -> [LedgerEdge; 2] {
     refused_by(40, NODES + 1, 2 << NODES, 0, 3)
 }
 
-pub fn edge_40_last_bit() -> [LedgerEdge; 2] {
+fn edge_40_last_bit() -> [LedgerEdge; 2] {
     refused_by(40, 59, 1 << 59, 3, 0)
 }
 
-pub fn edge_40_past_the_last_bit() -> [LedgerEdge; 2] {
+fn edge_40_past_the_last_bit() -> [LedgerEdge; 2] {
     refused_by(40, 0, 1 << 60, 0, 3)
 }
 
-pub fn edge_41_below_0() -> [LedgerEdge; 2] {
+fn edge_41_below_0() -> [LedgerEdge; 2] {
     refused_by(41, 0, ALL, -1, 3)
 }
 
-pub fn edge_41_turned() -> [LedgerEdge; 2] {
+fn edge_41_turned() -> [LedgerEdge; 2] {
     refused_by(41, 0, ALL, 2, 1)
 }
 
-pub fn edge_41_past_the_last_step() -> [LedgerEdge; 2] {
+fn edge_41_past_the_last_step() -> [LedgerEdge; 2] {
     refused_by(41, 0, ALL, 3, 4)
 }

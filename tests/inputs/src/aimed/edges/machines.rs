@@ -1,19 +1,17 @@
 //! Edges of 26 and 27 at arcs that compress, forward and backward.
 
 use super::{Both, Branch};
-use crate::model::{
-    ArcRow, COMBINED, COMPRESSOR, MACHINES, MOST, MOST_PRESSURE, OUT_BOUND, Pair, SINK, SOURCE,
-};
+use crate::model::{ArcRow, COMBINED, COMPRESSOR, MACHINES, MOST, OUT_BOUND, Pair, SINK, SOURCE};
 use crate::rng::Rng;
 
 /// A compressing arc, the last one, at every limit: the out pressure is what p0 of the in end and the machines allow, as many machines as may run do,
 /// and the flow is all that they carry. The pressure of the in end is not its p0.
-struct Compression {
-    branch: Branch,
-    in_end: usize,
-    out_end: usize,
-    arc: usize,
-    out: i64,
+pub struct Compression {
+    pub branch: Branch,
+    pub in_end: usize,
+    pub out_end: usize,
+    pub arc: usize,
+    pub out: i64,
     flow: i64,
     backward: bool,
 }
@@ -22,7 +20,7 @@ struct Compression {
 const RUNNING: i64 = 5;
 
 impl Compression {
-    fn new(rng: &mut Rng, pair: &Pair, backward: bool) -> Compression {
+    pub fn new(rng: &mut Rng, pair: &Pair, backward: bool) -> Compression {
         let machines = [0; 3].map(|_| [rng.within(1..=1_000), rng.within(1_001..=3_000)]);
         let thousands = rng.within(1..=39);
         let gain = machines[0][1] - 1_000 + machines[2][1] - 1_000;
@@ -70,7 +68,7 @@ impl Compression {
         }
     }
 
-    fn refused(&self, number: u8, step: usize) -> Both {
+    pub fn refused(&self, number: u8, step: usize) -> Both {
         self.branch.refused(number, step, self.arc)
     }
 
@@ -87,7 +85,7 @@ impl Compression {
         self.refused(26, 1)
     }
 
-    fn with_out_bound(mut self, bound: i64) -> Self {
+    pub fn with_out_bound(mut self, bound: i64) -> Self {
         self.branch.pair.case.arcs[self.arc].more[OUT_BOUND] = bound;
         self
     }
@@ -147,21 +145,6 @@ pub fn edge_26_past_the_out_bound_backward(rng: &mut Rng, pair: &Pair) -> Both {
     at.with_out_bound(out - 1).refused(26, 1)
 }
 
-/// An out bound of 0 lets every pressure through that a node may have.
-pub fn edge_26_out_bound_0(rng: &mut Rng, pair: &Pair) -> Both {
-    let Compression {
-        mut branch,
-        in_end,
-        out_end,
-        ..
-    } = Compression::new(rng, pair, false);
-    branch.pair.case.nodes[in_end].p0 = MOST_PRESSURE;
-    for step in 1..=branch.steps() {
-        branch.pair.node_mut(step, out_end).p = MOST_PRESSURE;
-    }
-    branch.accepted()
-}
-
 /// Level, in and out have the same pressure; the arc may compress then, and not with 1 mbar less at the out end.
 fn level(rng: &mut Rng, pair: &Pair) -> Compression {
     let mut level = Compression::new(rng, pair, false);
@@ -196,15 +179,21 @@ pub fn edge_27_flow_passed_backward(rng: &mut Rng, pair: &Pair) -> Both {
     Compression::new(rng, pair, true).with_more_flow()
 }
 
-/// A combined arc that regulates, in the last step, and has a machine.
-pub fn edge_27_machine_of_an_arc_that_regulates(rng: &mut Rng, pair: &Pair) -> Both {
+/// A combined arc that could compress, and regulates between equal pressures.
+pub fn regulating(rng: &mut Rng, pair: &Pair) -> Compression {
     let mut idle = level(rng, pair);
-    let steps = idle.branch.steps();
-    for step in 1..=steps {
+    for step in 1..=idle.branch.steps() {
         let row = idle.branch.pair.arc_mut(step, idle.arc);
         (row.setting, row.machines) = (1, 0);
     }
     idle.branch.pair.case.arcs[idle.arc].kind = COMBINED;
+    idle
+}
+
+/// It has a machine, in the last step.
+pub fn edge_27_machine_of_an_arc_that_regulates(rng: &mut Rng, pair: &Pair) -> Both {
+    let mut idle = regulating(rng, pair);
+    let steps = idle.branch.steps();
     idle.branch.pair.arc_mut(steps, idle.arc).machines = 1;
     idle.refused(27, steps)
 }

@@ -5,6 +5,7 @@
 mod arcs;
 mod branch;
 mod case;
+mod empty_bounds;
 mod fields;
 mod groups;
 mod known;
@@ -18,7 +19,8 @@ mod turned;
 
 use branch::Branch;
 pub use groups::{ReadEdge, WriteEdge, numbers_of_every_width};
-pub use table::{EDGES, EDGES_OF_FIELDS, LEDGER_EDGES, READ_EDGES, WRITE_EDGES};
+pub use known::LEDGER_EDGES;
+pub use table::{EDGES, EDGES_OF_FIELDS, READ_EDGES, WRITE_EDGES};
 
 use crate::model::{Pair, Refused};
 use crate::rng::Rng;

@@ -1,7 +1,9 @@
-//! Every edge by its name.
+//! Every edge by its name; those of ledgers are in `known`.
 
-use super::{EdgeOf, EdgesOf, LedgerEdgeOf, ReadEdgesOf, WriteEdgesOf};
-use super::{arcs, case, fields, groups, known, largest, machines, nodes, pipes, stations};
+use super::{EdgeOf, EdgesOf, ReadEdgesOf, WriteEdgesOf};
+use super::{
+    arcs, case, empty_bounds, fields, groups, known, largest, machines, nodes, pipes, stations,
+};
 
 /// Edges of many inputs each.
 pub const READ_EDGES: &[(&str, ReadEdgesOf)] = &[
@@ -163,7 +165,66 @@ pub const EDGES: &[(&str, EdgeOf)] = &[
         "26 past the out bound backward",
         machines::edge_26_past_the_out_bound_backward,
     ),
-    ("26 out bound 0", machines::edge_26_out_bound_0),
+    (
+        "26 at an empty bound",
+        empty_bounds::edge_26_at_an_empty_bound,
+    ),
+    (
+        "26 at an empty bound backward",
+        empty_bounds::edge_26_at_an_empty_bound_backward,
+    ),
+    (
+        "26 past an empty bound",
+        empty_bounds::edge_26_past_an_empty_bound,
+    ),
+    (
+        "26 past an empty bound backward",
+        empty_bounds::edge_26_past_an_empty_bound_backward,
+    ),
+    (
+        "26 inner past an empty bound",
+        empty_bounds::edge_26_inner_past_an_empty_bound,
+    ),
+    (
+        "26 no demand past an empty bound",
+        empty_bounds::edge_26_no_demand_past_an_empty_bound,
+    ),
+    (
+        "26 past an empty bound in the last step",
+        empty_bounds::edge_26_past_an_empty_bound_in_the_last_step,
+    ),
+    (
+        "26 empty bound of 0",
+        empty_bounds::edge_26_empty_bound_of_0,
+    ),
+    (
+        "26 past an empty bound of 0",
+        empty_bounds::edge_26_past_an_empty_bound_of_0,
+    ),
+    (
+        "26 empty bound of 200,000",
+        empty_bounds::edge_26_empty_bound_of_200_000,
+    ),
+    (
+        "26 given bound of 1",
+        empty_bounds::edge_26_given_bound_of_1,
+    ),
+    (
+        "26 past a given bound of 1",
+        empty_bounds::edge_26_past_a_given_bound_of_1,
+    ),
+    (
+        "26 given bound above acthigh",
+        empty_bounds::edge_26_given_bound_above_acthigh,
+    ),
+    (
+        "26 given bound of 200,000",
+        empty_bounds::edge_26_given_bound_of_200_000,
+    ),
+    (
+        "26 regulating above acthigh",
+        empty_bounds::edge_26_regulating_above_acthigh,
+    ),
     ("26 compressing level", machines::edge_26_compressing_level),
     (
         "26 compressing 1 down",
@@ -230,29 +291,4 @@ pub const EDGES: &[(&str, EdgeOf)] = &[
     ("33 node 59", largest::edge_33_node_59),
     ("totals", known::edge_totals),
     ("totals largest", largest::edge_totals_largest),
-];
-
-pub const LEDGER_EDGES: &[(&str, LedgerEdgeOf)] = &[
-    ("ledger all", known::edge_ledger_all),
-    ("ledger no step", known::edge_ledger_no_step),
-    ("ledger first step", known::edge_ledger_first_step),
-    ("ledger middle step", known::edge_ledger_middle_step),
-    ("ledger last step", known::edge_ledger_last_step),
-    ("ledger pipe out", known::edge_ledger_pipe_out),
-    ("ledger pipe in", known::edge_ledger_pipe_in),
-    ("ledger first pipe", known::edge_ledger_first_pipe),
-    ("ledger last pipe", known::edge_ledger_last_pipe),
-    ("ledger valve", known::edge_ledger_valve),
-    ("40 past the last node", known::edge_40_past_the_last_node),
-    ("40 past every node", known::edge_40_past_every_node),
-    (
-        "40 two past the last node",
-        known::edge_40_two_past_the_last_node,
-    ),
-    ("ledger no node", known::edge_ledger_no_node),
-    ("40 last bit", known::edge_40_last_bit),
-    ("40 past the last bit", known::edge_40_past_the_last_bit),
-    ("41 below 0", known::edge_41_below_0),
-    ("41 turned", known::edge_41_turned),
-    ("41 past the last step", known::edge_41_past_the_last_step),
 ];
