@@ -1,7 +1,7 @@
 -- An empty out bound (document 02, P8): "From now on 0 stands for acthigh of the out end in that step, in all editions", and "A case whose out bounds are
 -- all nonzero is judged as before": its verdict does not go by what 0 stands for.
 -- Assumes nothing.
-use mathlib.Core.Path.{_≡_, refl, ap, ap₂, _∙_}
+use mathlib.Core.Path.{_≡_, refl, sym, ap, ap₂, _∙_}
 use mathlib.Core.Bool.{Bool, true, false, cond, _&&_}
 use mathlib.Core.List.{List, [], _∷_, _++_, map, map-append}
 use mathlib.Core.Logic.{_≢_}
@@ -10,17 +10,21 @@ use native.Mathlib.Omega.{arith}
 use borrow.Author.Tests.{ne-eqb}
 use lib.Dec.{eqb}
 use lib.IntN.{ℤ, pos, _*ℤ_}
-use lib.Signed.{leZ}
+use lib.Signed.{leZ, _≤ℤ_}
 use Rattle.numbers.specs.law.Told.{Told, gives, refuses}
 use Rattle.numbers.specs.law.Question.{Question, firstNo}
 use Rattle.numbers.specs.law.Items.{over}
+use Rattle.numbers.specs.inside.SignedParts.{ints, size}
 use Rattle.numbers.specs.law.Signed.{posPart}
 use Rattle.case.specs.law.Field.{mostPressure}
 use Rattle.case.specs.law.Layout.{nodesOf, arcsOf, stationsOf, stepsOf}
 use Rattle.case.specs.law.Records.{nodeOf, arcOf, artificialOf}
 use Rattle.case.specs.law.Judged.{caseQuestions}
-use Rattle.case.specs.inside.SaysLaws.{zero-says}
+use Rattle.case.specs.inside.SaysLaws.{both, pick, le-says, zero-says}
+use Rattle.plan.specs.declared.totals.Totals.{Totals}
+use Rattle.plan.specs.declared.verdict.Verdict.the-variants.{Accepted}
 use Rattle.plan.specs.declared.setting.Way.{Way}
+use Rattle.plan.specs.declared.setting.Way.the-variants.{Forward, Backward}
 use Rattle.plan.specs.declared.setting.Mode.the-variants.{Open, Regulating, Compressing}
 use Rattle.plan.specs.declared.setting.Setting.{Setting}
 use Rattle.plan.specs.declared.setting.Setting.the-variants.{Unknown, Off, Active}
@@ -41,7 +45,11 @@ use Rattle.plan.specs.law.Judged.{planStep, planQuestions, questions, ve
 use Rattle.plan.specs.law.RegionFigures.{figuresOf}
 use Rattle.plan.specs.law.Ledger.{regionQuestions, ledgerQuestions, ledgerBy, ledgerTold, ledgerOf}
 use Rattle.plan.specs.inside.SettingLaws.{compressing-five}
+use Rattle.plan.specs.inside.Preconditions.{AcceptedCase}
+use Rattle.plan.specs.inside.CaseSizes.{node-sized, from-node, to-node}
 use Rattle.plan.specs.inside.Computed.{law}
+use Rattle.plan.specs.claims.Acceptance.{sound}
+use Rattle.plan.specs.claims.ArcFacts.{rule26-compressing}
 use Rattle.plan.specs.claims.TableT.{Row, judges, AllHold, RowHolds, twoMachines, raised, plan6}
 use Rattle.plan.specs.claims.FurtherRows.{runsBackward, planB}
 
@@ -156,23 +164,25 @@ unmoved-over f g j (suc n) h =
     unmoved-append f (g j) (over g (suc j) n) (rw z at (h 0 (omega arith)))
     (unmoved-over f g (suc j) n (λ m l. let y : suc j + m ≡ j + suc m = omega arith in rw y (h (suc m) (omega arith))))
 
-module _ (default : Default) (case plan : List ℤ) (h : (i e : ℕ) → e < arcsOf case → IsActHigh default case i e) where
+-- where 26 is answered alike of every arc in every step, all questions are
+module _ (default : Default) (case plan : List ℤ) (h : (i e : ℕ) → i < stepsOf case → e < arcsOf case
+    → pressuresWith default case (stepRows case plan i) i e ≡ pressuresKept case (stepRows case plan i) i e) where
   abbrev put : Question → Question
   put = askedWith default case plan
 
-  arc-unmoved : (i e : ℕ) → e < arcsOf case → Unmoved put (arcQuestions case (pressureAt case plan i) (stepRows case plan i) i e)
+  arc-unmoved : (i e : ℕ) → i < stepsOf case → e < arcsOf case → Unmoved put (arcQuestions case (pressureAt case plan i) (stepRows case plan i) i e)
   unfolding arcQuestions flowQuestions pressureQuestions pipeQuestions
-  arc-unmoved i e l = let z : i + 1 - 1 ≡ i = omega arith in rw (z, pressures-alike default case (stepRows case plan i) i e (h i e l))
+  arc-unmoved i e p l = let z : i + 1 - 1 ≡ i = omega arith in rw (z, h i e p l)
 
-  step-unmoved : (i : ℕ) → Unmoved put (planStep case plan i)
+  step-unmoved : (i : ℕ) → i < stepsOf case → Unmoved put (planStep case plan i)
   unfolding planStep stepQuestions allNodeQuestions nodeQuestions allArcQuestions allStationQuestions stationQuestions allBalanceQuestions balanceQuestions
-  step-unmoved i =
+  step-unmoved i p =
       let rows = stepRows case plan i in
       let old = pressureAt case plan i in
       unmoved-append put (allNodeQuestions case rows i) _
       (unmoved-over put (nodeQuestions case rows i) 0 (nodesOf case) (λ v l. refl))
       (unmoved-append put (allArcQuestions case old rows i) _
-      (unmoved-over put (arcQuestions case old rows i) 0 (arcsOf case) (λ e l. arc-unmoved i (0 + e) (omega (arith, l))))
+      (unmoved-over put (arcQuestions case old rows i) 0 (arcsOf case) (λ e l. arc-unmoved i (0 + e) p (omega (arith, l))))
       (unmoved-append put (allStationQuestions case rows i) _
       (unmoved-over put (stationQuestions case rows i) 0 (stationsOf case) (λ s l. refl))
       (unmoved-over put (balanceQuestions case rows i) 0 (nodesOf case) (λ v l. refl))))
@@ -180,7 +190,7 @@ module _ (default : Default) (case plan : List ℤ) (h : (i e : ℕ) → e < arc
   questions-alike : questionsWith default case plan ≡ questions case plan
   unfolding questions planQuestions
   questions-alike =
-      let steps = unmoved-over put (planStep case plan) 0 (stepsOf case) (λ i l. step-unmoved (0 + i)) in
+      let steps = unmoved-over put (planStep case plan) 0 (stepsOf case) (λ i l. step-unmoved (0 + i) (omega (arith, l))) in
       ap (λ (qs : List Question). caseQuestions case ++ (headQuestion case plan ∷ qs)) steps
 
   judged-alike : judgedWith default case plan ≡ judgeOf case plan
@@ -191,24 +201,67 @@ module _ (default : Default) (case plan : List ℤ) (h : (i e : ℕ) → e < arc
 
 -- with acthigh of the out end as the default the verdict is the law's, on every case
 pub judged-by-acthigh : (case plan : List ℤ) → judgedWith (actHigh case) case plan ≡ judgeOf case plan
-judged-by-acthigh case plan = judged-alike (actHigh case) case plan (λ i e l k z way. refl)
+judged-by-acthigh case plan =
+    judged-alike (actHigh case) case plan (λ i e p l. pressures-alike (actHigh case) case (stepRows case plan i) i e (λ k z way. refl))
 
 -- the out bounds of a case are all nonzero
 abbrev pub OutBoundsGiven : List ℤ → Type 0
 OutBoundsGiven case = (e : ℕ) → e < arcsOf case → 5 ≤ arcOf case e .kind → artificialOf case e .outbound ≢ pos 0
 
 module _ (default : Default) (case plan : List ℤ) (given : OutBoundsGiven case) where
-  acthigh-given : (i e : ℕ) → e < arcsOf case → IsActHigh default case i e
-  acthigh-given i e l k z way = absurd (given e l k z)
+  same-26 : (i e : ℕ) → i < stepsOf case → e < arcsOf case
+      → pressuresWith default case (stepRows case plan i) i e ≡ pressuresKept case (stepRows case plan i) i e
+  same-26 i e p l = outbound-given default case (stepRows case plan i) i e (given e l)
 
   -- "A case whose out bounds are all nonzero is judged as before": whatever the default, the verdict on any plan is the same
   pub judged-as-before : judgedWith default case plan ≡ judgeOf case plan
-  judged-as-before = judged-alike default case plan acthigh-given
+  judged-as-before = judged-alike default case plan same-26
 
   -- and so is what the ledger tells
   pub ledger-as-before : (set s t : ℤ) → ledgerWith default case plan set s t ≡ ledgerOf case plan set s t
   unfolding ledgerOf ledgerQuestions
-  ledger-as-before set s t = rw (questions-alike default case plan acthigh-given)
+  ledger-as-before set s t = rw (questions-alike default case plan same-26)
+
+-- ---- cases made before
+
+-- 26 holds with 200,000 where it holds with acthigh, which is no higher
+wider : (case rows : List ℤ) (i e : ℕ) → ((way : Way) → (actHigh case i e (outEnd way (arcOf case e))) ≤ℤ mostPressure)
+    → pressuresKept case rows i e ≡ true → pressuresWith defaultOf01 case rows i e ≡ true
+wider case rows i e h y = go (settingIn case rows e) refl
+  where
+    go : (s : Setting) → settingIn case rows e ≡ s → settingPressuresWith defaultOf01 case rows i e s ≡ true
+    go Unknown k = y
+    go Off k = y
+    go (Active way Open) k = y
+    go (Active way Regulating) k = y
+    go (Active way Compressing) k =
+        let f = rule26-compressing case rows i e way k .fact y in
+        let p = pressureIn rows (outEnd way (arcOf case e)) in
+        let x = artificialOf case e .outbound in
+        let empty : x ≡ pos 0 → p ≤ℤ mostPressure = λ z. omega (ints, f .empty z, h way) in
+        both (le-says _ _) (both (pick (leZ p) (zero-says x) (le-says p mostPressure) (le-says p x)) (le-says _ _)) .passed
+        (f .raises, ((empty, f .bound), f .reach))
+
+-- 11 sees to that
+acthigh-most : {case : List ℤ} (c : AcceptedCase case) (i e : ℕ) → i < stepsOf case → e < arcsOf case
+    → (way : Way) → (actHigh case i e (outEnd way (arcOf case e))) ≤ℤ mostPressure
+acthigh-most {case} c i e p l = go
+  where
+    at : (v : ℕ) → v < nodesOf case → (nodeOf case v i .acthigh) ≤ℤ mostPressure
+    at v q = let z = nodeOf case v i .acthigh in omega (ints, size z, node-sized c v q i p .acthigh .bound)
+
+    go : (way : Way) → (actHigh case i e (outEnd way (arcOf case e))) ≤ℤ mostPressure
+    go Forward = at (arcOf case e .to) (to-node c e l)
+    go Backward = at (arcOf case e .from) (from-node c e l)
+
+-- "those made before go by the new rule": a plan that is accepted by it is accepted with document 01's default too, with the same totals
+pub was-accepted : (case plan : List ℤ) (t : Totals) → judgeOf case plan ≡ verdictTold (Accepted t)
+    → judgedWith defaultOf01 case plan ≡ verdictTold (Accepted t)
+was-accepted case plan t e =
+    let r = sound case plan t e in
+    judged-alike defaultOf01 case plan (λ i a p l.
+    let y = r .steps i p .arcs a l .rule26 in
+    wider case (stepRows case plan i) i a (acthigh-most (record { yes = r .case-yes }) i a p l) y ∙ sym y) ∙ e
 
 -- ---- rows: the case of table T's row 6 with other bounds, and a compressor that runs backward, whose out end is its from node
 
