@@ -51,7 +51,8 @@ extern "C" {
 /* The version of the library: the first number changes when programs over it may have to, the second when something is
  * added.
  *
- * 3.0.0    In 26 an out bound of 0 stands for acthigh of the arc's out end. Before, it stood for 200,000.
+ * 3.0.0    In 26 an out bound of 0 stands for acthigh of the arc's out end. Before, it stood for 200,000, which has to be
+ *          written outright now.
  * 2.0.0    The place of 1, 2, 5 and 6 is the byte that is missing or wrong. In 1.0.0 it was the first byte of its number. */
 #define GASPLAN_VERSION "3.0.0"
 #define GASPLAN_VERSION_MAJOR 3

@@ -4,6 +4,7 @@ pub mod StepAnswer
 pub mod Sizes
 pub mod Preconditions
 pub mod SettingLaws
+pub mod Unmoved
 pub mod CaseSizes
 pub mod AnsweredSizes
 pub mod NetFlow

@@ -210,7 +210,7 @@ rule26-says case rows i e =
     (λ t. record { regulator = t .0; active = λ n. t .1 n .1 })
     (λ f. (f .regulator, λ n. (λ q. tt, f .active n)))
 
--- 26 of an arc that compresses: what a user leans on who sees such an arc in an accepted plan
+-- 26 of an arc that compresses: all that it asks, and what a user may lean on in an accepted plan
 pub rule26-compressing : (case rows : List ℤ) (i e : ℕ) (way : Way) → settingIn case rows e ≡ Active way Compressing
     → Says (pressuresKept case rows i e) (Compression case rows i e (inEnd way (arcOf case e)) (outEnd way (arcOf case e)))
 rule26-compressing case rows i e way s =

@@ -1,11 +1,12 @@
--- An empty out bound (document 02, P8): "From now on 0 stands for acthigh of the out end in that step, in all editions", and "A case whose out bounds are
--- all nonzero is judged as before": its verdict does not go by what 0 stands for.
+-- An empty out bound (document 02, P8): "From now on 0 stands for acthigh of the out end in that step, in all editions." "A case whose out bounds are all
+-- nonzero is judged as before": neither its verdict nor its ledger goes by what 0 stands for. On every case, what is accepted is accepted with the 200,000 of
+-- document 01 too.
 -- Assumes nothing.
-use mathlib.Core.Path.{_≡_, refl, sym, ap, ap₂, _∙_}
+use mathlib.Core.Path.{_≡_, refl, sym, ap, _∙_}
 use mathlib.Core.Bool.{Bool, true, false, cond, _&&_}
-use mathlib.Core.List.{List, [], _∷_, _++_, map, map-append}
+use mathlib.Core.List.{List, [], _∷_, _++_, map}
 use mathlib.Core.Logic.{_≢_}
-use Prim.Native.Nat.{ℕ, zero, suc, _+_, _-_, _≤_, _<_}
+use Prim.Native.Nat.{ℕ, _+_, _-_, _≤_, _<_}
 use native.Mathlib.Omega.{arith}
 use borrow.Author.Tests.{ne-eqb}
 use lib.Dec.{eqb}
@@ -13,7 +14,6 @@ use lib.IntN.{ℤ, pos, _*ℤ_}
 use lib.Signed.{leZ, _≤ℤ_}
 use Rattle.numbers.specs.law.Told.{Told, gives, refuses}
 use Rattle.numbers.specs.law.Question.{Question, firstNo}
-use Rattle.numbers.specs.law.Items.{over}
 use Rattle.numbers.specs.inside.SignedParts.{ints, size}
 use Rattle.numbers.specs.law.Signed.{posPart}
 use Rattle.case.specs.law.Field.{mostPressure}
@@ -45,12 +45,13 @@ use Rattle.plan.specs.law.Judged.{planStep, planQuestions, questions, ve
 use Rattle.plan.specs.law.RegionFigures.{figuresOf}
 use Rattle.plan.specs.law.Ledger.{regionQuestions, ledgerQuestions, ledgerBy, ledgerTold, ledgerOf}
 use Rattle.plan.specs.inside.SettingLaws.{compressing-five}
+use Rattle.plan.specs.inside.Unmoved.{Unmoved, unmoved-append, unmoved-over}
 use Rattle.plan.specs.inside.Preconditions.{AcceptedCase}
 use Rattle.plan.specs.inside.CaseSizes.{node-sized, from-node, to-node}
 use Rattle.plan.specs.inside.Computed.{law}
 use Rattle.plan.specs.claims.Acceptance.{sound}
 use Rattle.plan.specs.claims.ArcFacts.{rule26-compressing}
-use Rattle.plan.specs.claims.TableT.{Row, judges, AllHold, RowHolds, twoMachines, raised, plan6}
+use Rattle.plan.specs.claims.TableT.{Row, judges, AllHold, RowHolds, minus, twoMachines, raised, plan6}
 use Rattle.plan.specs.claims.FurtherRows.{runsBackward, planB}
 
 -- ---- 26 and the verdict with another default
@@ -117,8 +118,8 @@ IsActHigh default case i e =
     5 ≤ arcOf case e .kind → artificialOf case e .outbound ≡ pos 0 → (way : Way)
     → default i e (outEnd way (arcOf case e)) ≡ actHigh case i e (outEnd way (arcOf case e))
 
-same-bound : (x default acthigh : ℤ) → (x ≡ pos 0 → default ≡ acthigh) → cond (isZero x) default x ≡ cond (isZero x) acthigh x
-same-bound x default acthigh h = go (isZero x) refl
+alike-bound : (x default acthigh : ℤ) → (x ≡ pos 0 → default ≡ acthigh) → cond (isZero x) default x ≡ cond (isZero x) acthigh x
+alike-bound x default acthigh h = go (isZero x) refl
   where
     go : (b : Bool) → isZero x ≡ b → cond b default x ≡ cond b acthigh x
     go true e = h (zero-says x .fact e)
@@ -140,94 +141,92 @@ pressures-alike default case rows i e h = go (settingIn case rows e) refl
         rw (
           ne-eqb (arcOf case e .kind) 1 (λ o. omega (arith, five, o)),
           k,
-          same-bound (artificialOf case e .outbound) (default i e w) (actHigh case i e w) (λ z. h five z way),
+          alike-bound (artificialOf case e .outbound) (default i e w) (actHigh case i e w) (λ z. h five z way),
         )
 
--- 26 of an arc whose out bound is not 0 answers as with any default
+-- 26 of an arc whose out bound is not 0, or that has none, answers as with any default
 pub outbound-given : (default : Default) (case rows : List ℤ) (i e : ℕ) → (5 ≤ arcOf case e .kind → artificialOf case e .outbound ≢ pos 0)
     → pressuresWith default case rows i e ≡ pressuresKept case rows i e
 outbound-given default case rows i e given = pressures-alike default case rows i e (λ k z way. absurd (given k z))
 
 -- ---- all questions
 
--- the questions that a function leaves as they are
-abbrev Unmoved : (Question → Question) → List Question → Type 0
-Unmoved f qs = map f qs ≡ qs
+-- 26 is answered alike, of every arc in every step
+abbrev Alike26 : Default → List ℤ → List ℤ → Type 0
+Alike26 default case plan = (i e : ℕ) → i < stepsOf case → e < arcsOf case
+    → pressuresWith default case (stepRows case plan i) i e ≡ pressuresKept case (stepRows case plan i) i e
 
-unmoved-append : (f : Question → Question) (xs ys : List Question) → Unmoved f xs → Unmoved f ys → Unmoved f (xs ++ ys)
-unmoved-append f xs ys h k = map-append f xs ys ∙ ap₂ (λ (x y : List Question). x ++ y) h k
+-- then all questions are
+module _ (default : Default) (case plan : List ℤ) (h : Alike26 default case plan) where
+  abbrev ask : Question → Question
+  ask = askedWith default case plan
 
-unmoved-over : (f : Question → Question) (g : ℕ → List Question) (j n : ℕ) → ((m : ℕ) → m < n → Unmoved f (g (j + m))) → Unmoved f (over g j n)
-unmoved-over f g j zero h = refl
-unmoved-over f g j (suc n) h =
-    let z : j + 0 ≡ j = omega arith in
-    unmoved-append f (g j) (over g (suc j) n) (rw z at (h 0 (omega arith)))
-    (unmoved-over f g (suc j) n (λ m l. let y : suc j + m ≡ j + suc m = omega arith in rw y (h (suc m) (omega arith))))
-
--- where 26 is answered alike of every arc in every step, all questions are
-module _ (default : Default) (case plan : List ℤ) (h : (i e : ℕ) → i < stepsOf case → e < arcsOf case
-    → pressuresWith default case (stepRows case plan i) i e ≡ pressuresKept case (stepRows case plan i) i e) where
-  abbrev put : Question → Question
-  put = askedWith default case plan
-
-  arc-unmoved : (i e : ℕ) → i < stepsOf case → e < arcsOf case → Unmoved put (arcQuestions case (pressureAt case plan i) (stepRows case plan i) i e)
+  arc-unmoved : (i e : ℕ) → i < stepsOf case → e < arcsOf case → Unmoved ask (arcQuestions case (pressureAt case plan i) (stepRows case plan i) i e)
   unfolding arcQuestions flowQuestions pressureQuestions pipeQuestions
   arc-unmoved i e p l = let z : i + 1 - 1 ≡ i = omega arith in rw (z, h i e p l)
 
-  step-unmoved : (i : ℕ) → i < stepsOf case → Unmoved put (planStep case plan i)
+  step-unmoved : (i : ℕ) → i < stepsOf case → Unmoved ask (planStep case plan i)
   unfolding planStep stepQuestions allNodeQuestions nodeQuestions allArcQuestions allStationQuestions stationQuestions allBalanceQuestions balanceQuestions
   step-unmoved i p =
       let rows = stepRows case plan i in
       let old = pressureAt case plan i in
-      unmoved-append put (allNodeQuestions case rows i) _
-      (unmoved-over put (nodeQuestions case rows i) 0 (nodesOf case) (λ v l. refl))
-      (unmoved-append put (allArcQuestions case old rows i) _
-      (unmoved-over put (arcQuestions case old rows i) 0 (arcsOf case) (λ e l. arc-unmoved i (0 + e) p (omega (arith, l))))
-      (unmoved-append put (allStationQuestions case rows i) _
-      (unmoved-over put (stationQuestions case rows i) 0 (stationsOf case) (λ s l. refl))
-      (unmoved-over put (balanceQuestions case rows i) 0 (nodesOf case) (λ v l. refl))))
+      unmoved-append ask (allNodeQuestions case rows i) _
+      (unmoved-over ask (nodeQuestions case rows i) 0 (nodesOf case) (λ v l. refl))
+      (unmoved-append ask (allArcQuestions case old rows i) _
+      (unmoved-over ask (arcQuestions case old rows i) 0 (arcsOf case) (λ e l. arc-unmoved i (0 + e) p (omega (arith, l))))
+      (unmoved-append ask (allStationQuestions case rows i) _
+      (unmoved-over ask (stationQuestions case rows i) 0 (stationsOf case) (λ s l. refl))
+      (unmoved-over ask (balanceQuestions case rows i) 0 (nodesOf case) (λ v l. refl))))
 
   questions-alike : questionsWith default case plan ≡ questions case plan
   unfolding questions planQuestions
   questions-alike =
-      let steps = unmoved-over put (planStep case plan) 0 (stepsOf case) (λ i l. step-unmoved (0 + i) (omega (arith, l))) in
+      let steps = unmoved-over ask (planStep case plan) 0 (stepsOf case) (λ i l. step-unmoved (0 + i) (omega (arith, l))) in
       ap (λ (qs : List Question). caseQuestions case ++ (headQuestion case plan ∷ qs)) steps
 
   judged-alike : judgedWith default case plan ≡ judgeOf case plan
   unfolding judgeOf
   judged-alike = rw questions-alike
 
+  ledger-alike : (set s t : ℤ) → ledgerWith default case plan set s t ≡ ledgerOf case plan set s t
+  unfolding ledgerOf ledgerQuestions
+  ledger-alike set s t = rw questions-alike
+
 -- ---- the verdict and the ledger
 
--- with acthigh of the out end as the default the verdict is the law's, on every case
-pub judged-by-acthigh : (case plan : List ℤ) → judgedWith (actHigh case) case plan ≡ judgeOf case plan
-judged-by-acthigh case plan =
-    judged-alike (actHigh case) case plan (λ i e p l. pressures-alike (actHigh case) case (stepRows case plan i) i e (λ k z way. refl))
+-- with acthigh of the out end as the default both are the law's, on every case
+module _ (case plan : List ℤ) where
+  by-acthigh : Alike26 (actHigh case) case plan
+  by-acthigh i e p l = pressures-alike (actHigh case) case (stepRows case plan i) i e (λ k z way. refl)
+
+  pub judged-by-acthigh : judgedWith (actHigh case) case plan ≡ judgeOf case plan
+  judged-by-acthigh = judged-alike (actHigh case) case plan by-acthigh
+
+  pub ledger-by-acthigh : (set s t : ℤ) → ledgerWith (actHigh case) case plan set s t ≡ ledgerOf case plan set s t
+  ledger-by-acthigh = ledger-alike (actHigh case) case plan by-acthigh
 
 -- the out bounds of a case are all nonzero
 abbrev pub OutBoundsGiven : List ℤ → Type 0
 OutBoundsGiven case = (e : ℕ) → e < arcsOf case → 5 ≤ arcOf case e .kind → artificialOf case e .outbound ≢ pos 0
 
 module _ (default : Default) (case plan : List ℤ) (given : OutBoundsGiven case) where
-  same-26 : (i e : ℕ) → i < stepsOf case → e < arcsOf case
-      → pressuresWith default case (stepRows case plan i) i e ≡ pressuresKept case (stepRows case plan i) i e
-  same-26 i e p l = outbound-given default case (stepRows case plan i) i e (given e l)
+  alike-26 : Alike26 default case plan
+  alike-26 i e p l = outbound-given default case (stepRows case plan i) i e (given e l)
 
   -- "A case whose out bounds are all nonzero is judged as before": whatever the default, the verdict on any plan is the same
   pub judged-as-before : judgedWith default case plan ≡ judgeOf case plan
-  judged-as-before = judged-alike default case plan same-26
+  judged-as-before = judged-alike default case plan alike-26
 
   -- and so is what the ledger tells
   pub ledger-as-before : (set s t : ℤ) → ledgerWith default case plan set s t ≡ ledgerOf case plan set s t
-  unfolding ledgerOf ledgerQuestions
-  ledger-as-before set s t = rw (questions-alike default case plan same-26)
+  ledger-as-before = ledger-alike default case plan alike-26
 
 -- ---- cases made before
 
 -- 26 holds with 200,000 where it holds with acthigh, which is no higher
-wider : (case rows : List ℤ) (i e : ℕ) → ((way : Way) → (actHigh case i e (outEnd way (arcOf case e))) ≤ℤ mostPressure)
+kept-with-01 : (case rows : List ℤ) (i e : ℕ) → ((way : Way) → (actHigh case i e (outEnd way (arcOf case e))) ≤ℤ mostPressure)
     → pressuresKept case rows i e ≡ true → pressuresWith defaultOf01 case rows i e ≡ true
-wider case rows i e h y = go (settingIn case rows e) refl
+kept-with-01 case rows i e h y = go (settingIn case rows e) refl
   where
     go : (s : Setting) → settingIn case rows e ≡ s → settingPressuresWith defaultOf01 case rows i e s ≡ true
     go Unknown k = y
@@ -242,7 +241,7 @@ wider case rows i e h y = go (settingIn case rows e) refl
         both (le-says _ _) (both (pick (leZ p) (zero-says x) (le-says p mostPressure) (le-says p x)) (le-says _ _)) .passed
         (f .raises, ((empty, f .bound), f .reach))
 
--- 11 sees to that
+-- 11 keeps every acthigh at or below 200,000
 acthigh-most : {case : List ℤ} (c : AcceptedCase case) (i e : ℕ) → i < stepsOf case → e < arcsOf case
     → (way : Way) → (actHigh case i e (outEnd way (arcOf case e))) ≤ℤ mostPressure
 acthigh-most {case} c i e p l = go
@@ -261,20 +260,20 @@ was-accepted case plan t e =
     let r = sound case plan t e in
     judged-alike defaultOf01 case plan (λ i a p l.
     let y = r .steps i p .arcs a l .rule26 in
-    wider case (stepRows case plan i) i a (acthigh-most (record { yes = r .case-yes }) i a p l) y ∙ sym y) ∙ e
+    kept-with-01 case (stepRows case plan i) i a (acthigh-most (record { yes = r .case-yes }) i a p l) y ∙ sym y) ∙ e
 
 -- ---- rows: the case of table T's row 6 with other bounds, and a compressor that runs backward, whose out end is its from node
 
 unfoldable pub outBoundRows : List Row
 outBoundRows =
     -- 0 stands for acthigh of the out end: 59,999 does not let 60,000 through, 60,000 does
-    judges (twoMachines (pos 0) (pos 0) (pos 59999)) (plan6 (pos 60000)) (refuses 26 1 0)
-    ∷ judges (twoMachines (pos 0) (pos 0) (pos 60000)) (plan6 (pos 60000)) (gives (pos 0 ∷ pos 0 ∷ pos 7 ∷ pos 0 ∷ pos 0 ∷ pos 0 ∷ []))
-    -- at a sink the slack u- does not lift it
-    ∷ judges (twoMachines (pos 2) (pos 0) (pos 59999)) (raised (pos 60000) (pos 1)) (refuses 26 1 0)
+    judges (twoMachines (pos 0) (pos 0) (pos 0) (pos 59999)) (plan6 (pos 60000)) (refuses 26 1 0)
+    ∷ judges (twoMachines (pos 0) (pos 0) (pos 0) (pos 60000)) (plan6 (pos 60000)) (gives (pos 0 ∷ pos 0 ∷ pos 7 ∷ pos 0 ∷ pos 0 ∷ pos 0 ∷ []))
+    -- the slack u-, with which 23 is passed at a sink that has a demand, does not lift it
+    ∷ judges (twoMachines (pos 2) (minus 1) (pos 0) (pos 59999)) (raised (pos 60000) (pos 1) (pos 1)) (refuses 26 1 0)
     -- a bound that is given counts alone, above acthigh and below it
-    ∷ judges (twoMachines (pos 0) (pos 60000) (pos 59999)) (plan6 (pos 60000)) (gives (pos 0 ∷ pos 0 ∷ pos 7 ∷ pos 0 ∷ pos 0 ∷ pos 0 ∷ []))
-    ∷ judges (twoMachines (pos 0) (pos 59999) (pos 60000)) (plan6 (pos 60000)) (refuses 26 1 0)
+    ∷ judges (twoMachines (pos 0) (pos 0) (pos 60000) (pos 59999)) (plan6 (pos 60000)) (gives (pos 0 ∷ pos 0 ∷ pos 7 ∷ pos 0 ∷ pos 0 ∷ pos 0 ∷ []))
+    ∷ judges (twoMachines (pos 0) (pos 0) (pos 59999) (pos 60000)) (plan6 (pos 60000)) (refuses 26 1 0)
     -- 0 backward, where acthigh of the in end is 60,000
     ∷ judges (runsBackward (pos 50000) (pos 0) (pos 59999)) planB (refuses 26 1 1)
     ∷ judges (runsBackward (pos 50000) (pos 0) (pos 60000)) planB (gives (pos 614 ∷ pos 30 ∷ pos 2207 ∷ pos 120 ∷ pos 239991 ∷ pos 359991 ∷ []))
@@ -284,8 +283,8 @@ pub outBounds : AllHold outBoundRows
 unfolding AllHold RowHolds outBoundRows law
 outBounds = (refl, (refl, (refl, (refl, (refl, (refl, (refl, tt)))))))
 
--- the first of them is accepted with document 01's default
-pub accepted-before : judgedWith defaultOf01 (twoMachines (pos 0) (pos 0) (pos 59999)) (plan6 (pos 60000))
+-- the first of them is accepted with the default of document 01
+pub first-row-with-01 : judgedWith defaultOf01 (twoMachines (pos 0) (pos 0) (pos 0) (pos 59999)) (plan6 (pos 60000))
     ≡ gives (pos 0 ∷ pos 0 ∷ pos 7 ∷ pos 0 ∷ pos 0 ∷ pos 0 ∷ [])
 unfolding law
-accepted-before = refl
+first-row-with-01 = refl

@@ -63,12 +63,12 @@ planP b =
     ++ ((pos 50998 ∷ minus 900 ∷ pos 0 ∷ pos 0 ∷ pos 0 ∷ pos 0 ∷ [])
     ++ (pos 1100 ∷ b ∷ pos 0 ∷ pos 0 ∷ [])))
 
--- a compressor with two machines: the kind of its out end, its out bound, and acthigh of its out end
-abbrev pub twoMachines : (kind bound acthigh : ℤ) → List ℤ
-twoMachines kind bound acthigh =
+-- a compressor with two machines: the kind and the demand of its out end, its out bound, and acthigh of its out end
+abbrev pub twoMachines : (kind demand bound acthigh : ℤ) → List ℤ
+twoMachines kind demand bound acthigh =
     (pos 1 ∷ pos 2 ∷ pos 1 ∷ pos 1 ∷ pos 1 ∷ pos 0 ∷ pos 0 ∷ pos 60 ∷ [])
     ++ ((pos 0 ∷ pos 40000 ∷ pos 0 ∷ pos 200000 ∷ pos 0 ∷ pos 200000 ∷ pos 0 ∷ [])
-    ++ ((kind ∷ pos 40000 ∷ pos 0 ∷ pos 200000 ∷ pos 0 ∷ acthigh ∷ pos 0 ∷ [])
+    ++ ((kind ∷ pos 40000 ∷ pos 0 ∷ pos 200000 ∷ pos 0 ∷ acthigh ∷ demand ∷ [])
     ++ ((pos 5 ∷ pos 0 ∷ pos 1 ∷ pos 1000 ∷ pos 0 ∷ pos 0 ∷ pos 7 ∷ pos 0 ∷ pos 3 ∷ pos 2 ∷ bound ∷ [])
     ++ ((pos 1 ∷ pos 1 ∷ pos 2 ∷ pos 0 ∷ pos 0 ∷ [])
     ++ ((pos 0 ∷ pos 0 ∷ pos 0 ∷ pos 1 ∷ pos 0 ∷ pos 0 ∷ pos 0 ∷ [])
@@ -76,18 +76,18 @@ twoMachines kind bound acthigh =
 
 -- "In end with p0 and p 40,000, out bound 200,000, machines 1,200 and 1,300"
 abbrev pub case6 : List ℤ
-case6 = twoMachines (pos 0) (pos 200000) (pos 200000)
+case6 = twoMachines (pos 0) (pos 0) (pos 200000) (pos 200000)
 
--- its out end at the pressure `out`, with the slack u-
-abbrev pub raised : (out uminus : ℤ) → List ℤ
-raised out uminus =
+-- its out end at the pressure `out`, with the slacks s- and u-
+abbrev pub raised : (out sminus uminus : ℤ) → List ℤ
+raised out sminus uminus =
     (pos 1 ∷ pos 1 ∷ [])
     ++ ((pos 40000 ∷ pos 0 ∷ pos 0 ∷ pos 0 ∷ pos 0 ∷ pos 0 ∷ [])
-    ++ ((out ∷ pos 0 ∷ pos 0 ∷ pos 0 ∷ pos 0 ∷ uminus ∷ [])
+    ++ ((out ∷ pos 0 ∷ pos 0 ∷ sminus ∷ pos 0 ∷ uminus ∷ [])
     ++ (pos 0 ∷ pos 0 ∷ pos 1 ∷ pos 3 ∷ pos 0 ∷ pos 0 ∷ [])))
 
 abbrev pub plan6 : (out : ℤ) → List ℤ
-plan6 out = raised out (pos 0)
+plan6 out = raised out (pos 0) (pos 0)
 
 -- ---- the table
 

@@ -8,8 +8,8 @@ use crate::model::{INNER, MOST_PRESSURE, Pair, SINK};
 use crate::rng::Rng;
 
 impl Compression {
-    /// acthigh of the out end is so much below the out pressure, and u- is what 23 asks for. acthigh of the in end is on
-    /// the other side of the out pressure, so that it cannot be taken for the one that is meant.
+    /// acthigh of the out end is so much below the out pressure, and u- is what 23 asks for. Where both pressures differ,
+    /// acthigh of the in end is on the other side of the out pressure, so that it cannot be taken for the one that is meant.
     fn above_acthigh(mut self, more: i64) -> Self {
         let acthigh = self.out - more;
         let pair = &mut self.branch.pair;
