@@ -112,8 +112,8 @@ module _ {case old rows : List ℤ} {i e : ℕ} (p : AtPipe case old rows i e) w
   pub change-sized : (v : ℕ) → v < nodesOf case → Bounded (change (numberAt old) rows v) 400000
   change-sized v q = record { bound = (sized (p .at .pressures .each v q) -ʳ sized (p .at .before .each v q)) .bound }
 
-  pub sum-read : {dt x y : ℤ} {r : ArcRow} {k : Pipe} {n : Arc} → dt ≡ duration case i → r ≡ arcRow case rows e → k ≡ pipeOf case e → n ≡ arcOf case e
-      → x ≡ change (numberAt old) rows (n .from) → y ≡ change (numberAt old) rows (n .to)
+  pub sum-read : {dt x y : ℤ} {r : ArcRow} {k : Pipe} {n : Arc} → dt ≡ duration case i → r ≡ arcRow case rows e
+      → k ≡ pipeOf case e → n ≡ arcOf case e → x ≡ change (numberAt old) rows (n .from) → y ≡ change (numberAt old) rows (n .to)
       → SumRead dt (r .a) (r .b) (k .c) x y (pipeImbalance case (numberAt old) rows i e)
   unfolding pipeImbalance
   sum-read {dt} {x} {y} {r} {k} {n} et er ek en ex ey =

@@ -38,25 +38,17 @@ fn a_given_bound_is_named() {
 #[test]
 fn an_empty_bound_is_acthigh_of_the_out_end() {
     let further = "    an out bound of 0 stands for acthigh of the out end, and the slack u- does not widen it";
-    says(
-        &format!("{EMPTY} --change case 'node 3 acthigh' 51000"),
-        &[
-            "refused 26 2 0",
-            "compressor 0 (node 2 to 3, station 0), step 2, 3600 s to 7200 s: p at the out end, node 3, = 51163, \
-             over its acthigh 51000 by 163 mbar (the out bound is 0)",
-            further,
-        ],
-    );
-    // backward the out end is `from`
-    says(
-        &format!("{EMPTY} --change case 'node 2 acthigh' 48000"),
-        &[
-            "refused 26 5 0",
-            "compressor 0 (node 2 to 3, station 0), step 5, 14400 s to 18000 s: p at the out end, node 2, = 48982, \
-             over its acthigh 48000 by 982 mbar (the out bound is 0)",
-            further,
-        ],
-    );
+    let forward = "step 2, 3600 s to 7200 s: p at the out end, node 3, = 51163, over its acthigh 51000 by 163 mbar";
+    // the out end is `from`
+    let backward = "step 5, 14400 s to 18000 s: p at the out end, node 2, = 48982, over its acthigh 48000 by 982 mbar";
+    for (acthigh, verdict, over) in [
+        ("'node 3 acthigh' 51000", "refused 26 2 0", forward),
+        ("'node 2 acthigh' 48000", "refused 26 5 0", backward),
+    ] {
+        let line = format!("compressor 0 (node 2 to 3, station 0), {over} (the out bound is 0)");
+        let command = format!("{EMPTY} --change case {acthigh}");
+        says(&command, &[verdict, &line, further]);
+    }
     // the highest that each is as out end
     accepts(&format!("{EMPTY} --change case 'node 3 acthigh' 51163"));
     accepts(&format!("{EMPTY} --change case 'node 2 acthigh' 49705"));

@@ -181,7 +181,8 @@ pub record Compression (case rows : List ℤ) (i e u w : ℕ) : Type 0 where
   pub raises : (pressureIn rows u) ≤ℤ (pressureIn rows w)
   pub bound : artificialOf case e .outbound ≢ pos 0 → (pressureIn rows w) ≤ℤ (artificialOf case e .outbound)
   pub empty : artificialOf case e .outbound ≡ pos 0 → (pressureIn rows w) ≤ℤ (nodeOf case w i .acthigh)
-  pub reach : (pos 1000 *ℤ pressureIn rows w) ≤ℤ (nodeOf case u i .p0 *ℤ (pos 1000 +ℤ machineGain case (stationOffset case e) (arcRow case rows e .machines)))
+  pub reach : (pos 1000 *ℤ pressureIn rows w)
+      ≤ℤ (nodeOf case u i .p0 *ℤ (pos 1000 +ℤ machineGain case (stationOffset case e) (arcRow case rows e .machines)))
 
 abbrev pub PressuresBy : List ℤ → List ℤ → ℕ → ℕ → Mode → ℕ → ℕ → Type 0
 PressuresBy case rows i e Open u w = pressureIn rows u ≡ pressureIn rows w
@@ -265,7 +266,8 @@ abbrev pub Rule29 : List ℤ → List ℤ → ℕ → Type 0
 Rule29 case rows e = arcOf case e .kind ≡ 2
     → (pos (natAbs (pos 1000000 *ℤ (pressureIn rows (arcOf case e .to) -ℤ pressureIn rows (arcOf case e .from))
     +ℤ pipeOf case e .f *ℤ arcRow case rows e .a +ℤ pipeOf case e .g *ℤ arcRow case rows e .b
-    +ℤ pipeOf case e .h *ℤ (pressureIn rows (arcOf case e .from) +ℤ pressureIn rows (arcOf case e .to))))) ≤ℤ (pos 1000000 *ℤ pressureTolerance case)
+    +ℤ pipeOf case e .h *ℤ (pressureIn rows (arcOf case e .from) +ℤ pressureIn rows (arcOf case e .to)))))
+    ≤ℤ (pos 1000000 *ℤ pressureTolerance case)
 
 pub rule29-says : (case rows : List ℤ) (e : ℕ) → Says (pipePressuresKept case rows e) (Rule29 case rows e)
 unfolding pipePressuresKept pressureBalance

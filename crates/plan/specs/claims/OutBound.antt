@@ -272,7 +272,8 @@ outBoundRows =
     -- the slack u-, with which 23 is passed at a sink that has a demand, does not lift it
     ∷ judges (twoMachines (pos 2) (minus 1) (pos 0) (pos 59999)) (raised (pos 60000) (pos 1) (pos 1)) (refuses 26 1 0)
     -- a bound that is given counts alone, above acthigh and below it
-    ∷ judges (twoMachines (pos 0) (pos 0) (pos 60000) (pos 59999)) (plan6 (pos 60000)) (gives (pos 0 ∷ pos 0 ∷ pos 7 ∷ pos 0 ∷ pos 0 ∷ pos 0 ∷ []))
+    ∷ judges (twoMachines (pos 0) (pos 0) (pos 60000) (pos 59999)) (plan6 (pos 60000))
+    (gives (pos 0 ∷ pos 0 ∷ pos 7 ∷ pos 0 ∷ pos 0 ∷ pos 0 ∷ []))
     ∷ judges (twoMachines (pos 0) (pos 0) (pos 59999) (pos 60000)) (plan6 (pos 60000)) (refuses 26 1 0)
     -- 0 backward, where acthigh of the in end is 60,000
     ∷ judges (runsBackward (pos 50000) (pos 0) (pos 59999)) planB (refuses 26 1 1)

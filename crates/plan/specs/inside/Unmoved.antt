@@ -12,7 +12,8 @@ Unmoved f qs = map f qs ≡ qs
 pub unmoved-append : (f : Question → Question) (xs ys : List Question) → Unmoved f xs → Unmoved f ys → Unmoved f (xs ++ ys)
 unmoved-append f xs ys h k = map-append f xs ys ∙ ap₂ (λ (x y : List Question). x ++ y) h k
 
-pub unmoved-over : (f : Question → Question) (g : ℕ → List Question) (j n : ℕ) → ((m : ℕ) → m < n → Unmoved f (g (j + m))) → Unmoved f (over g j n)
+pub unmoved-over : (f : Question → Question) (g : ℕ → List Question) (j n : ℕ) → ((m : ℕ) → m < n → Unmoved f (g (j + m)))
+    → Unmoved f (over g j n)
 unmoved-over f g j zero h = refl
 unmoved-over f g j (suc n) h =
     let z : j + 0 ≡ j = omega arith in

@@ -1,6 +1,6 @@
 -- The three tests are of the pressures, the bound and the ratio as they were read; each is small enough to multiply.
-use Rattle.plan.proofs.Common.{_≡_, sym, ap, ap₂, _∙_, arith, needs, now, ℤ, pos, _+ℤ_, leZ, w64, toZ, ofZ, Held, held, held-fits, literal, _+ʳ_, _*ʳ_}
-use Rattle.plan.proofs.Common.{counted}
+use Rattle.plan.proofs.Common.{_≡_, sym, ap, ap₂, _∙_, arith, needs, now, ℤ, pos, _+ℤ_, leZ, w64, toZ, ofZ}
+use Rattle.plan.proofs.Common.{Held, held, held-fits, literal, _+ʳ_, _*ʳ_, counted}
 use mathlib.Core.Path.{subst}
 use Rattle.case.specs.declared.records.Node.{Node}
 use Rattle.case.specs.law.Records.{nodeOf, artificialOf}
