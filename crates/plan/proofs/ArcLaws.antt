@@ -65,17 +65,16 @@ module _ {case rows : List ℤ} {l : List ℕ} {i e : ℕ} (a : AtArc case rows 
   pub offset-machines : {r : ℕ} → r ≡ stationOffset case e → MachinesSized case r
   offset-machines h = rw h (machines-sized (a .at .accepted) (artificialOf case e .station) (station-in (a .at .accepted) e (a .arc) k))
 
-  pub compresses : {r u w : ℕ} → r ≡ stationOffset case e → u < nodesOf case → w < nodesOf case → Compresses case rows r i e u w
+  pub compresses : {r u w : ℕ} → r ≡ stationOffset case e → u < nodesOf case → w < nodesOf case → Compresses case rows r e u w
   compresses {r} {u} {w} h p q = record {
     accepted = a .at .accepted;
-    step = a .at .step;
     arc = a .arc;
     offset-of = h;
     machines = offset-machines h;
     in-node = p;
     out-node = q;
-    out = a .pressures .each w q;
-    base = node-sized (a .at .accepted) u p i (a .at .step) .p0;
+    in-sized = a .pressures .each u p;
+    out-sized = a .pressures .each w q;
   }
 
 -- an arc that compresses is a station's

@@ -3,11 +3,11 @@ ghost use mathlib.Core.Path.{_≡_};
 ghost use Prim.Native.Nat.{_<_, _≤_};
 ghost use lib.ListN.{getD};
 ghost use Rattle.numbers.specs.law.Question.{firstNo};
-ghost use Rattle.case.specs.law.Layout.{nodesOf, arcsOf};
+ghost use Rattle.case.specs.law.Layout.{nodesOf, arcsOf, stepsOf};
 ghost use Rattle.case.specs.law.Records.{arcOf};
 ghost use Rattle.plan.specs.declared.setting.Mode.the-variants as modes;
 ghost use Rattle.plan.specs.law.Setting.{stationOffset, settingIn};
-ghost use Rattle.plan.specs.law.ArcPressures.{outBound, compressionKept, modePressures, settingPressures, pressuresKept};
+ghost use Rattle.plan.specs.law.ArcPressures.{outBound, reachKept, compressionKept, modePressures, settingPressures, pressuresKept};
 ghost use Rattle.plan.specs.law.ArcMachines.{machinesCarry, modeMachines, settingMachines, machinesUsed};
 ghost use Rattle.plan.specs.law.ArcRules.{pressureQuestions};
 ghost use Rattle.plan.specs.inside.Sizes.{MachinesSized};
@@ -50,6 +50,17 @@ fn out_bound(x: Artificial, out: Node) -> i64
     }
 }
 
+// Do the machines reach the out pressure from the in pressure of the same step?
+fn within_reach(case: &[i64], rows: &[i64], offset: usize, e: usize, u: usize, w: usize) -> bool
+    requires { ⌜ Compresses (now case) (now rows) offset e u w ⌝ }
+    ensures { λ r. ⌜ r ≡ reachKept (now (case .entry)) (now (rows .entry)) e u w ⌝ }
+{
+    let p_in = pressure(rows, u);
+    let p_out = pressure(rows, w);
+    let ratio = 1000 + machine_gain(case, offset, arc_row(case, rows, e).machines);
+    at_most(1000 * p_out, p_in * ratio)
+}
+
 // Compressing from node `u` to node `w`; the rows of the arc's station begin at `offset`.
 fn compression_kept(
     case: &[i64],
@@ -60,15 +71,13 @@ fn compression_kept(
     u: usize,
     w: usize,
 ) -> bool
-    requires { ⌜ Compresses (now case) (now rows) offset i e u w ⌝ }
+    requires { ⌜ (Compresses (now case) (now rows) offset e u w) × (i < stepsOf (now case)) ⌝ }
     ensures { λ r. ⌜ r ≡ compressionKept (now (case .entry)) (now (rows .entry)) i e u w ⌝ }
 {
-    let p_in = pressure(rows, u);
     let p_out = pressure(rows, w);
-    if at_most(p_in, p_out) {
+    if at_most(pressure(rows, u), p_out) {
         if at_most(p_out, out_bound(artificial(case, e), node(case, w, i))) {
-            let ratio = 1000 + machine_gain(case, offset, arc_row(case, rows, e).machines);
-            return at_most(1000 * p_out, node(case, u, i).p0 * ratio);
+            return within_reach(case, rows, offset, e, u, w);
         }
     }
     false

@@ -34,7 +34,7 @@ use Rattle.plan.specs.law.PlanRecords.{pressureIn, arcRow}
 use Rattle.plan.specs.law.Setting.{directed, combinedOf, valveOf, activeOf, settingOf, settingIn, inEnd, outEnd, stationOffset}
 use Rattle.plan.specs.law.ArcFlows.{mostBackward, flowsKept, machinesWithin, settingAllowed, arcNumbersKept, noFlowAgainst, flowAllowed}
 use Rattle.plan.specs.law.Machines.{machineFlow, machineGain}
-use Rattle.plan.specs.law.ArcPressures.{compressionKept, modePressures, settingPressures, pressuresKept}
+use Rattle.plan.specs.law.ArcPressures.{reachKept, compressionKept, modePressures, settingPressures, pressuresKept}
 use Rattle.plan.specs.law.ArcMachines.{flowAlong, machinesCarry, settingMachines, machinesUsed}
 use Rattle.plan.specs.law.Pipes.{duration, change, pipeImbalance, pipeResidual, pipeMassKept, pressureBalance, pipePressuresKept}
 
@@ -176,13 +176,14 @@ rule25-says c r =
 
 -- 26: "Pressures: open valve or active shortcut equal; regulator always from ≥ to; regulating in ≥ out; compressing in ≤ out, out ≤ out bound, and
 -- 1,000 × out ≤ p0 of the in end × (1,000 + the sum of (R - 1,000) over its machines)?" An active arc has its in end at u and its out end at w; an
--- out bound of 0 "stands for acthigh of the out end in that step" (document 02, P8), whatever that node's slack and demand.
+-- out bound of 0 "stands for acthigh of the out end in that step" (document 02, P8), whatever that node's slack and demand; for p0 "the product is taken with
+-- the in end's pressure in the same step" (document 02, P1).
 pub record Compression (case rows : List ℤ) (i e u w : ℕ) : Type 0 where
   pub raises : (pressureIn rows u) ≤ℤ (pressureIn rows w)
   pub bound : artificialOf case e .outbound ≢ pos 0 → (pressureIn rows w) ≤ℤ (artificialOf case e .outbound)
   pub empty : artificialOf case e .outbound ≡ pos 0 → (pressureIn rows w) ≤ℤ (nodeOf case w i .acthigh)
   pub reach : (pos 1000 *ℤ pressureIn rows w)
-      ≤ℤ (nodeOf case u i .p0 *ℤ (pos 1000 +ℤ machineGain case (stationOffset case e) (arcRow case rows e .machines)))
+      ≤ℤ (pressureIn rows u *ℤ (pos 1000 +ℤ machineGain case (stationOffset case e) (arcRow case rows e .machines)))
 
 abbrev pub PressuresBy : List ℤ → List ℤ → ℕ → ℕ → Mode → ℕ → ℕ → Type 0
 PressuresBy case rows i e Open u w = pressureIn rows u ≡ pressureIn rows w
@@ -195,7 +196,7 @@ pub record Rule26 (case rows : List ℤ) (i e : ℕ) : Type 0 where
       → PressuresBy case rows i e mode (inEnd way (arcOf case e)) (outEnd way (arcOf case e))
 
 mode-says : (case rows : List ℤ) (i e : ℕ) (mode : Mode) (u w : ℕ) → Says (modePressures case rows i e mode u w) (PressuresBy case rows i e mode u w)
-unfolding compressionKept
+unfolding compressionKept reachKept
 mode-says case rows i e Open u w = same-says _ _
 mode-says case rows i e Regulating u w = le-says _ _
 mode-says case rows i e Compressing u w =

@@ -20,7 +20,7 @@ runsBackward p0 bound acthigh =
     ++ ((pos 60 ∷ pos 180 ∷ [])
     ++ ((pos 2 ∷ pos 39997 ∷ pos 30000 ∷ pos 60000 ∷ pos 40000 ∷ pos 59990 ∷ minus 520 ∷ minus 1500 ∷ [])
     ++ ((pos 0 ∷ pos 40000 ∷ pos 30000 ∷ pos 60000 ∷ pos 30000 ∷ acthigh ∷ pos 0 ∷ pos 0 ∷ [])
-    ++ ((pos 1 ∷ p0 ∷ pos 40000 ∷ pos 60000 ∷ pos 45300 ∷ pos 60000 ∷ pos 2510 ∷ pos 1500 ∷ [])
+    ++ ((pos 1 ∷ p0 ∷ pos 40000 ∷ pos 60000 ∷ pos 50300 ∷ pos 60000 ∷ pos 2510 ∷ pos 1500 ∷ [])
     ++ ((pos 2 ∷ pos 0 ∷ pos 1 ∷ pos 3000 ∷ pos 3 ∷ pos 1000 ∷ pos 1000 ∷ pos 0 ∷ pos 0 ∷ pos 0 ∷ pos 0 ∷ [])
     ++ ((pos 5 ∷ pos 1 ∷ pos 2 ∷ pos 3000 ∷ pos 0 ∷ pos 1 ∷ pos 7 ∷ pos 0 ∷ pos 1 ∷ pos 1 ∷ bound ∷ [])
     ++ ((pos 2 ∷ pos 2 ∷ pos 1 ∷ pos 0 ∷ pos 0 ∷ [])
@@ -30,25 +30,29 @@ runsBackward p0 bound acthigh =
     ++ ((pos 2 ∷ pos 1 ∷ pos 0 ∷ pos 200 ∷ [])
     ++ (pos 2500 ∷ pos 1200 ∷ []))))))))))))
 
-abbrev caseB : (p0 : ℤ) → List ℤ
-caseB p0 = runsBackward p0 (pos 60000) (pos 60000)
+abbrev caseB : List ℤ
+caseB = runsBackward (pos 50000) (pos 60000) (pos 60000)
 
--- From step 1 on the compressor runs backward, so that node 2 is its in end, in the second direction and the second state.
-abbrev pub planB : List ℤ
-planB =
+-- From step 1 on the compressor runs backward, so that node 2 is its in end, in the second direction and the second state. Node 2 stands at `first` in step 1
+-- and at `second` in step 2, below its actlow, 50300, by the two slacks.
+abbrev pub raisedFrom : (first firstSlack second secondSlack : ℤ) → List ℤ
+raisedFrom first firstSlack second secondSlack =
     (pos 1 ∷ pos 2 ∷ [])
     ++ ((pos 59997 ∷ minus 500 ∷ pos 0 ∷ pos 20 ∷ pos 0 ∷ pos 7 ∷ [])
     ++ ((pos 60000 ∷ pos 0 ∷ pos 0 ∷ pos 0 ∷ pos 0 ∷ pos 0 ∷ [])
-    ++ ((pos 45000 ∷ pos 2500 ∷ pos 10 ∷ pos 0 ∷ pos 300 ∷ pos 0 ∷ [])
+    ++ ((first ∷ pos 2500 ∷ pos 10 ∷ pos 0 ∷ firstSlack ∷ pos 0 ∷ [])
     ++ ((minus 500 ∷ minus 2501 ∷ pos 0 ∷ pos 0 ∷ [])
     ++ ((pos 0 ∷ pos 2500 ∷ pos 2 ∷ pos 1 ∷ [])
     ++ ((pos 1 ∷ pos 1 ∷ [])
     ++ ((pos 59997 ∷ minus 1500 ∷ pos 0 ∷ pos 0 ∷ pos 0 ∷ pos 7 ∷ [])
     ++ ((pos 60000 ∷ pos 0 ∷ pos 0 ∷ pos 0 ∷ pos 0 ∷ pos 0 ∷ [])
-    ++ ((pos 45000 ∷ pos 1500 ∷ pos 0 ∷ pos 0 ∷ pos 300 ∷ pos 0 ∷ [])
+    ++ ((second ∷ pos 1500 ∷ pos 0 ∷ pos 0 ∷ secondSlack ∷ pos 0 ∷ [])
     ++ ((minus 1500 ∷ minus 1500 ∷ pos 0 ∷ pos 0 ∷ [])
     ++ ((pos 0 ∷ pos 1500 ∷ pos 2 ∷ pos 1 ∷ [])
     ++ (pos 1 ∷ pos 1 ∷ []))))))))))))
+
+abbrev pub planB : List ℤ
+planB = raisedFrom (pos 50000) (pos 300) (pos 50000) (pos 300)
 
 -- ---- C and P in groups of seven
 
@@ -80,12 +84,13 @@ tenth b = nineBytes ++ (b ∷ [])
 unfoldable pub furtherRows : List Row
 furtherRows =
     -- Six totals above 0: pressure slack 7 and 300 in both steps; demand slack 20 and 10; switching cost 2000 for the new direction, 200 for the new state and
-    -- 7 for the compressor, all in step 1; residual 60 at the pipe and 60 at node 1. In 26 the out pressure, 60000, is just let through by p0 of the in end.
-    judges (caseB (pos 50000)) planB (gives (pos 614 ∷ pos 30 ∷ pos 2207 ∷ pos 120 ∷ pos 239991 ∷ pos 359991 ∷ []))
-    ∷ judges (caseB (pos 49999)) planB (refuses 26 1 1)
+    -- 7 for the compressor, all in step 1; residual 60 at the pipe and 60 at node 1. In 26 the out pressure, 60000, is just what the machine, of 1200, reaches
+    -- from 50000.
+    judges caseB planB (gives (pos 614 ∷ pos 30 ∷ pos 2207 ∷ pos 120 ∷ pos 239991 ∷ pos 359991 ∷ []))
+    ∷ judges caseB (raisedFrom (pos 49999) (pos 301) (pos 50000) (pos 300)) (refuses 26 1 1)
     -- the pipe inside the set; the pipe at its edge, and gas that leaves it
-    ∷ draws (caseB (pos 50000)) planB (pos 3) (pos 0) (pos 2) (gives (pos 2 ∷ pos 1 ∷ pos 239991 ∷ pos 359991 ∷ pos 120000 ∷ pos 120 ∷ []))
-    ∷ draws (caseB (pos 50000)) planB (pos 6) (pos 0) (pos 2) (gives (pos 2 ∷ pos 0 ∷ pos 0 ∷ pos 0 ∷ minus 60 ∷ pos 60 ∷ []))
+    ∷ draws caseB planB (pos 3) (pos 0) (pos 2) (gives (pos 2 ∷ pos 1 ∷ pos 239991 ∷ pos 359991 ∷ pos 120000 ∷ pos 120 ∷ []))
+    ∷ draws caseB planB (pos 6) (pos 0) (pos 2) (gives (pos 2 ∷ pos 0 ∷ pos 0 ∷ pos 0 ∷ minus 60 ∷ pos 60 ∷ []))
     -- as row 5, with both nodes
     ∷ draws (caseC (pos 60) (pos 1)) (planP (pos 901)) (pos 3) (pos 0) (pos 1)
     (gives (pos 2 ∷ pos 1 ∷ pos 599988 ∷ pos 611988 ∷ pos 12000 ∷ pos 120 ∷ []))

@@ -2,24 +2,18 @@
 -- nonzero is judged as before": neither its verdict nor its ledger goes by what 0 stands for. On every case, what is accepted is accepted with the 200,000 of
 -- document 01 too.
 -- Assumes nothing.
-use mathlib.Core.Path.{_≡_, refl, sym, ap, _∙_}
+use mathlib.Core.Path.{_≡_, refl, sym, _∙_}
 use mathlib.Core.Bool.{Bool, true, false, cond, _&&_}
-use mathlib.Core.List.{List, [], _∷_, _++_, map}
+use mathlib.Core.List.{List, [], _∷_}
 use mathlib.Core.Logic.{_≢_}
-use Prim.Native.Nat.{ℕ, _+_, _-_, _≤_, _<_}
-use native.Mathlib.Omega.{arith}
-use borrow.Author.Tests.{ne-eqb}
-use lib.Dec.{eqb}
-use lib.IntN.{ℤ, pos, _*ℤ_}
+use Prim.Native.Nat.{ℕ, _≤_, _<_}
+use lib.IntN.{ℤ, pos}
 use lib.Signed.{leZ, _≤ℤ_}
 use Rattle.numbers.specs.law.Told.{Told, gives, refuses}
-use Rattle.numbers.specs.law.Question.{Question, firstNo}
 use Rattle.numbers.specs.inside.SignedParts.{ints, size}
-use Rattle.numbers.specs.law.Signed.{posPart}
 use Rattle.case.specs.law.Field.{mostPressure}
-use Rattle.case.specs.law.Layout.{nodesOf, arcsOf, stationsOf, stepsOf}
+use Rattle.case.specs.law.Layout.{nodesOf, arcsOf, stepsOf}
 use Rattle.case.specs.law.Records.{nodeOf, arcOf, artificialOf}
-use Rattle.case.specs.law.Judged.{caseQuestions}
 use Rattle.case.specs.inside.SaysLaws.{both, pick, le-says, zero-says}
 use Rattle.plan.specs.declared.totals.Totals.{Totals}
 use Rattle.plan.specs.declared.verdict.Verdict.the-variants.{Accepted}
@@ -30,27 +24,19 @@ use Rattle.plan.specs.declared.setting.Setting.{Setting}
 use Rattle.plan.specs.declared.setting.Setting.the-variants.{Unknown, Off, Active}
 use Rattle.plan.specs.law.Compared.{isZero}
 use Rattle.plan.specs.law.PlanLayout.{stepRows}
-use Rattle.plan.specs.law.PlanHead.{headQuestion}
 use Rattle.plan.specs.law.PlanRecords.{pressureIn}
-use Rattle.plan.specs.law.BeforeStep.{pressureAt}
-use Rattle.plan.specs.law.Setting.{settingIn, inEnd, outEnd}
-use Rattle.plan.specs.law.ArcPressures.{basePressure, ratioOf, compressionKept, pressuresKept}
-use Rattle.plan.specs.law.NodeRules.{nodeQuestions, allNodeQuestions}
-use Rattle.plan.specs.law.ArcRules.{flowQuestions, pressureQuestions, pipeQuestions, arcQuestions, allArcQuestions}
-use Rattle.plan.specs.law.StationRules.{stationQuestions, allStationQuestions}
-use Rattle.plan.specs.law.Balance.{balanceQuestions, allBalanceQuestions}
-use Rattle.plan.specs.law.Step.{stepQuestions}
-use Rattle.plan.specs.law.Totals.{totalsOf}
-use Rattle.plan.specs.law.Judged.{planStep, planQuestions, questions, verdictOf, verdictTold, judgeOf}
-use Rattle.plan.specs.law.RegionFigures.{figuresOf}
-use Rattle.plan.specs.law.Ledger.{regionQuestions, ledgerQuestions, ledgerBy, ledgerTold, ledgerOf}
+use Rattle.plan.specs.law.Setting.{settingIn, outEnd}
+use Rattle.plan.specs.law.ArcPressures.{reachKept, compressionKept, pressuresKept}
+use Rattle.plan.specs.law.Judged.{verdictTold, judgeOf}
+use Rattle.plan.specs.law.Ledger.{ledgerOf}
 use Rattle.plan.specs.inside.SettingLaws.{compressing-five}
-use Rattle.plan.specs.inside.Unmoved.{Unmoved, unmoved-append, unmoved-over}
 use Rattle.plan.specs.inside.Preconditions.{AcceptedCase}
 use Rattle.plan.specs.inside.CaseSizes.{node-sized, from-node, to-node}
 use Rattle.plan.specs.inside.Computed.{law}
 use Rattle.plan.specs.claims.Acceptance.{sound}
 use Rattle.plan.specs.claims.ArcFacts.{rule26-compressing}
+use Rattle.plan.specs.claims.JudgedBy.{Test, settingPressuresBy, pressuresBy, judgedBy, ledgerToldBy}
+use Rattle.plan.specs.claims.JudgedBy.{pressures-alike, Alike26, judged-alike, ledger-alike}
 use Rattle.plan.specs.claims.TableT.{Row, judges, AllHold, RowHolds, minus, twoMachines, raised, plan6}
 use Rattle.plan.specs.claims.FurtherRows.{runsBackward, planB}
 
@@ -69,46 +55,21 @@ abbrev pub actHigh : List ℤ → Default
 actHigh case i e w = nodeOf case w i .acthigh
 
 -- compressing from the node `u` to the node `w`
-abbrev pub compressionWith : Default → List ℤ → List ℤ → ℕ → ℕ → ℕ → ℕ → Bool
+abbrev pub compressionWith : Default → List ℤ → Test
 compressionWith default case rows i e u w =
     leZ (pressureIn rows u) (pressureIn rows w)
     && (leZ (pressureIn rows w) (cond (isZero (artificialOf case e .outbound)) (default i e w) (artificialOf case e .outbound))
-    && leZ (pos 1000 *ℤ pressureIn rows w) (basePressure case i u *ℤ ratioOf case rows e))
+    && reachKept case rows e u w)
 
--- an arc that does not compress is not asked for its out bound
-abbrev pub settingPressuresWith : Default → List ℤ → List ℤ → ℕ → ℕ → Setting → Bool
-settingPressuresWith default case rows i e Unknown = pressuresKept case rows i e
-settingPressuresWith default case rows i e Off = pressuresKept case rows i e
-settingPressuresWith default case rows i e (Active way Open) = pressuresKept case rows i e
-settingPressuresWith default case rows i e (Active way Regulating) = pressuresKept case rows i e
-settingPressuresWith default case rows i e (Active way Compressing) =
-    compressionWith default case rows i e (inEnd way (arcOf case e)) (outEnd way (arcOf case e))
-
--- 26
+-- 26, the verdict and what the ledger tells
 abbrev pub pressuresWith : Default → List ℤ → List ℤ → ℕ → ℕ → Bool
-pressuresWith default case rows i e = settingPressuresWith default case rows i e (settingIn case rows e)
-
--- a question of the plan: 26 is answered by the default, every other question as it is
-abbrev pub askedWith : Default → List ℤ → List ℤ → Question → Question
-askedWith default case plan q =
-    let i = q .step - 1 in
-    record {
-      yes = cond (eqb (q .number) 26) (pressuresWith default case (stepRows case plan i) i (q .place)) (q .yes);
-      number = q .number;
-      step = q .step;
-      place = q .place;
-    }
-
--- the questions, the verdict and what the ledger tells
-abbrev pub questionsWith : Default → List ℤ → List ℤ → List Question
-questionsWith default case plan = caseQuestions case ++ map (askedWith default case plan) (planQuestions case plan)
+pressuresWith default case = pressuresBy (compressionWith default case) case
 
 abbrev pub judgedWith : Default → List ℤ → List ℤ → Told
-judgedWith default case plan = verdictTold (verdictOf (firstNo (questionsWith default case plan)) (totalsOf case plan))
+judgedWith default case = judgedBy (compressionWith default case) case
 
 abbrev pub ledgerWith : Default → List ℤ → List ℤ → ℤ → ℤ → ℤ → Told
-ledgerWith default case plan set s t =
-    ledgerTold (ledgerBy (firstNo (questionsWith default case plan ++ regionQuestions case set s t)) (figuresOf case plan set (posPart s) (posPart t)))
+ledgerWith default case = ledgerToldBy (compressionWith default case) case
 
 -- ---- one arc
 
@@ -125,110 +86,58 @@ alike-bound x default acthigh h = go (isZero x) refl
     go true e = h (zero-says x .fact e)
     go false e = refl
 
-pressures-alike : (default : Default) (case rows : List ℤ) (i e : ℕ) → IsActHigh default case i e
+bound-alike : (default : Default) (case rows : List ℤ) (i e : ℕ) → IsActHigh default case i e
     → pressuresWith default case rows i e ≡ pressuresKept case rows i e
-unfolding pressuresKept compressionKept
-pressures-alike default case rows i e h = go (settingIn case rows e) refl
-  where
-    go : (s : Setting) → settingIn case rows e ≡ s → settingPressuresWith default case rows i e s ≡ pressuresKept case rows i e
-    go Unknown k = refl
-    go Off k = refl
-    go (Active way Open) k = refl
-    go (Active way Regulating) k = refl
-    go (Active way Compressing) k =
-        let five = compressing-five _ _ way k in
-        let w = outEnd way (arcOf case e) in
-        rw (
-          ne-eqb (arcOf case e .kind) 1 (λ o. omega (arith, five, o)),
-          k,
-          alike-bound (artificialOf case e .outbound) (default i e w) (actHigh case i e w) (λ z. h five z way),
-        )
+unfolding compressionKept
+bound-alike default case rows i e h =
+    pressures-alike (compressionWith default case) case rows i e (λ way k.
+    let w = outEnd way (arcOf case e) in
+    let a = alike-bound (artificialOf case e .outbound) (default i e w) (actHigh case i e w) (λ z. h (compressing-five _ _ way k) z way) in
+    rw a)
 
 -- 26 of an arc whose out bound is not 0, or that has none, answers as with any default
 pub outbound-given : (default : Default) (case rows : List ℤ) (i e : ℕ) → (5 ≤ arcOf case e .kind → artificialOf case e .outbound ≢ pos 0)
     → pressuresWith default case rows i e ≡ pressuresKept case rows i e
-outbound-given default case rows i e given = pressures-alike default case rows i e (λ k z way. absurd (given k z))
-
--- ---- all questions
-
--- 26 is answered alike, of every arc in every step
-abbrev Alike26 : Default → List ℤ → List ℤ → Type 0
-Alike26 default case plan = (i e : ℕ) → i < stepsOf case → e < arcsOf case
-    → pressuresWith default case (stepRows case plan i) i e ≡ pressuresKept case (stepRows case plan i) i e
-
--- then all questions are
-module _ (default : Default) (case plan : List ℤ) (h : Alike26 default case plan) where
-  abbrev ask : Question → Question
-  ask = askedWith default case plan
-
-  arc-unmoved : (i e : ℕ) → i < stepsOf case → e < arcsOf case → Unmoved ask (arcQuestions case (pressureAt case plan i) (stepRows case plan i) i e)
-  unfolding arcQuestions flowQuestions pressureQuestions pipeQuestions
-  arc-unmoved i e p l = let z : i + 1 - 1 ≡ i = omega arith in rw (z, h i e p l)
-
-  step-unmoved : (i : ℕ) → i < stepsOf case → Unmoved ask (planStep case plan i)
-  unfolding planStep stepQuestions allNodeQuestions nodeQuestions allArcQuestions allStationQuestions stationQuestions allBalanceQuestions balanceQuestions
-  step-unmoved i p =
-      let rows = stepRows case plan i in
-      let old = pressureAt case plan i in
-      unmoved-append ask (allNodeQuestions case rows i) _
-      (unmoved-over ask (nodeQuestions case rows i) 0 (nodesOf case) (λ v l. refl))
-      (unmoved-append ask (allArcQuestions case old rows i) _
-      (unmoved-over ask (arcQuestions case old rows i) 0 (arcsOf case) (λ e l. arc-unmoved i (0 + e) p (omega (arith, l))))
-      (unmoved-append ask (allStationQuestions case rows i) _
-      (unmoved-over ask (stationQuestions case rows i) 0 (stationsOf case) (λ s l. refl))
-      (unmoved-over ask (balanceQuestions case rows i) 0 (nodesOf case) (λ v l. refl))))
-
-  questions-alike : questionsWith default case plan ≡ questions case plan
-  unfolding questions planQuestions
-  questions-alike =
-      let steps = unmoved-over ask (planStep case plan) 0 (stepsOf case) (λ i l. step-unmoved (0 + i) (omega (arith, l))) in
-      ap (λ (qs : List Question). caseQuestions case ++ (headQuestion case plan ∷ qs)) steps
-
-  judged-alike : judgedWith default case plan ≡ judgeOf case plan
-  unfolding judgeOf
-  judged-alike = rw questions-alike
-
-  ledger-alike : (set s t : ℤ) → ledgerWith default case plan set s t ≡ ledgerOf case plan set s t
-  unfolding ledgerOf ledgerQuestions
-  ledger-alike set s t = rw questions-alike
+outbound-given default case rows i e given = bound-alike default case rows i e (λ k z way. absurd (given k z))
 
 -- ---- the verdict and the ledger
 
 -- with acthigh of the out end as the default both are the law's, on every case
 module _ (case plan : List ℤ) where
-  by-acthigh : Alike26 (actHigh case) case plan
-  by-acthigh i e p l = pressures-alike (actHigh case) case (stepRows case plan i) i e (λ k z way. refl)
+  by-acthigh : Alike26 (compressionWith (actHigh case) case) case plan
+  by-acthigh i e p l = bound-alike (actHigh case) case (stepRows case plan i) i e (λ k z way. refl)
 
   pub judged-by-acthigh : judgedWith (actHigh case) case plan ≡ judgeOf case plan
-  judged-by-acthigh = judged-alike (actHigh case) case plan by-acthigh
+  judged-by-acthigh = judged-alike (compressionWith (actHigh case) case) case plan by-acthigh
 
   pub ledger-by-acthigh : (set s t : ℤ) → ledgerWith (actHigh case) case plan set s t ≡ ledgerOf case plan set s t
-  ledger-by-acthigh = ledger-alike (actHigh case) case plan by-acthigh
+  ledger-by-acthigh = ledger-alike (compressionWith (actHigh case) case) case plan by-acthigh
 
 -- the out bounds of a case are all nonzero
 abbrev pub OutBoundsGiven : List ℤ → Type 0
 OutBoundsGiven case = (e : ℕ) → e < arcsOf case → 5 ≤ arcOf case e .kind → artificialOf case e .outbound ≢ pos 0
 
 module _ (default : Default) (case plan : List ℤ) (given : OutBoundsGiven case) where
-  alike-26 : Alike26 default case plan
+  alike-26 : Alike26 (compressionWith default case) case plan
   alike-26 i e p l = outbound-given default case (stepRows case plan i) i e (given e l)
 
   -- "A case whose out bounds are all nonzero is judged as before": whatever the default, the verdict on any plan is the same
   pub judged-as-before : judgedWith default case plan ≡ judgeOf case plan
-  judged-as-before = judged-alike default case plan alike-26
+  judged-as-before = judged-alike (compressionWith default case) case plan alike-26
 
   -- and so is what the ledger tells
   pub ledger-as-before : (set s t : ℤ) → ledgerWith default case plan set s t ≡ ledgerOf case plan set s t
-  ledger-as-before = ledger-alike default case plan alike-26
+  ledger-as-before = ledger-alike (compressionWith default case) case plan alike-26
 
 -- ---- cases made before
 
 -- 26 holds with 200,000 where it holds with acthigh, which is no higher
 kept-with-01 : (case rows : List ℤ) (i e : ℕ) → ((way : Way) → (actHigh case i e (outEnd way (arcOf case e))) ≤ℤ mostPressure)
     → pressuresKept case rows i e ≡ true → pressuresWith defaultOf01 case rows i e ≡ true
+unfolding reachKept
 kept-with-01 case rows i e h y = go (settingIn case rows e) refl
   where
-    go : (s : Setting) → settingIn case rows e ≡ s → settingPressuresWith defaultOf01 case rows i e s ≡ true
+    go : (s : Setting) → settingIn case rows e ≡ s → settingPressuresBy (compressionWith defaultOf01 case) case rows i e s ≡ true
     go Unknown k = y
     go Off k = y
     go (Active way Open) k = y
@@ -258,7 +167,7 @@ pub was-accepted : (case plan : List ℤ) (t : Totals) → judgeOf case plan ≡
     → judgedWith defaultOf01 case plan ≡ verdictTold (Accepted t)
 was-accepted case plan t e =
     let r = sound case plan t e in
-    judged-alike defaultOf01 case plan (λ i a p l.
+    judged-alike (compressionWith defaultOf01 case) case plan (λ i a p l.
     let y = r .steps i p .arcs a l .rule26 in
     kept-with-01 case (stepRows case plan i) i a (acthigh-most (record { yes = r .case-yes }) i a p l) y ∙ sym y) ∙ e
 
@@ -267,14 +176,15 @@ was-accepted case plan t e =
 unfoldable pub outBoundRows : List Row
 outBoundRows =
     -- 0 stands for acthigh of the out end: 59,999 does not let 60,000 through, 60,000 does
-    judges (twoMachines (pos 0) (pos 0) (pos 0) (pos 59999)) (plan6 (pos 60000)) (refuses 26 1 0)
-    ∷ judges (twoMachines (pos 0) (pos 0) (pos 0) (pos 60000)) (plan6 (pos 60000)) (gives (pos 0 ∷ pos 0 ∷ pos 7 ∷ pos 0 ∷ pos 0 ∷ pos 0 ∷ []))
-    -- the slack u-, with which 23 is passed at a sink that has a demand, does not lift it
-    ∷ judges (twoMachines (pos 2) (minus 1) (pos 0) (pos 59999)) (raised (pos 60000) (pos 1) (pos 1)) (refuses 26 1 0)
-    -- a bound that is given counts alone, above acthigh and below it
-    ∷ judges (twoMachines (pos 0) (pos 0) (pos 60000) (pos 59999)) (plan6 (pos 60000))
+    judges (twoMachines (pos 40000) (pos 0) (pos 0) (pos 0) (pos 59999)) (plan6 (pos 60000)) (refuses 26 1 0)
+    ∷ judges (twoMachines (pos 40000) (pos 0) (pos 0) (pos 0) (pos 60000)) (plan6 (pos 60000))
     (gives (pos 0 ∷ pos 0 ∷ pos 7 ∷ pos 0 ∷ pos 0 ∷ pos 0 ∷ []))
-    ∷ judges (twoMachines (pos 0) (pos 0) (pos 59999) (pos 60000)) (plan6 (pos 60000)) (refuses 26 1 0)
+    -- the slack u-, with which 23 is passed at a sink that has a demand, does not lift it
+    ∷ judges (twoMachines (pos 40000) (pos 2) (minus 1) (pos 0) (pos 59999)) (raised (pos 60000) (pos 1) (pos 1)) (refuses 26 1 0)
+    -- a bound that is given counts alone, above acthigh and below it
+    ∷ judges (twoMachines (pos 40000) (pos 0) (pos 0) (pos 60000) (pos 59999)) (plan6 (pos 60000))
+    (gives (pos 0 ∷ pos 0 ∷ pos 7 ∷ pos 0 ∷ pos 0 ∷ pos 0 ∷ []))
+    ∷ judges (twoMachines (pos 40000) (pos 0) (pos 0) (pos 59999) (pos 60000)) (plan6 (pos 60000)) (refuses 26 1 0)
     -- 0 backward, where acthigh of the in end is 60,000
     ∷ judges (runsBackward (pos 50000) (pos 0) (pos 59999)) planB (refuses 26 1 1)
     ∷ judges (runsBackward (pos 50000) (pos 0) (pos 60000)) planB (gives (pos 614 ∷ pos 30 ∷ pos 2207 ∷ pos 120 ∷ pos 239991 ∷ pos 359991 ∷ []))
@@ -285,7 +195,7 @@ unfolding AllHold RowHolds outBoundRows law
 outBounds = (refl, (refl, (refl, (refl, (refl, (refl, (refl, tt)))))))
 
 -- the first of them is accepted with the default of document 01
-pub first-row-with-01 : judgedWith defaultOf01 (twoMachines (pos 0) (pos 0) (pos 0) (pos 59999)) (plan6 (pos 60000))
+pub first-row-with-01 : judgedWith defaultOf01 (twoMachines (pos 40000) (pos 0) (pos 0) (pos 0) (pos 59999)) (plan6 (pos 60000))
     ≡ gives (pos 0 ∷ pos 0 ∷ pos 7 ∷ pos 0 ∷ pos 0 ∷ pos 0 ∷ [])
 unfolding law
 first-row-with-01 = refl

@@ -63,11 +63,11 @@ planP b =
     ++ ((pos 50998 ∷ minus 900 ∷ pos 0 ∷ pos 0 ∷ pos 0 ∷ pos 0 ∷ [])
     ++ (pos 1100 ∷ b ∷ pos 0 ∷ pos 0 ∷ [])))
 
--- a compressor with two machines: the kind and the demand of its out end, its out bound, and acthigh of its out end
-abbrev pub twoMachines : (kind demand bound acthigh : ℤ) → List ℤ
-twoMachines kind demand bound acthigh =
+-- a compressor with two machines: p0 of its in end, the kind and the demand of its out end, its out bound, and acthigh of its out end
+abbrev pub twoMachines : (p0 kind demand bound acthigh : ℤ) → List ℤ
+twoMachines p0 kind demand bound acthigh =
     (pos 1 ∷ pos 2 ∷ pos 1 ∷ pos 1 ∷ pos 1 ∷ pos 0 ∷ pos 0 ∷ pos 60 ∷ [])
-    ++ ((pos 0 ∷ pos 40000 ∷ pos 0 ∷ pos 200000 ∷ pos 0 ∷ pos 200000 ∷ pos 0 ∷ [])
+    ++ ((pos 0 ∷ p0 ∷ pos 0 ∷ pos 200000 ∷ pos 0 ∷ pos 200000 ∷ pos 0 ∷ [])
     ++ ((kind ∷ pos 40000 ∷ pos 0 ∷ pos 200000 ∷ pos 0 ∷ acthigh ∷ demand ∷ [])
     ++ ((pos 5 ∷ pos 0 ∷ pos 1 ∷ pos 1000 ∷ pos 0 ∷ pos 0 ∷ pos 7 ∷ pos 0 ∷ pos 3 ∷ pos 2 ∷ bound ∷ [])
     ++ ((pos 1 ∷ pos 1 ∷ pos 2 ∷ pos 0 ∷ pos 0 ∷ [])
@@ -76,9 +76,9 @@ twoMachines kind demand bound acthigh =
 
 -- "In end with p0 and p 40,000, out bound 200,000, machines 1,200 and 1,300"
 abbrev pub case6 : List ℤ
-case6 = twoMachines (pos 0) (pos 0) (pos 200000) (pos 200000)
+case6 = twoMachines (pos 40000) (pos 0) (pos 0) (pos 200000) (pos 200000)
 
--- its out end at the pressure `out`, with the slacks s- and u-
+-- its in end at the pressure 40,000, its out end at `out` with the slacks s- and u-
 abbrev pub raised : (out sminus uminus : ℤ) → List ℤ
 raised out sminus uminus =
     (pos 1 ∷ pos 1 ∷ [])
@@ -103,7 +103,8 @@ rows =
     ∷ judges (caseC (pos 59) (pos 1)) (planP (pos 901)) (refuses 28 1 0)
     -- "5. As 3, set {1}, 0 to 1: brought in 60, residual 60." The set {1} is the number 2. It is one node, with no inner pipe and so no gas.
     ∷ draws (caseC (pos 60) (pos 1)) (planP (pos 901)) (pos 2) (pos 0) (pos 1) (gives (pos 1 ∷ pos 0 ∷ pos 0 ∷ pos 0 ∷ pos 60 ∷ pos 60 ∷ []))
-    -- "6. [..] out 60,000 passes 26, 60,001 doesn't." The case and the plan around the row's figures are `case6` and `plan6` above.
+    -- "6. [..] out 60,000 passes 26, 60,001 doesn't." The case and the plan around the row's figures are `case6` and `plan6` above; the row "reads the in end's
+    -- 40,000 as the current pressure" (document 02, P1).
     ∷ judges case6 (plan6 (pos 60000)) (gives (pos 0 ∷ pos 0 ∷ pos 7 ∷ pos 0 ∷ pos 0 ∷ pos 0 ∷ []))
     ∷ judges case6 (plan6 (pos 60001)) (refuses 26 1 0)
     -- "7. -900 is 87 0E; 64 is 80 01."

@@ -27,7 +27,7 @@ use Rattle.plan.specs.law.PlanHead.{headKept}
 use Rattle.plan.specs.law.NodeRules.{slacksKept, boundaryFlowKept, nodeNumbersKept, demandMet, activeBoundsKept, nodeQuestions, allNodeQuestions}
 use Rattle.plan.specs.law.ArcFlows.{flowsKept, machinesWithin, arcNumbersKept, flowAllowed}
 use Rattle.plan.specs.law.Machines.{flowPart, machineFlow, gainPart, machineGain}
-use Rattle.plan.specs.law.ArcPressures.{compressionKept, pressuresKept}
+use Rattle.plan.specs.law.ArcPressures.{reachKept, compressionKept, pressuresKept}
 use Rattle.plan.specs.law.ArcMachines.{machinesCarry, machinesUsed}
 use Rattle.plan.specs.law.Pipes.{duration, pipeImbalance, pipeResidual, pipeMassKept, pressureBalance, pipePressuresKept}
 use Rattle.plan.specs.law.ArcRules.{flowQuestions, pressureQuestions, pipeQuestions, arcQuestions, allArcQuestions}
@@ -74,7 +74,8 @@ caseRules = tt
 unfoldable pub nodesAndArcs : Unit {0}
 unfolding before.pressureAt before.activeAt before.directionChosen before.stateChosen directed combinedOf valveOf activeOf settingOf headKept
     slacksKept boundaryFlowKept nodeNumbersKept demandMet activeBoundsKept nodeQuestions allNodeQuestions
-    flowsKept machinesWithin arcNumbersKept flowAllowed flowPart machineFlow gainPart machineGain compressionKept pressuresKept machinesCarry machinesUsed
+    flowsKept machinesWithin arcNumbersKept flowAllowed flowPart machineFlow gainPart machineGain reachKept compressionKept pressuresKept
+    machinesCarry machinesUsed
     duration pipeImbalance pipeResidual pipeMassKept pressureBalance pipePressuresKept
     flowQuestions pressureQuestions pipeQuestions arcQuestions allArcQuestions
 nodesAndArcs = tt

@@ -16,7 +16,6 @@ use Rattle.plan.specs.law.PlanRecords.{pressureIn, arcRow, directionIn, 
 use Rattle.numbers.specs.inside.SignedBounds.{Bounded}
 use Rattle.case.specs.law.Records.{arcOf, artificialOf, stationOf}
 use Rattle.plan.specs.law.Setting.{stationOffset}
-use Rattle.plan.specs.law.ArcPressures.{basePressure}
 use Rattle.plan.specs.inside.Sizes.{PressuresSized, ArcRowSized, FlowsSized, NodesSized, MachinesSized}
 use Rattle.plan.specs.law.ArcFlows.{machinesWithin}
 use Rattle.plan.specs.law.Balance.{netFlow, nodeResidual}
@@ -44,16 +43,15 @@ pub record AtArc (case : List ℤ) (rows : List ℤ) (offsets : List ℕ) (i e :
   pub pressures : PressuresSized (pressureIn rows) (nodesOf case)
 
 -- an arc that is compressing from node u to node w, and the rows of its station from `offset` on
-pub record Compresses (case : List ℤ) (rows : List ℤ) (offset i e u w : ℕ) : Type 0 where
+pub record Compresses (case : List ℤ) (rows : List ℤ) (offset e u w : ℕ) : Type 0 where
   pub accepted : AcceptedCase case
-  pub step : i < stepsOf case
   pub arc : e < arcsOf case
   pub offset-of : offset ≡ stationOffset case e
   pub machines : MachinesSized case offset
   pub in-node : u < nodesOf case
   pub out-node : w < nodesOf case
-  pub out : Bounded (pressureIn rows w) 200000
-  pub base : Bounded (basePressure case i u) 200000
+  pub in-sized : Bounded (pressureIn rows u) 200000
+  pub out-sized : Bounded (pressureIn rows w) 200000
 
 -- past 24: an arc whose flows are in range, as are the pressures, and those before the step
 pub record AtFlow (case old rows : List ℤ) (i e : ℕ) : Type 0 where

@@ -1,5 +1,6 @@
 -- 26: "Pressures: open valve or active shortcut equal; regulator always from ≥ to; regulating in ≥ out; compressing in ≤ out, out ≤ out bound, and
--- 1,000 × out ≤ p0 of the in end × (1,000 + the sum of (R - 1,000) over its machines)?"
+-- 1,000 × out ≤ p0 of the in end × (1,000 + the sum of (R - 1,000) over its machines)?" Of this last, document 02, P1: "In 26 the product is taken with the
+-- in end's pressure in the same step." So p0 does not occur here.
 -- Assumes nothing.
 use mathlib.Core.Bool.{Bool, true, cond, _&&_}
 use mathlib.Core.List.{List}
@@ -23,20 +24,20 @@ use Rattle.plan.specs.law.Machines.{machineGain}
 abbrev pub outBound : Artificial → Node → ℤ
 outBound x out = cond (isZero (x .outbound)) (out .acthigh) (x .outbound)
 
--- the pressure that the machines raise: p0 of the in end
-abbrev pub basePressure : List ℤ → ℕ → ℕ → ℤ
-basePressure case i v = nodeOf case v i .p0
-
 -- the ratio of a compressing arc, in thousandths
 abbrev pub ratioOf : List ℤ → List ℤ → ℕ → ℤ
 ratioOf case rows e = pos 1000 +ℤ machineGain case (stationOffset case e) (arcRow case rows e .machines)
+
+-- 1,000 × out ≤ in × ratio, both in the same step: what the machines of an arc from the node `u` to the node `w` reach
+unfoldable pub reachKept : List ℤ → List ℤ → ℕ → ℕ → ℕ → Bool
+reachKept case rows e u w = leZ (pos 1000 *ℤ pressureIn rows w) (pressureIn rows u *ℤ ratioOf case rows e)
 
 -- compressing from the node `u` to the node `w`
 unfoldable pub compressionKept : List ℤ → List ℤ → ℕ → ℕ → ℕ → ℕ → Bool
 compressionKept case rows i e u w =
     leZ (pressureIn rows u) (pressureIn rows w)
     && (leZ (pressureIn rows w) (outBound (artificialOf case e) (nodeOf case w i))
-    && leZ (pos 1000 *ℤ pressureIn rows w) (basePressure case i u *ℤ ratioOf case rows e))
+    && reachKept case rows e u w)
 
 -- an active arc from the node `u` to the node `w`
 abbrev pub modePressures : List ℤ → List ℤ → ℕ → ℕ → Mode → ℕ → ℕ → Bool

@@ -15,7 +15,7 @@ compression-kept-requires : tie.Need-compression-kept-requires
 compression-kept-requires c κs =
     let p = c .before .before .before .before .before .pre in
     let k = p .3 (c .before .before .enum-told3 .given .1) in
-    compresses (p .0) k (offset-is (p .0) k (c .before .artificial .ensures) (c .offset-of .ensures)) (p .1) (p .2)
+    (compresses (p .0) k (offset-is (p .0) k (c .before .artificial .ensures) (c .offset-of .ensures)) (p .1) (p .2), p .0 .at .step)
 
 returns : tie.Need-returns
 returns c =
