@@ -28,7 +28,7 @@ use Rattle.plan.specs.inside.Sizes.{MachinesSized}
 use Rattle.plan.specs.inside.SettingLaws.{compressing-five}
 use Rattle.plan.specs.inside.Preconditions.{AcceptedCase, AtArc, AtPipe, Compresses}
 use Rattle.plan.proofs.SignedReads.{read, read-bounded, sized}
-use Rattle.plan.specs.inside.CaseSizes.{duration-sized, node-sized, from-node, to-node, pipe-sized, station-in, machines-sized}
+use Rattle.plan.specs.inside.CaseSizes.{duration-sized, from-node, to-node, pipe-sized, station-in, machines-sized}
 
 -- ---- the two ends of an arc that was read
 

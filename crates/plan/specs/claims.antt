@@ -9,6 +9,6 @@ pub mod WrongByte
 pub mod Demand3
 pub mod TableT
 pub mod FurtherRows
-pub mod JudgedBy
+pub mod JudgedUnder
 pub mod OutBound
 pub mod Reach

@@ -5,6 +5,7 @@ pub mod Sizes
 pub mod Preconditions
 pub mod SettingLaws
 pub mod Unmoved
+pub mod JudgedAlike
 pub mod CaseSizes
 pub mod AnsweredSizes
 pub mod NetFlow

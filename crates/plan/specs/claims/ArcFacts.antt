@@ -176,8 +176,8 @@ rule25-says c r =
 
 -- 26: "Pressures: open valve or active shortcut equal; regulator always from ≥ to; regulating in ≥ out; compressing in ≤ out, out ≤ out bound, and
 -- 1,000 × out ≤ p0 of the in end × (1,000 + the sum of (R - 1,000) over its machines)?" An active arc has its in end at u and its out end at w; an
--- out bound of 0 "stands for acthigh of the out end in that step" (document 02, P8), whatever that node's slack and demand; for p0 "the product is taken with
--- the in end's pressure in the same step" (document 02, P1).
+-- out bound of 0 "stands for acthigh of the out end in that step" (document 02, P8), whatever that node's slack and demand; in place of p0
+-- "the product is taken with the in end's pressure in the same step" (document 02, P1).
 pub record Compression (case rows : List ℤ) (i e u w : ℕ) : Type 0 where
   pub raises : (pressureIn rows u) ≤ℤ (pressureIn rows w)
   pub bound : artificialOf case e .outbound ≢ pos 0 → (pressureIn rows w) ≤ℤ (artificialOf case e .outbound)

@@ -1,6 +1,6 @@
 -- An empty out bound (document 02, P8): "From now on 0 stands for acthigh of the out end in that step, in all editions." "A case whose out bounds are all
 -- nonzero is judged as before": neither its verdict nor its ledger goes by what 0 stands for. On every case, what is accepted is accepted with the 200,000 of
--- document 01 too.
+-- document 01 too. The product of 26 is that of document 02, P1, throughout.
 -- Assumes nothing.
 use mathlib.Core.Path.{_≡_, refl, sym, _∙_}
 use mathlib.Core.Bool.{Bool, true, false, cond, _&&_}
@@ -30,13 +30,13 @@ use Rattle.plan.specs.law.ArcPressures.{reachKept, compressionKept, pres
 use Rattle.plan.specs.law.Judged.{verdictTold, judgeOf}
 use Rattle.plan.specs.law.Ledger.{ledgerOf}
 use Rattle.plan.specs.inside.SettingLaws.{compressing-five}
+use Rattle.plan.specs.inside.JudgedAlike.{alike-bound, pressures-alike, Alike26, judged-alike, ledger-alike}
 use Rattle.plan.specs.inside.Preconditions.{AcceptedCase}
 use Rattle.plan.specs.inside.CaseSizes.{node-sized, from-node, to-node}
 use Rattle.plan.specs.inside.Computed.{law}
 use Rattle.plan.specs.claims.Acceptance.{sound}
 use Rattle.plan.specs.claims.ArcFacts.{rule26-compressing}
-use Rattle.plan.specs.claims.JudgedBy.{Test, settingPressuresBy, pressuresBy, judgedBy, ledgerToldBy}
-use Rattle.plan.specs.claims.JudgedBy.{pressures-alike, Alike26, judged-alike, ledger-alike}
+use Rattle.plan.specs.claims.JudgedUnder.{CompressionTest, settingPressuresUnder, pressuresUnder, judgedUnder, ledgerUnder}
 use Rattle.plan.specs.claims.TableT.{Row, judges, AllHold, RowHolds, minus, twoMachines, raised, plan6}
 use Rattle.plan.specs.claims.FurtherRows.{runsBackward, planB}
 
@@ -55,7 +55,7 @@ abbrev pub actHigh : List ℤ → Default
 actHigh case i e w = nodeOf case w i .acthigh
 
 -- compressing from the node `u` to the node `w`
-abbrev pub compressionWith : Default → List ℤ → Test
+abbrev pub compressionWith : Default → List ℤ → CompressionTest
 compressionWith default case rows i e u w =
     leZ (pressureIn rows u) (pressureIn rows w)
     && (leZ (pressureIn rows w) (cond (isZero (artificialOf case e .outbound)) (default i e w) (artificialOf case e .outbound))
@@ -63,28 +63,21 @@ compressionWith default case rows i e u w =
 
 -- 26, the verdict and what the ledger tells
 abbrev pub pressuresWith : Default → List ℤ → List ℤ → ℕ → ℕ → Bool
-pressuresWith default case = pressuresBy (compressionWith default case) case
+pressuresWith default case = pressuresUnder (compressionWith default case) case
 
 abbrev pub judgedWith : Default → List ℤ → List ℤ → Told
-judgedWith default case = judgedBy (compressionWith default case) case
+judgedWith default case = judgedUnder (compressionWith default case) case
 
 abbrev pub ledgerWith : Default → List ℤ → List ℤ → ℤ → ℤ → ℤ → Told
-ledgerWith default case = ledgerToldBy (compressionWith default case) case
+ledgerWith default case = ledgerUnder (compressionWith default case) case
 
 -- ---- one arc
 
 -- a default that is acthigh of the out end, either way, where the out bound of arc e is 0; arcs of kinds 0 to 4 have no out bound
-abbrev IsActHigh : Default → List ℤ → ℕ → ℕ → Type 0
+abbrev pub IsActHigh : Default → List ℤ → ℕ → ℕ → Type 0
 IsActHigh default case i e =
     5 ≤ arcOf case e .kind → artificialOf case e .outbound ≡ pos 0 → (way : Way)
     → default i e (outEnd way (arcOf case e)) ≡ actHigh case i e (outEnd way (arcOf case e))
-
-alike-bound : (x default acthigh : ℤ) → (x ≡ pos 0 → default ≡ acthigh) → cond (isZero x) default x ≡ cond (isZero x) acthigh x
-alike-bound x default acthigh h = go (isZero x) refl
-  where
-    go : (b : Bool) → isZero x ≡ b → cond b default x ≡ cond b acthigh x
-    go true e = h (zero-says x .fact e)
-    go false e = refl
 
 bound-alike : (default : Default) (case rows : List ℤ) (i e : ℕ) → IsActHigh default case i e
     → pressuresWith default case rows i e ≡ pressuresKept case rows i e
@@ -137,7 +130,7 @@ kept-with-01 : (case rows : List ℤ) (i e : ℕ) → ((way : Way) → (actHigh 
 unfolding reachKept
 kept-with-01 case rows i e h y = go (settingIn case rows e) refl
   where
-    go : (s : Setting) → settingIn case rows e ≡ s → settingPressuresBy (compressionWith defaultOf01 case) case rows i e s ≡ true
+    go : (s : Setting) → settingIn case rows e ≡ s → settingPressuresUnder (compressionWith defaultOf01 case) case rows i e s ≡ true
     go Unknown k = y
     go Off k = y
     go (Active way Open) k = y
@@ -180,7 +173,7 @@ outBoundRows =
     ∷ judges (twoMachines (pos 40000) (pos 0) (pos 0) (pos 0) (pos 60000)) (plan6 (pos 60000))
     (gives (pos 0 ∷ pos 0 ∷ pos 7 ∷ pos 0 ∷ pos 0 ∷ pos 0 ∷ []))
     -- the slack u-, with which 23 is passed at a sink that has a demand, does not lift it
-    ∷ judges (twoMachines (pos 40000) (pos 2) (minus 1) (pos 0) (pos 59999)) (raised (pos 60000) (pos 1) (pos 1)) (refuses 26 1 0)
+    ∷ judges (twoMachines (pos 40000) (pos 2) (minus 1) (pos 0) (pos 59999)) (raised (pos 3) (pos 60000) (pos 1) (pos 1)) (refuses 26 1 0)
     -- a bound that is given counts alone, above acthigh and below it
     ∷ judges (twoMachines (pos 40000) (pos 0) (pos 0) (pos 60000) (pos 59999)) (plan6 (pos 60000))
     (gives (pos 0 ∷ pos 0 ∷ pos 7 ∷ pos 0 ∷ pos 0 ∷ pos 0 ∷ []))

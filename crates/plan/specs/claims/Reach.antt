@@ -1,43 +1,41 @@
 -- Compression from the pressure we have now (document 02, P1): "In 26 the product is taken with the in end's pressure in the same step." "A user who leans on
 -- acceptance now leans on this rule."
 -- Assumes nothing.
-use mathlib.Core.Path.{_≡_, refl, ap, _∙_}
+use mathlib.Core.Path.{_≡_, refl, _∙_}
 use mathlib.Core.Bool.{Bool, cond, _&&_}
 use mathlib.Core.List.{List, [], _∷_}
 use Prim.Native.Nat.{ℕ, _<_}
-use lib.Dec.{eqb}
+use native.Mathlib.Omega.{arith}
+use borrow.Author.Tests.{ne-eqb}
 use lib.IntN.{ℤ, pos, _+ℤ_, _*ℤ_}
 use lib.Signed.{leZ}
-use Rattle.numbers.specs.law.Told.{gives, refuses}
-use Rattle.numbers.specs.law.Sets.{memberOf}
-use Rattle.numbers.specs.law.Sums.{sum}
+use Rattle.numbers.specs.law.Told.{Told, gives, refuses}
 use Rattle.numbers.specs.inside.SignedParts.{ints, posPart-mul, negPart-mul}
 use Rattle.numbers.specs.inside.SetLaws.{bit-zero}
 use Rattle.numbers.specs.inside.SumLaws.{sum-cong, sum-zero}
-use Rattle.case.specs.declared.records.Arc.{Arc}
-use Rattle.case.specs.declared.records.Artificial.{Artificial}
 use Rattle.case.specs.law.Layout.{arcsOf, stepsOf, machineCount}
 use Rattle.case.specs.law.Records.{nodeOf, arcOf, artificialOf}
-use Rattle.plan.specs.declared.rows.ArcRow.{ArcRow}
 use Rattle.plan.specs.declared.totals.Totals.{Totals}
 use Rattle.plan.specs.declared.verdict.Verdict.the-variants.{Accepted}
 use Rattle.plan.specs.declared.setting.Way.{Way}
-use Rattle.plan.specs.declared.setting.Mode.the-variants.{Open, Regulating, Compressing}
-use Rattle.plan.specs.declared.setting.Setting.{Setting}
-use Rattle.plan.specs.declared.setting.Setting.the-variants.{Unknown, Off, Active}
+use Rattle.plan.specs.declared.setting.Mode.the-variants.{Compressing}
+use Rattle.plan.specs.declared.setting.Setting.the-variants.{Active}
 use Rattle.plan.specs.law.Compared.{isZero}
 use Rattle.plan.specs.law.PlanLayout.{stepRows}
 use Rattle.plan.specs.law.PlanRecords.{pressureIn, arcRow}
-use Rattle.plan.specs.law.Setting.{settingOf, settingIn, inEnd, outEnd, stationOffset}
+use Rattle.plan.specs.law.Setting.{settingIn, inEnd, outEnd, stationOffset}
 use Rattle.plan.specs.law.Machines.{gainPart, machineGain}
-use Rattle.plan.specs.law.ArcPressures.{outBound, ratioOf, reachKept, compressionKept, modePressures, settingPressures, pressuresKept}
+use Rattle.plan.specs.law.ArcPressures.{ratioOf, reachKept, compressionKept, pressuresKept}
 use Rattle.plan.specs.law.Judged.{verdictTold, judgeOf}
 use Rattle.plan.specs.law.Ledger.{ledgerOf}
+use Rattle.plan.specs.inside.SettingLaws.{compressing-five}
+use Rattle.plan.specs.inside.JudgedAlike.{alike-bound, pressures-alike, Alike26, judged-alike, ledger-alike}
 use Rattle.plan.specs.inside.Computed.{law}
 use Rattle.plan.specs.claims.Acceptance.{sound}
 use Rattle.plan.specs.claims.ArcFacts.{Compression, rule26-compressing}
-use Rattle.plan.specs.claims.JudgedBy.{Test, judgedBy, ledgerToldBy, pressures-alike, Alike26, judged-alike, ledger-alike}
-use Rattle.plan.specs.claims.TableT.{Row, judges, AllHold, RowHolds, twoMachines, plan6}
+use Rattle.plan.specs.claims.JudgedUnder.{CompressionTest, judgedUnder, ledgerUnder}
+use Rattle.plan.specs.claims.OutBound.{Default, defaultOf01, actHigh, IsActHigh, OutBoundsGiven}
+use Rattle.plan.specs.claims.TableT.{Row, judges, AllHold, RowHolds, twoMachines, case6, raised, plan6}
 use Rattle.plan.specs.claims.FurtherRows.{runsBackward, raisedFrom, planB}
 
 -- ---- what acceptance says of an arc that compresses
@@ -72,102 +70,108 @@ from-zero case rows i e u w f z =
 
 -- ---- p0 is not asked
 
--- two cases that are alike in what 26 reads of arc e in the step with index i; no p0 is among it
-pub record Alike (a b rows : List ℤ) (i e : ℕ) : Type 0 where
-  pub arc : arcOf a e ≡ arcOf b e
-  pub artificial : artificialOf a e ≡ artificialOf b e
-  pub row : arcRow a rows e ≡ arcRow b rows e
-  pub acthigh : (v : ℕ) → nodeOf a v i .acthigh ≡ nodeOf b v i .acthigh
-  pub gain : (set : ℤ) → machineGain a (stationOffset a e) set ≡ machineGain b (stationOffset b e) set
+-- the tests of an arc that compresses: "compressing in ≤ out, out ≤ out bound", and what its machines reach
+abbrev pub keptBy : (pIn pOut outbound acthigh gain : ℤ) → Bool
+keptBy pIn pOut outbound acthigh gain =
+    leZ pIn pOut && (leZ pOut (cond (isZero outbound) acthigh outbound) && leZ (pos 1000 *ℤ pOut) (pIn *ℤ (pos 1000 +ℤ gain)))
 
--- the three tests of an arc that compresses, by the numbers that they compare
-abbrev kept : (pIn pOut bound acthigh gain : ℤ) → Bool
-kept pIn pOut bound acthigh gain =
-    leZ pIn pOut && (leZ pOut (cond (isZero bound) acthigh bound) && leZ (pos 1000 *ℤ pOut) (pIn *ℤ (pos 1000 +ℤ gain)))
-
-pub without-p0 : (a b rows : List ℤ) (i e : ℕ) → Alike a b rows i e → pressuresKept a rows i e ≡ pressuresKept b rows i e
+-- 26 of such an arc goes by five numbers, none of which is p0: two pressures of the step, its out bound, acthigh of its out end, and the gain of its machines
+pub by-five : (case rows : List ℤ) (i e : ℕ) (way : Way) → settingIn case rows e ≡ Active way Compressing
+    → let w = outEnd way (arcOf case e) in
+    pressuresKept case rows i e ≡ keptBy (pressureIn rows (inEnd way (arcOf case e))) (pressureIn rows w)
+    (artificialOf case e .outbound) (nodeOf case w i .acthigh) (machineGain case (stationOffset case e) (arcRow case rows e .machines))
 unfolding pressuresKept compressionKept reachKept
-without-p0 a b rows i e h =
-    let c = arcOf b e in
-    ap (λ (c : Arc). by c (settingOf (c .kind) (arcRow a rows e .setting))) (h .arc)
-    ∙ ap (λ (r : ArcRow). by c (settingOf (c .kind) (r .setting))) (h .row)
-    ∙ ap (cond (eqb (c .kind) 1) (leZ (pressureIn rows (c .to)) (pressureIn rows (c .from)))) (go (settingIn b rows e))
-  where
-    by : Arc → Setting → Bool
-    by c s = cond (eqb (c .kind) 1) (leZ (pressureIn rows (c .to)) (pressureIn rows (c .from))) (settingPressures a rows i e s)
+by-five case rows i e way k =
+    let five = compressing-five _ _ way k in
+    rw (ne-eqb (arcOf case e .kind) 1 (λ o. omega (arith, five, o)), k)
 
-    gain : machineGain a (stationOffset a e) (arcRow a rows e .machines) ≡ machineGain b (stationOffset b e) (arcRow b rows e .machines)
-    gain = ap (λ (r : ArcRow). machineGain a (stationOffset a e) (r .machines)) (h .row) ∙ h .gain (arcRow b rows e .machines)
+-- ---- with p0 in the product
 
-    go : (s : Setting) → settingPressures a rows i e s ≡ settingPressures b rows i e s
-    go Unknown = refl
-    go Off = refl
-    go (Active way Open) = ap (λ (c : Arc). modePressures a rows i e Open (inEnd way c) (outEnd way c)) (h .arc)
-    go (Active way Regulating) = ap (λ (c : Arc). modePressures a rows i e Regulating (inEnd way c) (outEnd way c)) (h .arc)
-    go (Active way Compressing) =
-        let w = outEnd way (arcOf b e) in
-        let first = kept (pressureIn rows (inEnd way (arcOf b e))) (pressureIn rows w) in
-        let before = machineGain a (stationOffset a e) (arcRow a rows e .machines) in
-        ap (λ (c : Arc). compressionKept a rows i e (inEnd way c) (outEnd way c)) (h .arc)
-        ∙ ap (λ (x : Artificial). first (x .outbound) (nodeOf a w i .acthigh) before) (h .artificial)
-        ∙ ap (λ (y : ℤ). first (artificialOf b e .outbound) y before) (h .acthigh w)
-        ∙ ap (first (artificialOf b e .outbound) (nodeOf b w i .acthigh)) gain
-
--- ---- with p0 in the product, as document 01 has it
-
-abbrev pub compressionFromP0 : List ℤ → Test
-compressionFromP0 case rows i e u w =
+-- document 01: "1,000 × out ≤ p0 of the in end × (1,000 + the sum of (R - 1,000) over its machines)"; what an out bound of 0 stands for is left open
+abbrev pub compressionFromP0 : Default → List ℤ → CompressionTest
+compressionFromP0 default case rows i e u w =
     leZ (pressureIn rows u) (pressureIn rows w)
-    && (leZ (pressureIn rows w) (outBound (artificialOf case e) (nodeOf case w i))
+    && (leZ (pressureIn rows w) (cond (isZero (artificialOf case e .outbound)) (default i e w) (artificialOf case e .outbound))
     && leZ (pos 1000 *ℤ pressureIn rows w) (nodeOf case u i .p0 *ℤ ratioOf case rows e))
 
--- every arc that compresses does so from the p0 of its in end
-abbrev pub FromP0 : List ℤ → List ℤ → Type 0
-FromP0 case plan = (i e : ℕ) → i < stepsOf case → e < arcsOf case → (way : Way) → settingIn case (stepRows case plan i) e ≡ Active way Compressing
-    → let u = inEnd way (arcOf case e) in pressureIn (stepRows case plan i) u ≡ nodeOf case u i .p0
+-- no in end has drifted: every arc that compresses does so from p0 of its in end
+abbrev pub Undrifted : List ℤ → List ℤ → Type 0
+Undrifted case plan = (i e : ℕ) → i < stepsOf case → e < arcsOf case → (way : Way)
+    → settingIn case (stepRows case plan i) e ≡ Active way Compressing → let u = inEnd way (arcOf case e) in pressureIn (stepRows case plan i) u ≡ nodeOf case u i .p0
 
--- a plan in which no in end has drifted is judged as before
-module _ (case plan : List ℤ) (h : FromP0 case plan) where
-  alike-26 : Alike26 (compressionFromP0 case) case plan
-  unfolding compressionKept reachKept
-  alike-26 i e p l = pressures-alike (compressionFromP0 case) case (stepRows case plan i) i e (λ way k. rw (h i e p l way k))
+undrifted-26 : (default : Default) (case plan : List ℤ) → Undrifted case plan
+    → ((i e : ℕ) → e < arcsOf case → IsActHigh default case i e) → Alike26 (compressionFromP0 default case) case plan
+unfolding compressionKept reachKept
+undrifted-26 default case plan h a i e p l =
+    pressures-alike (compressionFromP0 default case) case (stepRows case plan i) i e (λ way k.
+    let w = outEnd way (arcOf case e) in
+    let five = compressing-five _ _ way k in
+    let b = alike-bound (artificialOf case e .outbound) (default i e w) (actHigh case i e w) (λ z. a i e l five z way) in
+    rw (h i e p l way k, b))
 
-  pub judged-undrifted : judgedBy (compressionFromP0 case) case plan ≡ judgeOf case plan
-  judged-undrifted = judged-alike (compressionFromP0 case) case plan alike-26
+-- then the verdict and the ledger are as with p0, on every case with acthigh of the out end for an out bound of 0
+module _ (case plan : List ℤ) (h : Undrifted case plan) where
+  pub judged-undrifted : judgedUnder (compressionFromP0 (actHigh case) case) case plan ≡ judgeOf case plan
+  judged-undrifted = judged-alike (compressionFromP0 (actHigh case) case) case plan (undrifted-26 (actHigh case) case plan h (λ i e l k z way. refl))
 
-  pub ledger-undrifted : (set s t : ℤ) → ledgerToldBy (compressionFromP0 case) case plan set s t ≡ ledgerOf case plan set s t
-  ledger-undrifted = ledger-alike (compressionFromP0 case) case plan alike-26
+  pub ledger-undrifted : (set s t : ℤ) → ledgerUnder (compressionFromP0 (actHigh case) case) case plan set s t ≡ ledgerOf case plan set s t
+  ledger-undrifted = ledger-alike (compressionFromP0 (actHigh case) case) case plan (undrifted-26 (actHigh case) case plan h (λ i e l k z way. refl))
 
--- ---- rows that p0 would decide the other way: the case of table T's row 6, whose in end stands at 40,000, and a compressor that runs backward
+-- and where the out bounds are given too they are document 01's own, which has p0 and 200,000
+module _ (case plan : List ℤ) (h : Undrifted case plan) (given : OutBoundsGiven case) where
+  alike-01 : Alike26 (compressionFromP0 defaultOf01 case) case plan
+  alike-01 = undrifted-26 defaultOf01 case plan h (λ i e l k z way. absurd (given e l k z))
 
-abbrev case30 : List ℤ
-case30 = twoMachines (pos 30000) (pos 0) (pos 0) (pos 200000) (pos 200000)
+  pub judged-as-01 : judgedUnder (compressionFromP0 defaultOf01 case) case plan ≡ judgeOf case plan
+  judged-as-01 = judged-alike (compressionFromP0 defaultOf01 case) case plan alike-01
 
-abbrev case50 : List ℤ
-case50 = twoMachines (pos 50000) (pos 0) (pos 0) (pos 200000) (pos 200000)
+  pub ledger-as-01 : (set s t : ℤ) → ledgerUnder (compressionFromP0 defaultOf01 case) case plan set s t ≡ ledgerOf case plan set s t
+  ledger-as-01 = ledger-alike (compressionFromP0 defaultOf01 case) case plan alike-01
+
+-- ---- rows: the case of table T's row 6, whose in end stands at 40,000, and a compressor that runs backward
+
+-- p0 of the in end
+abbrev pub drifted6 : (p0 : ℤ) → List ℤ
+drifted6 p0 = twoMachines p0 (pos 0) (pos 0) (pos 200000) (pos 200000)
+
+abbrev pub driftedB : (p0 : ℤ) → List ℤ
+driftedB p0 = runsBackward p0 (pos 60000) (pos 60000)
+
+-- node 2, the in end, falls from 50,000 to 49,999 in step 2
+abbrev pub fallingB : List ℤ
+fallingB = raisedFrom (pos 50000) (pos 300) (pos 49999) (pos 301)
+
+abbrev pub accepted6 : Told
+accepted6 = gives (pos 0 ∷ pos 0 ∷ pos 7 ∷ pos 0 ∷ pos 0 ∷ pos 0 ∷ [])
 
 unfoldable pub reachRows : List Row
 reachRows =
     -- p0 30,000: 60,000 is what the machines reach from 40,000
-    judges case30 (plan6 (pos 60000)) (gives (pos 0 ∷ pos 0 ∷ pos 7 ∷ pos 0 ∷ pos 0 ∷ pos 0 ∷ []))
+    judges (drifted6 (pos 30000)) (plan6 (pos 60000)) accepted6
     -- p0 50,000: 60,001 is not
-    ∷ judges case50 (plan6 (pos 60001)) (refuses 26 1 0)
-    -- backward, where the machine, 1200, raises 50,000 to 60,000: p0 49,999, and p0 60,000 with 49,999 in step 2
-    ∷ judges (runsBackward (pos 49999) (pos 60000) (pos 60000)) planB
-    (gives (pos 614 ∷ pos 30 ∷ pos 2207 ∷ pos 120 ∷ pos 239991 ∷ pos 359991 ∷ []))
-    ∷ judges (runsBackward (pos 60000) (pos 60000) (pos 60000)) (raisedFrom (pos 50000) (pos 300) (pos 49999) (pos 301)) (refuses 26 2 1)
+    ∷ judges (drifted6 (pos 50000)) (plan6 (pos 60001)) (refuses 26 1 0)
+    -- backward, where the machine, of 1,200, raises 50,000 to 60,000: p0 49,999, and p0 60,000 with 49,999 in step 2
+    ∷ judges (driftedB (pos 49999)) planB (gives (pos 614 ∷ pos 30 ∷ pos 2207 ∷ pos 120 ∷ pos 239991 ∷ pos 359991 ∷ []))
+    ∷ judges (driftedB (pos 60000)) fallingB (refuses 26 2 1)
+    -- the first machine alone is on, of 1,200: 48,000 is what it reaches, though the arc may have the second too
+    ∷ judges case6 (raised (pos 1) (pos 48000) (pos 0) (pos 0)) accepted6
+    ∷ judges case6 (raised (pos 1) (pos 48001) (pos 0) (pos 0)) (refuses 26 1 0)
+    -- no machine is on: in and out at 40,000, and out 1 above
+    ∷ judges case6 (raised (pos 0) (pos 40000) (pos 0) (pos 0)) accepted6
+    ∷ judges case6 (raised (pos 0) (pos 40001) (pos 0) (pos 0)) (refuses 26 1 0)
     ∷ []
 
 pub reaches : AllHold reachRows
 unfolding AllHold RowHolds reachRows law
-reaches = (refl, (refl, (refl, (refl, tt))))
+reaches = (refl, (refl, (refl, (refl, (refl, (refl, (refl, (refl, tt))))))))
 
--- with p0 the first two come out the other way
-pub first-row-from-p0 : judgedBy (compressionFromP0 case30) case30 (plan6 (pos 60000)) ≡ refuses 26 1 0
-unfolding law
-first-row-from-p0 = refl
+-- the first four come out the other way with p0
+abbrev pub judgedFromP0 : (case plan : List ℤ) → Told
+judgedFromP0 case plan = judgedUnder (compressionFromP0 (actHigh case) case) case plan
 
-pub second-row-from-p0 : judgedBy (compressionFromP0 case50) case50 (plan6 (pos 60001))
-    ≡ gives (pos 0 ∷ pos 0 ∷ pos 7 ∷ pos 0 ∷ pos 0 ∷ pos 0 ∷ [])
+pub rows-from-p0 : (judgedFromP0 (drifted6 (pos 30000)) (plan6 (pos 60000)) ≡ refuses 26 1 0)
+    × (judgedFromP0 (drifted6 (pos 50000)) (plan6 (pos 60001)) ≡ accepted6)
+    × (judgedFromP0 (driftedB (pos 49999)) planB ≡ refuses 26 1 1)
+    × (judgedFromP0 (driftedB (pos 60000)) fallingB ≡ gives (pos 615 ∷ pos 30 ∷ pos 2207 ∷ pos 120 ∷ pos 239991 ∷ pos 359991 ∷ []))
 unfolding law
-second-row-from-p0 = refl
+rows-from-p0 = (refl, refl, refl, refl)

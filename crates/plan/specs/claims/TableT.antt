@@ -78,16 +78,16 @@ twoMachines p0 kind demand bound acthigh =
 abbrev pub case6 : List ℤ
 case6 = twoMachines (pos 40000) (pos 0) (pos 0) (pos 200000) (pos 200000)
 
--- its in end at the pressure 40,000, its out end at `out` with the slacks s- and u-
-abbrev pub raised : (out sminus uminus : ℤ) → List ℤ
-raised out sminus uminus =
+-- its in end at the pressure 40,000, its out end at `out` with the slacks s- and u-, and the machines that are on
+abbrev pub raised : (machines out sminus uminus : ℤ) → List ℤ
+raised machines out sminus uminus =
     (pos 1 ∷ pos 1 ∷ [])
     ++ ((pos 40000 ∷ pos 0 ∷ pos 0 ∷ pos 0 ∷ pos 0 ∷ pos 0 ∷ [])
     ++ ((out ∷ pos 0 ∷ pos 0 ∷ sminus ∷ pos 0 ∷ uminus ∷ [])
-    ++ (pos 0 ∷ pos 0 ∷ pos 1 ∷ pos 3 ∷ pos 0 ∷ pos 0 ∷ [])))
+    ++ (pos 0 ∷ pos 0 ∷ pos 1 ∷ machines ∷ pos 0 ∷ pos 0 ∷ [])))
 
 abbrev pub plan6 : (out : ℤ) → List ℤ
-plan6 out = raised out (pos 0) (pos 0)
+plan6 out = raised (pos 3) out (pos 0) (pos 0)
 
 -- ---- the table
 

@@ -28,7 +28,7 @@ outBound x out = cond (isZero (x .outbound)) (out .acthigh) (x .outbound)
 abbrev pub ratioOf : List ℤ → List ℤ → ℕ → ℤ
 ratioOf case rows e = pos 1000 +ℤ machineGain case (stationOffset case e) (arcRow case rows e .machines)
 
--- 1,000 × out ≤ in × ratio, both in the same step: what the machines of an arc from the node `u` to the node `w` reach
+-- "the product is taken with the in end's pressure in the same step" (document 02, P1), in end `u` and out end `w`
 unfoldable pub reachKept : List ℤ → List ℤ → ℕ → ℕ → ℕ → Bool
 reachKept case rows e u w = leZ (pos 1000 *ℤ pressureIn rows w) (pressureIn rows u *ℤ ratioOf case rows e)
 

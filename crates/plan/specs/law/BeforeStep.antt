@@ -9,7 +9,8 @@ use Rattle.case.specs.law.States.{activeAtStart}
 use Rattle.plan.specs.law.PlanLayout.{stepRows}
 use Rattle.plan.specs.law.PlanRecords.{pressureIn, activeIn, directionIn, stateIn}
 
--- p0 is the pressure at time 0: 28 takes the change of step 1 from it, and the gas at 0 goes by it. Nothing else does.
+-- p0 is the pressure at time 0. The left side of 28 in step 1, which 28 asks and the residual sums, and the gas at 0 go by it. No other question of a plan
+-- does.
 abbrev pub startPressure : List ℤ → ℕ → ℤ
 startPressure case v = nodeOf case v 0 .p0
 
