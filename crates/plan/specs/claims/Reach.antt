@@ -97,7 +97,8 @@ compressionFromP0 default case rows i e u w =
 -- no in end has drifted: every arc that compresses does so from p0 of its in end
 abbrev pub Undrifted : List ℤ → List ℤ → Type 0
 Undrifted case plan = (i e : ℕ) → i < stepsOf case → e < arcsOf case → (way : Way)
-    → settingIn case (stepRows case plan i) e ≡ Active way Compressing → let u = inEnd way (arcOf case e) in pressureIn (stepRows case plan i) u ≡ nodeOf case u i .p0
+    → settingIn case (stepRows case plan i) e ≡ Active way Compressing
+    → let u = inEnd way (arcOf case e) in pressureIn (stepRows case plan i) u ≡ nodeOf case u i .p0
 
 undrifted-26 : (default : Default) (case plan : List ℤ) → Undrifted case plan
     → ((i e : ℕ) → e < arcsOf case → IsActHigh default case i e) → Alike26 (compressionFromP0 default case) case plan
