@@ -1,8 +1,8 @@
 //! The inputs at the edges of each question, every one of them for every seed.
 
 use inputs::aimed::edges::{
-    EDGES, EDGES_OF_FIELDS, Edge, Expect, LEDGER_EDGES, LedgerEdge, READ_EDGES, ReadEdge,
-    WRITE_EDGES,
+    EDGES, EDGES_OF_COMPRESSING, EDGES_OF_FIELDS, Edge, Expect, LEDGER_EDGES, LedgerEdge,
+    READ_EDGES, ReadEdge, WRITE_EDGES,
 };
 use inputs::bytes::{Encoded, encode, on_plan_bytes};
 use inputs::generate;
@@ -27,7 +27,7 @@ pub fn wrong(beside: &mut Beside, seeds: u64) -> Vec<Wrong> {
         };
         wrong.extend(differences(beside, name, seeds, ask));
     }
-    for &(name, edge) in EDGES {
+    for &(name, edge) in EDGES.iter().chain(EDGES_OF_COMPRESSING) {
         let ask = |beside: &mut Beside, rng: &mut Rng, pair: &Pair| {
             let mut both = edge(rng, pair).into_iter();
             both.try_for_each(|edge| plan(beside, &edge, name))

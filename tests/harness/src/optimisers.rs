@@ -6,11 +6,12 @@ use std::path::Path;
 
 use inputs::aimed::sides::{left_28, left_29, left_33};
 use inputs::model::{C, MOST_MASS_TOLERANCE, PIPE};
+use inputs::reach::ratio;
 use inputs::rounding::bounds::{Rounded, twice_covered};
 use inputs::rounding::errors::off_by_one;
 use inputs::rounding::example::{
-    AT_THE_REACH, MASS_TOLERANCE, PRESSURE_TOLERANCE, Solution, UNIT, WITH_A_MBAR_LEFT, hide_slack,
-    judged,
+    A_MBAR_LEFT, AT_THE_REACH, MASS_TOLERANCE, PRESSURE_TOLERANCE, Solution, UNIT, WITH_ROOM,
+    hide_slack, judged,
 };
 use inputs::{Pair, Rng, generate};
 
@@ -35,12 +36,13 @@ pub fn lines_of_page() -> Result<Vec<String>, String> {
 
 /// The lines that the example has to show.
 pub fn lines_of_example(beside: &mut Beside) -> Result<Vec<String>, Difference> {
-    let pair = judged(&WITH_A_MBAR_LEFT);
+    let pair = judged(&WITH_ROOM);
     let mut lines = rows_of_case(&pair);
-    lines.extend(numbers(&WITH_A_MBAR_LEFT, &pair));
+    lines.extend(numbers(&WITH_ROOM, &pair));
     lines.push(largest_left_sides(&pair));
     lines.push(stored(&pair));
-    lines.push(reached());
+    lines.push(reached("at the reach", &AT_THE_REACH));
+    lines.push(reached("a mbar left", &A_MBAR_LEFT));
     lines.extend(verdicts(beside, &pair)?);
     Ok(lines)
 }
@@ -146,33 +148,31 @@ fn stored(pair: &Pair) -> String {
     )
 }
 
-/// 26 at the station in step 1, where nothing was left.
-fn reached() -> String {
-    let pair = judged(&AT_THE_REACH);
-    let exact = decimal(AT_THE_REACH.pressures[0][2]);
-    let out = pair.node(1, 2).p;
-    let (p0, ratio) = (pair.case.nodes[1].p0, pair.case.stations[0].machines[0][1]);
-    let (left, right) = (UNIT * out, p0 * ratio);
-    format!("26 at arc 1 in step 1, at the reach: {exact} becomes {out}, and {left} > {right}")
+/// 26 at the station in step 2, where less was left than rounding can take.
+fn reached(name: &str, solution: &Solution) -> String {
+    let pair = judged(solution);
+    let [exact_in, exact_out] = [1, 2].map(|node| decimal(solution.pressures[1][node]));
+    let [p_in, out] = [1, 2].map(|node| pair.node(2, node).p);
+    let (left, right) = (UNIT * out, p_in * ratio(&pair, 2, 1));
+    format!(
+        "26 at arc 1 in step 2, {name}: {exact_in} and {exact_out} become {p_in} and {out}, and {left} > {right}"
+    )
 }
 
 fn verdicts(beside: &mut Beside, pair: &Pair) -> Result<Vec<String>, Difference> {
     let largest = left_28(pair, 2, 0).abs();
     let mut hidden = pair.clone();
     hide_slack(&mut hidden);
-    let at_the_reach = judged(&AT_THE_REACH);
+    let [at_the_reach, a_mbar_left] = [AT_THE_REACH, A_MBAR_LEFT].map(|it| judged(&it));
+    let in_its_case = |name, pair| (name, pair, MASS_TOLERANCE, PRESSURE_TOLERANCE);
     let cases = [
-        ("rounded", pair, MASS_TOLERANCE, PRESSURE_TOLERANCE),
+        in_its_case("rounded", pair),
         ("rounded", pair, largest, 1),
         ("rounded", pair, largest - 1, 1),
         ("rounded", pair, largest, 0),
-        (
-            "at the reach",
-            &at_the_reach,
-            MASS_TOLERANCE,
-            PRESSURE_TOLERANCE,
-        ),
-        ("slack hidden", &hidden, MASS_TOLERANCE, PRESSURE_TOLERANCE),
+        in_its_case("at the reach", &at_the_reach),
+        in_its_case("a mbar left", &a_mbar_left),
+        in_its_case("slack hidden", &hidden),
         (
             "slack hidden",
             &hidden,

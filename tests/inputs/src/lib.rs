@@ -9,6 +9,7 @@ pub mod bytes;
 pub mod damage;
 pub mod generate;
 pub mod model;
+pub mod reach;
 pub mod rng;
 pub mod rounding;
 pub mod slips;

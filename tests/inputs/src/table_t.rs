@@ -30,13 +30,8 @@ pub enum Row {
 
 /// The row's number in the table, and the row.
 pub fn rows() -> Vec<(u8, Row)> {
-    let judge = |case: &[i64], plan: &[i64], line: &'static str| Row::Judge {
-        case: case.to_vec(),
-        plan: plan.to_vec(),
-        line,
-    };
     let loose = with_tolerances(60, 1);
-    vec![
+    let mut rows = vec![
         (1, judge(&C, &P, "accepted 0 0 0 0 599988 611988")),
         (2, judge(&C, &with_b(901), "refused 28 1 0")),
         (
@@ -48,24 +43,24 @@ pub fn rows() -> Vec<(u8, Row)> {
             judge(&with_tolerances(59, 1), &with_b(901), "refused 28 1 0"),
         ),
         (5, row_5(loose.to_vec())),
-        (
-            6,
-            judge(
-                &COMPRESSING,
-                &compressing_to(60_000),
-                "accepted 0 0 0 0 0 0",
-            ),
-        ),
-        (
-            6,
-            judge(&COMPRESSING, &compressing_to(60_001), "refused 26 1 0"),
-        ),
+    ];
+    rows.extend(rows_6().map(|row| (6, row)));
+    rows.extend([
         (7, bytes(&[-900], &[0x87, 0x0E])),
         (7, bytes(&[64], &[0x80, 0x01])),
         (8, unreadable(&[0x80], 1, 1)),
         (8, unreadable(&[0x80, 0x00], 2, 1)),
         (8, bytes(&[], &[])),
-    ]
+    ]);
+    rows
+}
+
+fn judge(case: &[i64], plan: &[i64], line: &'static str) -> Row {
+    Row::Judge {
+        case: case.to_vec(),
+        plan: plan.to_vec(),
+        line,
+    }
 }
 
 fn row_5(case: Vec<i64>) -> Row {
@@ -78,6 +73,22 @@ fn row_5(case: Vec<i64>) -> Row {
         brought_in: 60,
         residual: 60,
     }
+}
+
+/// The in end's 40,000 are its pressure in the plan (document 02, P1), so that another p0 changes nothing.
+fn rows_6() -> [Row; 4] {
+    let row = |p0: i64, out: i64, line| {
+        let mut case = COMPRESSING;
+        case[9] = p0;
+        judge(&case, &compressing_to(out), line)
+    };
+    let [accepted, refused] = ["accepted 0 0 0 0 0 0", "refused 26 1 0"];
+    [
+        row(40_000, 60_000, accepted),
+        row(40_000, 60_001, refused),
+        row(30_000, 60_000, accepted),
+        row(50_000, 60_001, refused),
+    ]
 }
 
 fn bytes(list: &[i64], bytes: &[u8]) -> Row {

@@ -1,17 +1,33 @@
-//! What rounding can add to 28, 29 and 33 is reached, so no lower bound holds.
+//! What rounding can add to 28, 29 and 33, and take from 26, is reached, so no lower bound holds.
+
+use std::collections::BTreeSet;
 
 use inputs::aimed::sides::{left_28, left_29, left_33};
 use inputs::model::{PIPE, Pair};
-use inputs::rounding::bounds::{Rounded, flows, is_short, twice_28, twice_29, twice_33};
-use inputs::rounding::example::{AT_THE_REACH, WITH_A_MBAR_LEFT, in_thousandths};
+use inputs::reach::{overreach, ratio};
+use inputs::rounding::bounds::{Rounded, flows, is_short, twice_26, twice_28, twice_29, twice_33};
+use inputs::rounding::errors::off_by_one;
+use inputs::rounding::example::{
+    A_MBAR_LEFT, AT_THE_REACH, Solution, UNIT, WITH_ROOM, in_thousandths, judged,
+};
 use inputs::{Rng, generate};
 
 const PAIRS: u64 = 300;
 const ALL: Rounded = Rounded::FlowsAndPressures;
 
+/// The step and the arc at which the example comes to its machine's reach.
+const STATION: (usize, usize) = (2, 1);
+
 /// 1 or -1: the side to which a left side grows.
 fn side(left: i64) -> i64 {
     if left < 0 { -1 } else { 1 }
+}
+
+/// Both pressures of a compressing arc off by 1, to the side where less is left.
+fn lean_26(pair: &mut Pair, step: usize, arc: usize) {
+    let (in_end, out_end) = pair.ends(step, arc);
+    pair.node_mut(step, in_end).p -= 1;
+    pair.node_mut(step, out_end).p += 1;
 }
 
 /// Every number of the pipe's 28 off by 1, to the side where its left side grows.
@@ -85,10 +101,67 @@ fn every_bound_is_reached() {
     assert!(pipes > 500 && nodes > 500, "{pipes} pipes, {nodes} nodes");
 }
 
+#[test]
+fn the_bound_at_26_is_reached() {
+    let mut compressing = 0;
+    for seed in 0..PAIRS {
+        let pair = generate::accepted(&mut Rng::new(seed));
+        let step = pair.steps();
+        for arc in 0..pair.case.arcs.len() {
+            let Some(over) = overreach(&pair, step, arc) else {
+                continue;
+            };
+            let mut off = pair.clone();
+            lean_26(&mut off, step, arc);
+            let most = over + twice_26(&pair, step, arc);
+            assert_eq!(overreach(&off, step, arc), Some(most), "{seed} {arc}");
+            compressing += 1;
+        }
+    }
+    assert!(compressing > 200, "{compressing} arcs");
+}
+
+/// The machine reaches the out pressure from 1 mbar less, and no more: of all errors only in - 1 with out + 1 would pass the reach.
+#[test]
+fn errors_of_both_pressures_stay_within_the_reach() {
+    let (step, arc) = STATION;
+    let mut pair = judged(&WITH_ROOM);
+    let (in_end, out_end) = pair.ends(step, arc);
+    let lower = pair.node(step, in_end).p - 1;
+    pair.node_mut(step, out_end).p = lower * ratio(&pair, step, arc) / UNIT;
+    let mut errors = BTreeSet::new();
+    for seed in 0..PAIRS {
+        let off = off_by_one(&mut Rng::new(seed), &pair, ALL);
+        errors
+            .insert([in_end, out_end].map(|node| off.node(step, node).p - pair.node(step, node).p));
+    }
+    let all = [-1, 0, 1].map(|p_in| [-1, 0, 1].map(|out| [p_in, out]));
+    let within = all.into_iter().flatten().filter(|it| *it != [-1, 1]);
+    assert_eq!(errors, within.collect());
+}
+
+/// At the example's station nothing is left, a mbar and more than rounding can take; in the plan 26 is lost, lost and kept.
+#[test]
+fn what_the_examples_solutions_leave_at_26() {
+    let left = |solution: &Solution| {
+        let step = STATION.0;
+        let [exact, whole] = [in_thousandths(solution), judged(solution)];
+        let needed = twice_26(&whole, step, STATION.1) * UNIT / 2;
+        let [exact, whole] = [exact, whole].map(|pair| overreach(&pair, step, STATION.1));
+        (exact.map(|over| -over), whole.map(|over| -over), needed)
+    };
+    assert_eq!(left(&AT_THE_REACH), (Some(0), Some(-960), 1_060_000));
+    assert_eq!(left(&A_MBAR_LEFT), (Some(1_000_880), Some(-40), 1_060_000));
+    assert_eq!(
+        left(&WITH_ROOM),
+        (Some(15_635_240), Some(15_000), 1_060_000)
+    );
+}
+
 /// What is rounded in the example meets 28, 29 and 33 exactly.
 #[test]
 fn the_examples_solutions_are_exact() {
-    for solution in [WITH_A_MBAR_LEFT, AT_THE_REACH] {
+    for solution in [WITH_ROOM, A_MBAR_LEFT, AT_THE_REACH] {
         let pair = in_thousandths(&solution);
         for step in 1..=pair.steps() {
             for arc in [0, 2] {

@@ -8,6 +8,7 @@ use inputs::model::{
     Arc, ArcRow, BOTH_WAYS, C, COMBINED, COMPRESSOR, F, G, H, INNER, MOST_FLOW, MOST_PRESSURE,
     NodeRow, OUT_BOUND, PIPE, Pair, REGULATING, REGULATOR, SHORTCUT, VALVE, is_backward,
 };
+use inputs::reach::{overreach, overreach_from_p0};
 
 const PAIRS: u64 = 1_500;
 
@@ -146,6 +147,28 @@ fn note_empty_bound(counts: &mut Counts, pair: &Pair, step: usize, arc: usize) {
     }
 }
 
+/// Compressing: whether p of the in end is p0, what p0 would reach, and whether the machines can do no more.
+fn note_reach(counts: &mut Counts, pair: &Pair, step: usize, arc: usize) {
+    let row = pair.arc(step, arc);
+    let (in_end, _) = pair.ends(step, arc);
+    let (p, p0) = (pair.pressure(step, in_end), pair.case.nodes[in_end].p0);
+    let over = overreach(pair, step, arc);
+    let past_p0 = overreach_from_p0(pair, step, arc).is_some_and(|over| over > 0);
+    let idle = over.is_some() && row.machines == 0;
+    let works = over.is_some() && row.machines != 0;
+    let backward = is_backward(row.setting);
+    for (way, is_way) in [("forward", !backward), ("backward", backward)] {
+        let mut note = |part: &str, occurs: bool| {
+            note(counts, format!("{part} {way}"), occurs && is_way);
+        };
+        note("idle above p0", idle && p > p0);
+        note("idle below p0", idle && p < p0);
+        note("machines past the reach of p0", works && past_p0);
+        note("machines at their reach", works && over == Some(0) && p > 0);
+        note("compressing from 0", over.is_some() && p == 0);
+    }
+}
+
 #[test]
 fn everything_occurs() {
     let mut counts = Counts::new();
@@ -159,6 +182,7 @@ fn everything_occurs() {
             for (arc, row) in step.arcs.iter().enumerate() {
                 note_arc(&mut counts, &pair.case.arcs[arc], *row);
                 note_empty_bound(&mut counts, &pair, index + 1, arc);
+                note_reach(&mut counts, &pair, index + 1, arc);
             }
         }
     }

@@ -1,11 +1,12 @@
 //! Aimed changes at pressures and machines: 26 and 27.
 
 use super::arcs::{find_arc, find_row};
-use super::{Aimed, aimed, first_step, holds};
+use super::{Aimed, aimed, first_step};
 use crate::model::{
-    Arc, BOTH_WAYS, COMBINED, INNER, MACHINES, MOST, MOST_FLOW, OUT_BOUND, PIPE, Pair, REGULATING,
+    Arc, BOTH_WAYS, COMBINED, INNER, MACHINES, MOST, MOST_FLOW, OUT_BOUND, Pair, REGULATING,
     REGULATOR, SHORTCUT, VALVE, is_backward,
 };
+use crate::reach::{named_machines, overreach};
 use crate::rng::Rng;
 
 /// Gives the arc a setting and lets its flow go that way, so that 25 is passed.
@@ -168,33 +169,13 @@ pub(super) fn first_above_bound(pair: &Pair) -> Option<(usize, usize)> {
 }
 
 /// The first step in which the test holds for an arc, and the first such arc.
-fn first_arc(pair: &Pair, test: impl Fn(usize, usize) -> bool) -> Option<(usize, usize)> {
+pub(super) fn first_arc(
+    pair: &Pair,
+    test: impl Fn(usize, usize) -> bool,
+) -> Option<(usize, usize)> {
     let rows = |step| (0..pair.case.arcs.len()).map(move |arc| (step, arc));
     let mut rows = (1..=pair.steps()).flat_map(rows);
     rows.find(|&(step, arc)| test(step, arc))
-}
-
-/// 1,000 × out less p0 of the in end × (1,000 + what the machines add), if compressing.
-fn overreach(pair: &Pair, step: usize, arc: usize) -> Option<i64> {
-    let out = pair.compressed(step, arc)?;
-    let (in_end, _) = pair.ends(step, arc);
-    let p0 = pair.case.nodes[in_end].p0;
-    Some(1_000 * out - p0 * ratio(pair, step, arc))
-}
-
-fn ratio(pair: &Pair, step: usize, arc: usize) -> i64 {
-    let gains = named_machines(pair, step, arc).map(|[_, ratio]| ratio - 1_000);
-    1_000 + gains.sum::<i64>()
-}
-
-fn named_machines(pair: &Pair, step: usize, arc: usize) -> impl Iterator<Item = [i64; 2]> {
-    let set = pair.arc(step, arc).machines;
-    let station = pair.case.arcs[arc].station();
-    let machines = station.map(|it| pair.case.stations[it].machines.as_slice());
-    let machines = machines.unwrap_or_default().iter().enumerate();
-    machines
-        .filter(move |(machine, _)| holds(set, *machine))
-        .map(|(_, machine)| *machine)
 }
 
 /// Takes machines away until the ratio no longer reaches the out pressure.
@@ -211,26 +192,6 @@ pub fn aim_26_ratio(rng: &mut Rng, pair: &Pair) -> Option<Aimed> {
         }
         row.machines &= row.machines - 1;
     }
-    aimed(&pair, 26, step, arc)
-}
-
-/// Lowers p0 of an in end without pipes to just below what the ratio needs.
-pub fn aim_26_p0(rng: &mut Rng, pair: &Pair) -> Option<Aimed> {
-    let mut pair = pair.clone();
-    let has_pipe = |node: usize| {
-        let mut pipes = pair.case.arcs.iter().filter(|it| it.kind == PIPE);
-        pipes.any(|it| it.from == node || it.to == node)
-    };
-    let test = |step: usize, arc: usize, _: &Arc| {
-        let (in_end, _) = pair.ends(step, arc);
-        pair.compressed(step, arc).is_some_and(|out| out > 0) && !has_pipe(in_end)
-    };
-    let (step, arc) = find_row(rng, &pair, test)?;
-    let (in_end, _) = pair.ends(step, arc);
-    let needed = 1_000 * pair.compressed(step, arc)? - 1;
-    pair.case.nodes[in_end].p0 = needed / ratio(&pair, step, arc);
-    let fails = |step, arc| overreach(&pair, step, arc).is_some_and(|over| over > 0);
-    let (step, arc) = first_arc(&pair, fails)?;
     aimed(&pair, 26, step, arc)
 }
 

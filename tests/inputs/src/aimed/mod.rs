@@ -6,6 +6,7 @@ mod arcs;
 mod case;
 mod compressing;
 pub mod edges;
+mod in_pressure;
 mod ledger;
 mod nodes;
 mod pipes;
@@ -77,12 +78,25 @@ pub const AIMS: &[(&str, Aim)] = &[
         compressing::aim_26_empty_bound_backward,
     ),
     ("26 too few machines", compressing::aim_26_ratio),
-    ("26 p0 of the in end", compressing::aim_26_p0),
+    ("26 in pressure", in_pressure::aim_26_in_pressure),
+    (
+        "26 in pressure, backward",
+        in_pressure::aim_26_in_pressure_backward,
+    ),
+    (
+        "26 in pressure, in a later step",
+        in_pressure::aim_26_in_pressure_later,
+    ),
+    (
+        "26 in pressure, fallen below p0",
+        in_pressure::aim_26_in_pressure_fallen,
+    ),
     ("27 machines without compressing", compressing::aim_27_idle),
     ("27 most machines", compressing::aim_27_most),
     ("27 flow", compressing::aim_27_flow),
     ("28 flow", pipes::aim_28_flow),
     ("28 storage", pipes::aim_28_storage),
+    ("28 p0", pipes::aim_28_p0),
     ("28 or 33, mass tolerance", pipes::aim_28_33_tolerance),
     ("29 friction or slope", pipes::aim_29_friction),
     ("29 pressure tolerance", pipes::aim_29_tolerance),

@@ -4,7 +4,7 @@ use super::arcs::{find_arc, find_row};
 use super::nodes::past;
 use super::sides::{left_28, left_29, left_33};
 use super::{Aimed, aimed, first_step};
-use crate::model::{Arc, C, F, G, H, MOST_FLOW, PIPE, Pair};
+use crate::model::{Arc, C, F, G, H, MOST_FLOW, MOST_PRESSURE, PIPE, Pair};
 use crate::rng::Rng;
 
 /// The least change of a flow that loses the balance of a pipe.
@@ -46,6 +46,26 @@ pub fn aim_28_storage(rng: &mut Rng, pair: &Pair) -> Option<Aimed> {
         }
     }
     None
+}
+
+/// The least change of p0 at an end of a pipe that loses its balance in step 1, which p0 comes before. An earlier pipe may lose its own by it.
+pub fn aim_28_p0(rng: &mut Rng, pair: &Pair) -> Option<Aimed> {
+    let mut pair = pair.clone();
+    let (_, arc) = find_arc(rng, &pair, |step, it| step == 1 && it.kind == PIPE)?;
+    let left = left_28(&pair, 1, arc);
+    let pipe = &pair.case.arcs[arc];
+    let more = past(rng, left, pipe.more[C], pair.case.mass_tolerance);
+    let end = rng.pick(&[pipe.from, pipe.to])?;
+    let p0 = &mut pair.case.nodes[end].p0;
+    *p0 += more;
+    if !(0..=MOST_PRESSURE).contains(p0) {
+        return None;
+    }
+    let fails = |&arc: &usize| {
+        pair.case.arcs[arc].kind == PIPE && left_28(&pair, 1, arc).abs() > pair.case.mass_tolerance
+    };
+    let first = (0..pair.case.arcs.len()).find(fails)?;
+    aimed(&pair, 28, 1, first)
 }
 
 /// Lowers E to just below a left side of 28 or 33, and finds the first that is above it.

@@ -1,6 +1,6 @@
 //! Stations, and the arcs that are no pipes.
 
-use super::{Draft, DraftArc, DraftStation, Role, Size};
+use super::{Draft, DraftArc, DraftStation, Role, Size, courses};
 use crate::model::{
     Arc, BOTH_WAYS, COMBINED, MACHINES, MOST_FLOW, MOST_WEIGHT, REGULATOR, SHORTCUT, STATION,
     StationRow, VALVE, WEIGHT,
@@ -39,6 +39,10 @@ pub fn draw(rng: &mut Rng, draft: &mut Draft, size: Size) {
 fn draw_stations(rng: &mut Rng, draft: &mut Draft, size: Size) {
     let mut left: Vec<usize> = (0..size.nodes).collect();
     rng.shuffle(&mut left);
+    if !draft.courses.is_empty() && rng.below(4) > 0 {
+        // Stations begin with the nodes whose pressures drift.
+        left.sort_by_key(|&node| courses::drifts(draft, node));
+    }
     for station in 0..size.stations {
         let count = if left.len() < 2 {
             0

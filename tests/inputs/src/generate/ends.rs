@@ -1,8 +1,9 @@
 //! Accepted pairs whose numbers lie at the ends of their ranges.
 
 use crate::model::{
-    Arc, ArcRow, C, COMPRESSOR, Case, F, G, H, MOST_FLOW, MOST_PRESSURE, MOST_WEIGHT, Node,
-    NodeRow, PIPE, Pair, Plan, REGULATOR, SINK, SOURCE, STATION, Station, StationRow, Step, VALVE,
+    Arc, ArcRow, BOTH_WAYS, C, COMPRESSOR, Case, F, G, H, MOST_FLOW, MOST_PRESSURE, MOST_WEIGHT,
+    Node, NodeRow, PIPE, Pair, Plan, REGULATOR, SINK, SOURCE, STATION, Station, StationRow, Step,
+    VALVE,
 };
 use crate::rng::Rng;
 
@@ -40,7 +41,7 @@ pub fn at_the_ends(rng: &mut Rng) -> Pair {
             2 => sloped_pipe(rng, &pair.case),
             3 => valve(rng),
             4 => regulator(),
-            _ => compressor(),
+            _ => compressor(rng),
         };
         let crowded = pair.case.stations.len() == 8;
         if link.arc.kind != COMPRESSOR || !crowded {
@@ -167,21 +168,46 @@ fn regulator() -> Link {
     }
 }
 
-/// All twelve machines at their highest ratio: 1,835 is the lowest p0 that reaches 200,000.
-fn compressor() -> Link {
+/// In pressure, out pressure and machines at the highest ratio. Of all twelve 1,835 is the lowest in pressure that
+/// reaches 200,000, eleven reach it from 2,000 exactly; from 0 all reach 0; none keep the pressure that there is.
+const REACHES: [(i64, i64, i64); 4] = [
+    (1_835, MOST_PRESSURE, 4_095),
+    (2_000, MOST_PRESSURE, 2_047),
+    (0, 0, 4_095),
+    (MOST_PRESSURE, MOST_PRESSURE, 0),
+];
+
+/// Compresses as far as the machines reach, whatever p0 is.
+fn compressor(rng: &mut Rng) -> Link {
+    let (p_in, p_out, machines) = REACHES[rng.below(4)];
+    let flow = if machines == 0 { 0 } else { MOST_FLOW };
+    let [p0_in, p0_out] = [0; 2].map(|_| [0, MOST_PRESSURE][rng.below(2)]);
     let row = ArcRow {
         setting: 1,
-        machines: 4_095,
-        ..flows(MOST_FLOW, 0)
+        machines,
+        ..flows(flow, 0)
     };
-    Link {
+    let link = Link {
         kinds: [SOURCE, SINK],
-        p0: [1_835, 0],
-        p: [0, MOST_PRESSURE],
+        p0: [p0_in, p0_out],
+        p: [p_in, p_out],
         arc: arc_of(COMPRESSOR, [0, 0, MOST_WEIGHT, 0, 4_095, 12, MOST_PRESSURE]),
         first: row,
         later: row,
+    };
+    if rng.flip() { link } else { backward(link) }
+}
+
+/// The link with its ends exchanged, so that the gas goes from to to from.
+fn backward(mut link: Link) -> Link {
+    link.arc.more[BOTH_WAYS] = 1;
+    for ends in [&mut link.kinds, &mut link.p0, &mut link.p] {
+        ends.reverse();
     }
+    for row in [&mut link.first, &mut link.later] {
+        (row.setting, row.a, row.b) = (2, row.b, row.a);
+    }
+    link
 }
 
 /// A station of its own for a compressor, off at step 0, on from step 1.

@@ -1,6 +1,6 @@
 //! Limits and rows of the case, put around a finished plan.
 
-use super::{Draft, Role, pipes, states};
+use super::{Draft, Role, pipes, ratios, states};
 use crate::model::{
     Arc, Case, F, G, INNER, MACHINES, MOST, MOST_FLOW, MOST_PRESSURE, Node, NodeRow, OUT_BOUND,
     Pair, Plan, SOURCE, Step,
@@ -9,6 +9,7 @@ use crate::rng::Rng;
 
 pub fn pair(rng: &mut Rng, mut draft: Draft) -> Pair {
     finish_pipes(rng, &mut draft);
+    ratios::lower(rng, &mut draft);
     for index in 0..draft.arcs.len() {
         let arc = with_limits(rng, &draft, index);
         draft.arcs[index].arc = arc;
@@ -61,7 +62,7 @@ fn finish_pipes(rng: &mut Rng, draft: &mut Draft) {
 }
 
 /// One of the least value, the most, or something between.
-fn around(rng: &mut Rng, least: i64, most: i64) -> i64 {
+pub fn around(rng: &mut Rng, least: i64, most: i64) -> i64 {
     match rng.below(4) {
         0 | 1 => least,
         2 => most,

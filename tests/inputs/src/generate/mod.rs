@@ -4,18 +4,22 @@
 //! then flows; limits and rows of the case are put around the finished plan last.
 
 mod arcs;
+mod courses;
 mod ends;
 mod finish;
 mod flows;
 mod pipes;
 mod pressures;
+mod ratios;
 mod settings;
+mod spurs;
 mod states;
 
 pub use ends::at_the_ends;
 
 use crate::model::{Arc, ArcRow, MOST_FLOW, Pair, StationRow};
 use crate::rng::Rng;
+use courses::Course;
 
 /// How large a pair is to be.
 #[derive(Clone, Copy, Debug)]
@@ -43,23 +47,25 @@ impl Size {
         steps: 2,
     };
 
-    /// Mostly small, sometimes one node alone, sometimes large.
+    /// Mostly small, sometimes one node alone, sometimes large, sometimes small over many steps.
     pub fn draw(rng: &mut Rng) -> Size {
         if rng.once_in(40) {
             return Size::CROWDED;
         }
-        let [nodes, arcs, stations, steps] = match rng.below(60) {
-            0 => [1, 0, 0, 1],
-            1..=5 => [3, 4, 2, 2],
-            6..=49 => [14, 26, 3, 6],
-            50..=57 => [30, 60, 5, 12],
-            _ => [60, 120, 8, 24],
+        let ranges = match rng.below(60) {
+            0 => [1..=1, 0..=0, 0..=0, 1..=1],
+            1..=5 => [1..=3, 0..=4, 0..=2, 1..=2],
+            6..=43 => [1..=14, 0..=26, 0..=3, 1..=6],
+            44..=49 => [4..=10, 8..=18, 1..=2, 12..=27],
+            50..=57 => [1..=30, 0..=60, 0..=5, 1..=12],
+            _ => [1..=60, 0..=120, 0..=8, 1..=24],
         };
+        let [nodes, arcs, stations, steps] = ranges.map(|range| rng.within(range) as usize);
         Size {
-            nodes: 1 + rng.below(nodes),
-            arcs: rng.below(arcs + 1),
-            stations: rng.below(stations + 1),
-            steps: 1 + rng.below(steps),
+            nodes,
+            arcs,
+            stations,
+            steps,
         }
     }
 }
@@ -94,6 +100,8 @@ struct Draft {
     share: i64,
     /// Pressure levels that nodes tend to have, so that equal pressures occur.
     levels: Vec<i64>,
+    /// Courses that nodes tend to take where pressures drift; else none.
+    courses: Vec<Course>,
     /// Pressures by step and node; step 0 holds p0.
     p: Vec<Vec<i64>>,
     /// Actual boundary flows by step and node; step 0 is unused.
@@ -178,6 +186,7 @@ impl Draft {
             spans,
             share: (share >> rng.below(16)).max(1),
             levels: draw_levels(rng),
+            courses: courses::draw(rng, size.steps),
             p: vec![vec![0; size.nodes]; size.steps + 1],
             d: vec![vec![0; size.nodes]; size.steps + 1],
             kinds: vec![0; size.nodes],

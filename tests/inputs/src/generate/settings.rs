@@ -1,7 +1,8 @@
 //! Settings and machines that the pressures allow.
 
+use super::ratios::ratio;
 use super::{Draft, DraftArc};
-use crate::model::{ArcRow, BOTH_WAYS, COMBINED, MACHINES, MOST_PRESSURE, SHORTCUT, VALVE};
+use crate::model::{ArcRow, BOTH_WAYS, COMBINED, MACHINES, SHORTCUT, VALVE};
 use crate::rng::Rng;
 
 pub fn draw(rng: &mut Rng, draft: &mut Draft) {
@@ -94,18 +95,19 @@ fn machines_for(
     let usable = arc.more[MACHINES] & free;
     let few = usable & rng.bits() as i64 & rng.bits() as i64;
     let tries = [few, rng.part_of(usable), usable];
-    let reaches = |set: &i64| {
-        let p0 = draft.p[0][in_end];
-        p_in <= p_out && p_out <= MOST_PRESSURE && 1_000 * p_out <= p0 * ratio(draft, index, *set)
-    };
-    tries.into_iter().find(reaches)
+    let reaches = |set| p_in <= p_out && 1_000 * p_out <= p_in * ratio(draft, index, set);
+    let found = tries.into_iter().find(|&set| reaches(set))?;
+    Some(if rng.once_in(3) {
+        spare(found, reaches)
+    } else {
+        found
+    })
 }
 
-/// 1,000 and what each machine of the set adds, in thousandths.
-fn ratio(draft: &Draft, index: usize, set: i64) -> i64 {
-    let station = draft.arcs[index].arc.station();
-    let machines = station.map(|it| draft.stations[it].machines.as_slice());
-    let gains = machines.unwrap_or_default().iter().enumerate();
-    let named = gains.filter(|(machine, _)| set >> machine & 1 == 1);
-    1_000 + named.map(|(_, [_, ratio])| ratio - 1_000).sum::<i64>()
+/// The set without machines that it can spare, the lowest first.
+fn spare(set: i64, reaches: impl Fn(i64) -> bool) -> i64 {
+    (0..12).fold(set, |kept, machine| {
+        let fewer = kept & !(1 << machine);
+        if reaches(fewer) { fewer } else { kept }
+    })
 }

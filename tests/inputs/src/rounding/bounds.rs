@@ -1,4 +1,4 @@
-//! What rounding can add to the left sides of 28, 29 and 33.
+//! What rounding can add to the left sides of 28, 29 and 33, and take from what is left at 26.
 //!
 //! Numbers rounded to the nearest are off by 1/2 at most. Here they are off by 1, so that everything is twice
 //! the bound of docs/OPTIMISERS.md, and whole.
@@ -8,6 +8,7 @@ use crate::model::{
     C, Case, F, G, MOST_MASS_TOLERANCE, MOST_PRESSURE_TOLERANCE, PIPE, Pair, REGULATOR, VALVE,
     is_backward,
 };
+use crate::reach::ratio;
 
 const MILLION: i64 = 1_000_000;
 
@@ -28,6 +29,11 @@ impl Rounded {
             Rounded::Nothing => [0, 0],
         }
     }
+}
+
+/// Thousandths of a mbar: the out pressure, and the in pressure times the ratio.
+pub fn twice_26(pair: &Pair, step: usize, arc: usize) -> i64 {
+    1_000 + ratio(pair, step, arc)
 }
 
 /// a and b over the step, and the pressures of both ends, now and before; p0 is whole.

@@ -5,6 +5,7 @@ use std::collections::BTreeMap;
 use super::bounds::{Rounded, flows, is_short};
 use crate::aimed::sides::net_32;
 use crate::model::{ENTRY, EXIT, MOST_FLOW, PIPE, Pair, SOURCE};
+use crate::reach::{named_machines, ratio};
 use crate::rng::Rng;
 
 /// The pair with errors in its plan, so that only 28, 29 and 33 can be the worse for it.
@@ -28,12 +29,15 @@ pub fn off_by_one(rng: &mut Rng, pair: &Pair, rounded: Rounded) -> Pair {
 }
 
 /// Equal pressures get equal errors and a lower one is never moved past a higher one, as one way of rounding does it.
+/// An in pressure comes before its out pressure, which then goes no higher than the machines reach from it.
 fn move_pressures(rng: &mut Rng, off: &mut Pair, step: usize) {
     let mut errors = BTreeMap::new();
     let mut below = (-1, 0);
     for (p, [least, most]) in room(off, step) {
         let would_cross = below == (p - 1, 1);
-        let error = rng.within(if would_cross { 0 } else { least }..=most);
+        let least = if would_cross { 0 } else { least };
+        let most = most.min(left_at_26(off, step, p, &errors));
+        let error = rng.within(least..=most);
         errors.insert(p, error);
         below = (p, error);
     }
@@ -48,7 +52,7 @@ fn move_pressures(rng: &mut Rng, off: &mut Pair, step: usize) {
     }
 }
 
-/// The least and the most error of each pressure: bounds of 21 are whole, and at 26 a mbar may have been left.
+/// The least and the most error of each pressure: bounds of 21 and 26 are whole, and an in pressure may fall by what was left at 26.
 fn room(pair: &Pair, step: usize) -> BTreeMap<i64, [i64; 2]> {
     let mut room = BTreeMap::new();
     for (node, limits) in pair.case.nodes.iter().enumerate() {
@@ -57,31 +61,39 @@ fn room(pair: &Pair, step: usize) -> BTreeMap<i64, [i64; 2]> {
         *least = (*least).max(limits.low - p);
         *most = (*most).min(limits.high - p);
     }
-    for arc in 0..pair.case.arcs.len() {
-        if let Some(out) = pair.compressed(step, arc) {
-            let left = highest_out(pair, step, arc) - out;
-            room.entry(out).and_modify(|it| it[1] = it[1].min(left));
+    for (arc, [p_in, out]) in compressing(pair, step) {
+        let bound = pair.out_bound(step, arc) - out;
+        room.entry(out).and_modify(|it| it[1] = it[1].min(bound));
+        if p_in < out && highest_out(pair, step, arc, p_in - 1) < out {
+            room.entry(p_in).and_modify(|it| it[0] = 0);
         }
     }
     room
 }
 
-/// The highest whole out pressure that 26 allows.
-fn highest_out(pair: &Pair, step: usize, arc: usize) -> i64 {
-    let (in_end, _) = pair.ends(step, arc);
-    let gains = machines(pair, step, arc).map(|[_, ratio]| ratio - 1_000);
-    let reach = pair.case.nodes[in_end].p0 * (1_000 + gains.sum::<i64>()) / 1_000;
-    reach.min(pair.out_bound(step, arc))
+/// By how much this pressure may rise where it is an out pressure, with in pressures that are off by these errors. An in
+/// pressure that is equal to it has the same error, which 26 allows.
+fn left_at_26(pair: &Pair, step: usize, out: i64, errors: &BTreeMap<i64, i64>) -> i64 {
+    let raised = |(_, [p_in, its_out]): &(usize, [i64; 2])| *p_in < out && *its_out == out;
+    let left = |(arc, [p_in, _]): (usize, [i64; 2])| {
+        highest_out(pair, step, arc, p_in + errors[&p_in]) - out
+    };
+    let arcs = compressing(pair, step).filter(raised);
+    arcs.map(left).min().unwrap_or(1)
 }
 
-/// The machines that the arc's row names.
-fn machines(pair: &Pair, step: usize, arc: usize) -> impl Iterator<Item = [i64; 2]> {
-    let named = pair.arc(step, arc).machines;
-    let station = pair.case.arcs[arc].station();
-    let all = station.map(|it| pair.case.stations[it].machines.clone());
-    let all = all.unwrap_or_default().into_iter().enumerate();
-    all.filter(move |(machine, _)| named >> machine & 1 == 1)
-        .map(|(_, machine)| machine)
+/// The arcs that compress in this step, with their in and out pressure.
+fn compressing(pair: &Pair, step: usize) -> impl Iterator<Item = (usize, [i64; 2])> {
+    (0..pair.case.arcs.len()).filter_map(move |arc| {
+        let out = pair.compressed(step, arc)?;
+        let (in_end, _) = pair.ends(step, arc);
+        Some((arc, [pair.pressure(step, in_end), out]))
+    })
+}
+
+/// The highest whole out pressure that the arc's machines reach from this in pressure.
+fn highest_out(pair: &Pair, step: usize, arc: usize, p_in: i64) -> i64 {
+    p_in * ratio(pair, step, arc) / 1_000
 }
 
 /// d where there is slack, and the slacks from it.
@@ -107,7 +119,7 @@ fn move_flows(rng: &mut Rng, off: &mut Pair, step: usize, index: usize) {
     let least = if arc.kind == PIPE { -qmax } else { 0 };
     let mut most = qmax;
     if arc.compresses(off.arc(step, index).setting) {
-        most = most.min(machines(off, step, index).map(|[flow, _]| flow).sum());
+        most = most.min(named_machines(off, step, index).map(|[flow, _]| flow).sum());
     }
     let [a, b] = flows(off, step, index);
     let row = off.arc_mut(step, index);

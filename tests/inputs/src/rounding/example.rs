@@ -34,8 +34,8 @@ pub struct Solution {
     pub delivered: [i64; STEPS],
 }
 
-/// In thousandths, with a mbar left between the station's out pressure and what its machine reaches.
-pub const WITH_A_MBAR_LEFT: Solution = Solution {
+/// In thousandths; the station's out pressure is far below what its machine reaches from the in pressure.
+pub const WITH_ROOM: Solution = Solution {
     pressures: [
         [50_041_610, 48_840_590, 54_678_510, 53_478_490],
         [50_064_483, 48_825_477, 54_668_899, 53_429_501],
@@ -45,14 +45,26 @@ pub const WITH_A_MBAR_LEFT: Solution = Solution {
     delivered: [30_000_000, 30_999_600],
 };
 
-/// In thousandths, at what the station's machine reaches in step 1.
+/// In thousandths, with 1.00088 mbar left in step 2, where rounding takes more.
+pub const A_MBAR_LEFT: Solution = Solution {
+    pressures: [
+        [50_043_755, 48_842_845, 54_672_955, 53_473_045],
+        [50_072_221, 48_833_499, 54_692_518, 53_454_282],
+    ],
+    passed: [29_995_500, 30_956_100],
+    delivered: [30_000_000, 30_955_700],
+    ..WITH_ROOM
+};
+
+/// In thousandths, at what the station's machine reaches in step 2.
 pub const AT_THE_REACH: Solution = Solution {
     pressures: [
-        [50_041_220, 48_840_180, 54_679_520, 53_479_480],
-        [50_064_083, 48_825_077, 54_669_899, 53_430_501],
+        [50_043_482, 48_842_558, 54_673_662, 53_473_738],
+        [50_056_965, 48_817_475, 54_675_572, 53_435_428],
     ],
-    passed: [30_002_000, 30_970_300],
-    ..WITH_A_MBAR_LEFT
+    passed: [29_996_200, 30_994_500],
+    delivered: [30_000_000, 31_012_700],
+    ..WITH_ROOM
 };
 
 impl Solution {

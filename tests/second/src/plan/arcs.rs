@@ -88,7 +88,7 @@ pub(super) fn rule_26_pressures(plan: &Plan, step: usize, index: usize) -> bool 
             let out_node = &plan.case.nodes[out_end];
             let bound = arc.machinery().map_or(0, |its| out_bound(its, out_node));
             let gains = plan.machines(step, index).map(|it| wide(it.ratio) - 1_000);
-            let reach = wide(plan.case.nodes[in_end].p0) * (1_000 + gains.sum::<i128>());
+            let reach = wide(p_in) * (1_000 + gains.sum::<i128>());
             p_in <= p_out && p_out <= bound && 1_000 * wide(p_out) <= reach
         }
     }

@@ -29,7 +29,7 @@ impl Compression {
     }
 
     /// Nothing flows; the out end is of this kind and has no demand, so that 23 asks nothing.
-    fn without_flow(mut self, kind: i64) -> Self {
+    pub fn without_flow(mut self, kind: i64) -> Self {
         self.branch.pair.case.nodes[self.out_end].kind = kind;
         self.branch.supply(self.in_end, 0);
         self.branch.supply(self.out_end, 0);
@@ -85,40 +85,37 @@ pub fn edge_26_past_an_empty_bound_in_the_last_step(rng: &mut Rng, _: &Pair) -> 
     past.above_acthigh(1).refused(26, 3)
 }
 
-/// From 0 to this pressure, which the machines reach.
-fn from_0(rng: &mut Rng, pair: &Pair, out: i64) -> Compression {
+/// To this pressure, from the lowest from which the machines reach it.
+fn up_to(rng: &mut Rng, pair: &Pair, out: i64) -> Compression {
     let backward = rng.flip();
     let mut it = Compression::new(rng, pair, backward);
     it.out = out;
-    it.branch.pair.case.nodes[it.in_end].p0 = MOST_PRESSURE;
-    for step in &mut it.branch.pair.plan.steps {
-        (step.nodes[it.in_end].p, step.nodes[it.out_end].p) = (0, out);
-    }
-    it
+    let p_in = (1_000 * out + it.ratio - 1) / it.ratio;
+    it.held([p_in, out])
 }
 
 pub fn edge_26_empty_bound_of_0(rng: &mut Rng, pair: &Pair) -> Both {
-    from_0(rng, pair, 0).above_acthigh(0).branch.accepted()
+    up_to(rng, pair, 0).above_acthigh(0).branch.accepted()
 }
 
 pub fn edge_26_past_an_empty_bound_of_0(rng: &mut Rng, pair: &Pair) -> Both {
-    from_0(rng, pair, 1).above_acthigh(1).refused(26, 1)
+    up_to(rng, pair, 1).above_acthigh(1).refused(26, 1)
 }
 
 /// With acthigh 200,000 an empty bound lets every pressure through that a node may have.
 pub fn edge_26_empty_bound_of_200_000(rng: &mut Rng, pair: &Pair) -> Both {
-    let highest = from_0(rng, pair, MOST_PRESSURE);
+    let highest = up_to(rng, pair, MOST_PRESSURE);
     highest.above_acthigh(0).branch.accepted()
 }
 
 /// A bound that is given counts alone, above acthigh and below it.
 pub fn edge_26_given_bound_of_1(rng: &mut Rng, pair: &Pair) -> Both {
-    let at = from_0(rng, pair, 1).with_out_bound(1);
+    let at = up_to(rng, pair, 1).with_out_bound(1);
     at.above_acthigh(1).branch.accepted()
 }
 
 pub fn edge_26_past_a_given_bound_of_1(rng: &mut Rng, pair: &Pair) -> Both {
-    let past = from_0(rng, pair, 2).with_out_bound(1);
+    let past = up_to(rng, pair, 2).with_out_bound(1);
     past.above_acthigh(0).refused(26, 1)
 }
 

@@ -13,14 +13,17 @@ mod largest;
 mod machines;
 mod nodes;
 mod pipes;
+mod reach;
 mod stations;
 mod table;
+mod table_of_compressing;
 mod turned;
 
 use branch::Branch;
 pub use groups::{ReadEdge, WriteEdge, numbers_of_every_width};
 pub use known::LEDGER_EDGES;
 pub use table::{EDGES, EDGES_OF_FIELDS, READ_EDGES, WRITE_EDGES};
+pub use table_of_compressing::EDGES_OF_COMPRESSING;
 
 use crate::model::{Pair, Refused};
 use crate::rng::Rng;

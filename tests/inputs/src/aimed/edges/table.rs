@@ -1,9 +1,7 @@
-//! Every edge by its name; those of ledgers are in `known`.
+//! Every edge by its name; those of arcs that compress are in `table_of_compressing`, those of ledgers in `known`.
 
 use super::{EdgeOf, EdgesOf, ReadEdgesOf, WriteEdgesOf};
-use super::{
-    arcs, case, empty_bounds, fields, groups, known, largest, machines, nodes, pipes, stations,
-};
+use super::{arcs, case, fields, groups, known, largest, nodes, pipes, stations};
 
 /// Edges of many inputs each.
 pub const READ_EDGES: &[(&str, ReadEdgesOf)] = &[
@@ -144,102 +142,6 @@ pub const EDGES: &[(&str, EdgeOf)] = &[
         arcs::edge_26_regulating_back_1_up,
     ),
     ("26 shut", arcs::edge_26_shut),
-    ("26 ratio", machines::edge_26_ratio),
-    ("26 ratio backward", machines::edge_26_ratio_backward),
-    ("26 past the ratio", machines::edge_26_past_the_ratio),
-    (
-        "26 past the ratio backward",
-        machines::edge_26_past_the_ratio_backward,
-    ),
-    ("26 p0 too low", machines::edge_26_p0_too_low),
-    (
-        "26 p0 too low backward",
-        machines::edge_26_p0_too_low_backward,
-    ),
-    ("26 at the out bound", machines::edge_26_at_the_out_bound),
-    (
-        "26 past the out bound",
-        machines::edge_26_past_the_out_bound,
-    ),
-    (
-        "26 past the out bound backward",
-        machines::edge_26_past_the_out_bound_backward,
-    ),
-    (
-        "26 at an empty bound",
-        empty_bounds::edge_26_at_an_empty_bound,
-    ),
-    (
-        "26 at an empty bound backward",
-        empty_bounds::edge_26_at_an_empty_bound_backward,
-    ),
-    (
-        "26 past an empty bound",
-        empty_bounds::edge_26_past_an_empty_bound,
-    ),
-    (
-        "26 past an empty bound backward",
-        empty_bounds::edge_26_past_an_empty_bound_backward,
-    ),
-    (
-        "26 inner past an empty bound",
-        empty_bounds::edge_26_inner_past_an_empty_bound,
-    ),
-    (
-        "26 no demand past an empty bound",
-        empty_bounds::edge_26_no_demand_past_an_empty_bound,
-    ),
-    (
-        "26 past an empty bound in the last step",
-        empty_bounds::edge_26_past_an_empty_bound_in_the_last_step,
-    ),
-    (
-        "26 empty bound of 0",
-        empty_bounds::edge_26_empty_bound_of_0,
-    ),
-    (
-        "26 past an empty bound of 0",
-        empty_bounds::edge_26_past_an_empty_bound_of_0,
-    ),
-    (
-        "26 empty bound of 200,000",
-        empty_bounds::edge_26_empty_bound_of_200_000,
-    ),
-    (
-        "26 given bound of 1",
-        empty_bounds::edge_26_given_bound_of_1,
-    ),
-    (
-        "26 past a given bound of 1",
-        empty_bounds::edge_26_past_a_given_bound_of_1,
-    ),
-    (
-        "26 given bound above acthigh",
-        empty_bounds::edge_26_given_bound_above_acthigh,
-    ),
-    (
-        "26 given bound of 200,000",
-        empty_bounds::edge_26_given_bound_of_200_000,
-    ),
-    (
-        "26 regulating above acthigh",
-        empty_bounds::edge_26_regulating_above_acthigh,
-    ),
-    ("26 compressing level", machines::edge_26_compressing_level),
-    (
-        "26 compressing 1 down",
-        machines::edge_26_compressing_1_down,
-    ),
-    ("27 most passed", machines::edge_27_most_passed),
-    ("27 flow passed", machines::edge_27_flow_passed),
-    (
-        "27 flow passed backward",
-        machines::edge_27_flow_passed_backward,
-    ),
-    (
-        "27 machine of an arc that regulates",
-        machines::edge_27_machine_of_an_arc_that_regulates,
-    ),
     ("28 at e", pipes::edge_28_at_e),
     ("28 at minus e", pipes::edge_28_at_minus_e),
     ("28 past e", pipes::edge_28_past_e),
