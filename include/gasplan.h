@@ -51,11 +51,13 @@ extern "C" {
 /* The version of the library: the first number changes when programs over it may have to, the second when something is
  * added.
  *
+ * 4.0.0    In 26 what an arc's machines reach is taken from p of its in end in the same step. Before, it was taken from p0 of
+ *          the in end. A plan that was accepted may be refused by 26 now, and one that 26 refused may be accepted.
  * 3.0.0    In 26 an out bound of 0 stands for acthigh of the arc's out end. Before, it stood for 200,000, which has to be
  *          written outright now.
  * 2.0.0    The place of 1, 2, 5 and 6 is the byte that is missing or wrong. In 1.0.0 it was the first byte of its number. */
-#define GASPLAN_VERSION "3.0.0"
-#define GASPLAN_VERSION_MAJOR 3
+#define GASPLAN_VERSION "4.0.0"
+#define GASPLAN_VERSION_MAJOR 4
 #define GASPLAN_VERSION_MINOR 0
 #define GASPLAN_VERSION_PATCH 0
 
@@ -120,8 +122,8 @@ enum gasplan_refusal {
     GASPLAN_ARC_NUMBERS = 24,        /* Are flows within qmax, unused numbers 0, the setting known and not backward on a one-way
                                       * arc, and the machines in the arc's set? */
     GASPLAN_FLOW_ALLOWED = 25,       /* Is there no flow on a shut or off arc, and none against an artificial arc's setting? */
-    GASPLAN_PRESSURES = 26,          /* Do the pressures at its ends fit what the arc does, where an out bound of 0 stands for
-                                      * acthigh of the out end? */
+    GASPLAN_PRESSURES = 26,          /* Do the pressures at its ends fit what the arc does, where machines raise the in end's p of
+                                      * the same step, and an out bound of 0 stands for acthigh of the out end? */
     GASPLAN_MACHINES = 27,           /* Are there machines only where it compresses, not too many, and enough for the flow? */
     GASPLAN_PIPE_MASS = 28,          /* Is |dt * (a - b) - c * (change of p at from + change at to)| <= E? */
     GASPLAN_PIPE_PRESSURES = 29,     /* Is |1000000 * (to - from) + f * a + g * b + h * (from + to)| <= 1000000 * H? */

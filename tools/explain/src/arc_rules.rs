@@ -128,15 +128,20 @@ fn machines(plan: &Plan, step: usize, index: usize) -> Option<Vec<Machine>> {
     })
 }
 
+/// A node that ends an arc, and its pressure in the step.
+type End = (usize, i64);
+
 /// Asked where the setting is known.
 pub fn rule_26(plan: &Plan, step: usize, index: usize) -> Vec<Check> {
     let arc = &plan.case.arcs[index];
     let setting = plan.arc(step, index).setting;
     let (in_end, out_end) = ends(arc, setting);
-    let (p_in, p_out) = (plan.pressure(step, in_end), plan.pressure(step, out_end));
-    let words = |node: usize, p: i64| format!("p at node {node} = {p}");
-    let (at_in, at_out) = (words(in_end, p_in), words(out_end, p_out));
-    let (in_side, out_side) = ((at_in.as_str(), wide(p_in)), (at_out.as_str(), wide(p_out)));
+    let end = |node: usize| (node, plan.pressure(step, node));
+    let (in_end, out_end) = (end(in_end), end(out_end));
+    let words = |(node, p): End| format!("p at node {node} = {p}");
+    let (at_in, at_out) = (words(in_end), words(out_end));
+    let in_side = (at_in.as_str(), wide(in_end.1));
+    let out_side = (at_out.as_str(), wide(out_end.1));
     match mode(arc.kind, setting) {
         None | Some(Mode::Nothing) => Vec::new(),
         Some(Mode::Equal) => {
@@ -148,58 +153,59 @@ pub fn rule_26(plan: &Plan, step: usize, index: usize) -> Vec<Check> {
             vec![falls.margin(Bound::Falling)]
         }
         Some(Mode::Raising) => {
-            let why = "a compressing arc cannot lower it";
-            let rises = at_least(out_side, in_side, MBAR).because(why);
-            let mut checks = vec![rises.margin(Bound::Rising)];
-            checks.extend(reach(plan, step, index, in_end, out_end));
+            let machines = machines(plan, step, index);
+            let mut checks = vec![risen(in_side, out_side, machines.as_deref())];
+            checks.push(bounded(arc, &plan.case.nodes[out_end.0], out_end));
+            checks.extend(machines.and_then(|machines| reach(&machines, in_end, out_end)));
             checks
         }
     }
 }
 
+/// A compressing arc keeps the pressure or raises it; with no machine on it reaches no more than the in end has.
+fn risen(in_side: Side, out_side: Side, machines: Option<&[Machine]>) -> Check {
+    match machines {
+        Some([]) => {
+            same(in_side, out_side, MBAR).because("no machine is on, so they are to be equal")
+        }
+        _ => at_least(out_side, in_side, MBAR)
+            .because("a compressing arc cannot lower it")
+            .margin(Bound::Rising),
+    }
+}
+
 /// The out bound, or what an empty one stands for.
-fn bounded(arc: &Arc, out_end: &Node, side: Side) -> Check {
+fn bounded(arc: &Arc, node: &Node, out_end: End) -> Check {
+    let side = out_words(out_end);
     let under = |name: &str, most: i64| {
-        let bound = format!("{name} {most}");
+        let (side, bound) = ((side.as_str(), wide(out_end.1)), format!("{name} {most}"));
         at_most(side, (&bound, wide(most)), MBAR).margin(Bound::OutBound)
     };
     match arc.out_bound() {
         Some(most) => under("the out bound", most),
-        None => under("its acthigh", out_end.acthigh)
+        None => under("its acthigh", node.acthigh)
             .because("the out bound is 0")
             .and(EMPTY_BOUND.to_string()),
     }
 }
 
-/// How far a compressing arc can raise the pressure.
-fn reach(plan: &Plan, step: usize, index: usize, in_end: usize, out_end: usize) -> Vec<Check> {
-    let p_out = plan.pressure(step, out_end);
-    let side = format!("p at the out end, node {out_end}, = {p_out}");
-    let side = (side.as_str(), wide(p_out));
-    let (arc, node) = (&plan.case.arcs[index], &plan.case.nodes[out_end]);
-    let mut checks = vec![bounded(arc, node, side)];
-    let Some(machines) = machines(plan, step, index) else {
-        return checks;
-    };
-    let gains: Vec<i64> = machines
-        .iter()
-        .map(|machine| machine.ratio - 1_000)
-        .collect();
-    let p0 = plan.case.nodes[in_end].p0;
-    // 1,000 × out ≤ p0 × .. holds of whole numbers exactly if out is at most the quotient, rounded down.
-    let most = wide(p0) * (1_000 + gains.iter().map(|&gain| wide(gain)).sum::<i128>()) / 1_000;
+fn out_words((node, p): End) -> String {
+    format!("p at the out end, node {node}, = {p}")
+}
+
+/// How far the machines raise the pressure of the in end. None where no machine is on: the ends are equal then.
+fn reach(machines: &[Machine], (in_node, p_in): End, out_end: End) -> Option<Check> {
+    let gains = machines.iter().map(|machine| machine.ratio - 1_000);
+    let ratio = 1_000 + gains.clone().map(wide).sum::<i128>();
+    // 1,000 × out ≤ in × ratio holds of whole numbers exactly if out is at most the quotient, rounded down, below 0 too.
+    let most = (wide(p_in) * ratio).div_euclid(1_000);
+    let side = out_words(out_end);
     let bound = format!("the {most} that its machines reach");
-    let texts: Vec<String> = gains.iter().map(|gain| format!(" + {gain}")).collect();
-    let why = match gains.is_empty() {
-        true => format!("p0 of the in end, node {in_end}: no machine is on"),
-        false => format!(
-            "{p0}, p0 of the in end, node {in_end}, × (1000{}) / 1000",
-            texts.join("")
-        ),
-    };
-    let reached = at_most(side, (&bound, most), MBAR).because(&why);
-    checks.push(reached.margin(Bound::Reach));
-    checks
+    let reached = at_most((&side, wide(out_end.1)), (&bound, most), MBAR).margin(Bound::Reach);
+    let terms: String = gains.map(|gain| format!(" + {gain}")).collect();
+    let from = format!("from p at the in end, node {in_node}, = {p_in}");
+    let product = format!("{p_in} × (1000{terms}) / 1000, rounded down");
+    (!machines.is_empty()).then(|| reached.and(format!("{from}: {product}")))
 }
 
 /// Asked where the setting is known.

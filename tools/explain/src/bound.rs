@@ -1,7 +1,7 @@
 //! The bounds of 21 to 33 that a plan can come close to.
 //!
-//! Left out are equations (22, 25, equal pressures of 26, zeros), choices (settings, sets, 30, 31), a range
-//! of one number, and the 0 below what may be unused: d, slacks and flows.
+//! Left out are equations (22, 25, zeros, equal pressures of 26, also where an arc compresses with no machine on),
+//! choices (settings, sets, 30, 31), a range of one number, and the 0 below what may be unused: d, slacks and flows.
 
 /// In the order of the document.
 #[derive(Clone, Copy, Debug, PartialEq, Eq, PartialOrd, Ord)]
@@ -56,7 +56,9 @@ impl Bound {
             Bound::OutBound => {
                 "p at the out end at most the out bound, or its acthigh where that is 0, compressing"
             }
-            Bound::Reach => "p at the out end at most what the machines reach, compressing",
+            Bound::Reach => {
+                "p at the out end at most what the machines reach from p at the in end, compressing"
+            }
             Bound::MostMachines => "machines on at most the most machines, compressing",
             Bound::MachineFlow => "flow at most what the machines take, compressing",
             Bound::Stored => "gas stored within the mass tolerance",

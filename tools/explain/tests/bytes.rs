@@ -246,7 +246,7 @@ fn a_plan_field_is_named_where_it_is_clear() {
 #[test]
 fn the_mark_is_at_the_verdict_s_place() {
     let mut seen = [0; 8];
-    for seed in 0..200 {
+    for seed in 0..400 {
         let mut rng = Rng::new(seed);
         let pair = generate::accepted(&mut rng);
         let (case, plan) = (pair.case.list(), pair.plan.list());

@@ -4,7 +4,7 @@ mod common;
 
 use std::collections::BTreeMap;
 
-use common::{ask, input_of, noes_of, refusal, refusals, second};
+use common::{ACCEPTED, ask, input_of, noes_of, refusal, refusals, second};
 use explain::Input;
 use explain::noes::noes;
 use gasplan::Refusal;
@@ -13,7 +13,7 @@ use inputs::damage::{any_list, damage_bytes, damage_list};
 use inputs::{Pair, Rng, generate};
 
 /// How many accepted pairs are drawn.
-const SEEDS: u64 = 100;
+const SEEDS: u64 = 150;
 /// Above this many numbers only some of the changes are made.
 const LARGE: usize = 3_000;
 
@@ -54,7 +54,7 @@ fn an_accepted_plan_has_no_no() {
         assert!(found.rows.is_empty(), "{seed}: {:?}", refusals(&found.rows));
         assert!(found.left_out.is_empty());
     }
-    for name in ["two-nodes", "line", "day"] {
+    for name in ACCEPTED {
         let text = ask(&format!("{name} --all")).text;
         assert!(text.contains("\nNo \"no\" in explain's own evaluation either"));
     }

@@ -2,23 +2,10 @@
 
 mod common;
 
-use common::ask;
+use common::{accepts, ask, says};
 
 /// The compressors of `line` with an empty out bound.
 const EMPTY: &str = "line --change case 'arc 0 out-bound' 0";
-
-fn says(command: &str, lines: &[&str]) {
-    let text = ask(command).text;
-    for line in lines {
-        let found = text.lines().any(|it| it == *line);
-        assert!(found, "{command} does not say\n{line}\nbut\n{text}");
-    }
-}
-
-fn accepts(command: &str) {
-    let answer = ask(command);
-    assert!(answer.accepted, "{command}: {}", answer.text);
-}
 
 #[test]
 fn a_given_bound_is_named() {

@@ -2,7 +2,7 @@
 
 mod common;
 
-use common::{EXAMPLES, ask, example};
+use common::{ACCEPTED, EXAMPLES, ask, example};
 use explain::balance::{of_library, of_sums};
 use gasplan::read_all;
 use gasplan_text::model::{Case, Plan};
@@ -76,6 +76,7 @@ fn the_refused_item_is_marked() {
     let marked = [
         ("incident", "station 0"),
         ("empty-bound", "arc 0"),
+        ("drift", "arc 0"),
         ("crowd", "station 0"),
         ("two-nodes --change plan 'step 1 arc 0 b' 901", "arc 0"),
         ("two-nodes --change plan 'step 1 node 1 p' 44999", "node 1"),
@@ -108,7 +109,7 @@ fn the_same_case_gives_the_same_picture() {
 
 #[test]
 fn sums_made_here_are_the_library_s() {
-    for name in ["two-nodes", "line", "day"] {
+    for name in ACCEPTED {
         let input = example(name);
         let case_list = read_all(&input.case_bytes).unwrap();
         let plan_list = read_all(&input.plan_bytes).unwrap();

@@ -14,7 +14,7 @@ fn examples() -> Vec<PathBuf> {
         .filter(|path| path.join("case.bin").exists())
         .collect();
     folders.sort();
-    assert!(folders.len() >= 6);
+    assert!(folders.len() >= 8);
     folders
 }
 

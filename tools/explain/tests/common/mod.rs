@@ -11,14 +11,19 @@ use explain::request::Request;
 use explain::{Explanation, Input};
 use gasplan::{Refusal, write_all};
 
-pub const EXAMPLES: [&str; 6] = [
+pub const EXAMPLES: [&str; 8] = [
     "two-nodes",
     "line",
     "day",
     "incident",
     "empty-bound",
+    "drift",
+    "drift-idle",
     "crowd",
 ];
+
+/// Those of them that are accepted.
+pub const ACCEPTED: [&str; 4] = ["two-nodes", "line", "day", "drift-idle"];
 
 pub fn root() -> PathBuf {
     Path::new(env!("CARGO_MANIFEST_DIR")).join("../..")
@@ -51,6 +56,20 @@ pub fn ask(line: &str) -> Answer {
     let mut input = example(words[0].trim_start_matches("examples/"));
     apply(&mut input, &request.changes).expect(line);
     answer(&input, &request)
+}
+
+/// Are these among the lines that are printed?
+pub fn says(command: &str, lines: &[&str]) {
+    let text = ask(command).text;
+    for line in lines {
+        let found = text.lines().any(|it| it == *line);
+        assert!(found, "{command} does not say\n{line}\nbut\n{text}");
+    }
+}
+
+pub fn accepts(command: &str) {
+    let answer = ask(command);
+    assert!(answer.accepted, "{command}: {}", answer.text);
 }
 
 /// The first line that is a refusal.

@@ -4,6 +4,7 @@ use super::{COMBINED, COMPRESSOR, PIPE, SHORTCUT, VALVE};
 
 pub struct Node {
     pub kind: i64,
+    /// The pressure at time 0.
     pub p0: i64,
     pub low: i64,
     pub high: i64,
