@@ -1,16 +1,16 @@
 //! Plans of 12 and more steps whose pressures drift from p0, on the library beside the second checker. Document 01 took p0 of the in end
 //! in 26: it would refuse many of those that are accepted, and pass them where a change has put the out pressure past what p reaches.
 
-use std::collections::BTreeMap;
 use std::io::{Write, stdout};
 
 use beside::library;
 use harness::{Beside, Difference};
+use inputs::counts::{Counts, note, seldom};
 use inputs::generate::accepted;
 use inputs::model::{
     COMBINED, INNER, MOST_PRESSURE, OUT_BOUND, PIPE, Pair, REGULATING, REGULATOR, is_backward,
 };
-use inputs::reach::{named_machines, overreach, overreach_from_p0, ratio};
+use inputs::reach::{named_machines, overreach, overreach_from_p0, ratio, take_machines};
 use inputs::{Refused, Rng};
 
 const PAIRS: u64 = 30_000;
@@ -27,13 +27,6 @@ const SIX_HOURS: i64 = 21_600;
 const LEAST: u64 = 20;
 
 const WAYS: [(&str, bool); 2] = [("forward", false), ("backward", true)];
-
-/// In how many pairs each thing occurs.
-type Counts = BTreeMap<String, u64>;
-
-fn note(counts: &mut Counts, name: String, occurs: bool) {
-    *counts.entry(name).or_default() += u64::from(occurs);
-}
 
 /// An arc in a step in which it compresses.
 struct Row {
@@ -114,28 +107,22 @@ const CHANGES: [(&str, Which, Change); 5] = [
     (
         "forward, fewer machines",
         |row| !row.backward,
-        take_machines,
+        fewer_machines,
     ),
     (
         "backward, fewer machines",
         |row| row.backward,
-        take_machines,
+        fewer_machines,
     ),
     ("forward, out raised", |row| !row.backward, raise_out),
     ("backward, out raised", |row| row.backward, raise_out),
     ("idle, out raised", |row| row.idle, raise_out),
 ];
 
-/// Takes machines away, the lowest first, until the others don't reach the out pressure.
-fn take_machines(pair: &Pair, row: &Row) -> Option<Pair> {
+/// Takes machines away until the others don't reach the out pressure, if they carry the flow.
+fn fewer_machines(pair: &Pair, row: &Row) -> Option<Pair> {
     let mut changed = pair.clone();
-    while overreach(&changed, row.step, row.arc)? <= 0 {
-        let it = changed.arc_mut(row.step, row.arc);
-        if it.machines == 0 {
-            return None;
-        }
-        it.machines &= it.machines - 1;
-    }
+    take_machines(&mut changed, row.step, row.arc)?;
     let flow = pair.arc(row.step, row.arc).a + pair.arc(row.step, row.arc).b;
     let left = named_machines(&changed, row.step, row.arc).map(|[flow, _]| flow);
     (flow <= left.sum()).then_some(changed)
@@ -252,6 +239,6 @@ fn p_decides_where_p0_would_err() {
         lines.collect::<String>()
     );
     assert!(shown.is_ok());
-    let seldom: Vec<_> = counts.iter().filter(|&(_, &count)| count < LEAST).collect();
+    let seldom = seldom(&counts, LEAST);
     assert!(seldom.is_empty(), "{seldom:?}");
 }

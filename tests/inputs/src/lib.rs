@@ -6,6 +6,7 @@
 
 pub mod aimed;
 pub mod bytes;
+pub mod counts;
 pub mod damage;
 pub mod generate;
 pub mod model;

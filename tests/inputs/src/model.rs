@@ -137,6 +137,12 @@ pub struct Refused {
     pub place: usize,
 }
 
+/// Flow Q and ratio R of the machines that a set names.
+pub fn named(machines: &[[i64; 2]], set: i64) -> impl Iterator<Item = [i64; 2]> {
+    let named = move |(machine, _): &(usize, &[i64; 2])| set >> machine & 1 == 1;
+    machines.iter().enumerate().filter(named).map(|(_, it)| *it)
+}
+
 impl Case {
     pub fn list(&self) -> Vec<i64> {
         self.fields().iter().map(|field| field.value).collect()

@@ -1,6 +1,6 @@
 //! What the machines of a compressing arc reach: 26, and what it would be with p0 of the in end.
 
-use crate::model::Pair;
+use crate::model::{Pair, named};
 
 /// 1,000 × out less p of the in end in the same step × ratio: above 0 where 26 says "no". None if the arc is not compressing.
 pub fn overreach(pair: &Pair, step: usize, arc: usize) -> Option<i64> {
@@ -30,8 +30,17 @@ pub fn named_machines(pair: &Pair, step: usize, arc: usize) -> impl Iterator<Ite
     let set = pair.arc(step, arc).machines;
     let station = pair.case.arcs[arc].station();
     let machines = station.map(|it| pair.case.stations[it].machines.as_slice());
-    let machines = machines.unwrap_or_default().iter().enumerate();
-    machines
-        .filter(move |(machine, _)| set >> machine & 1 == 1)
-        .map(|(_, machine)| *machine)
+    named(machines.unwrap_or_default(), set)
+}
+
+/// Takes machines away, the lowest first, until the others don't reach the out pressure; none if it is reached with no machine on.
+pub fn take_machines(pair: &mut Pair, step: usize, arc: usize) -> Option<()> {
+    while overreach(pair, step, arc)? <= 0 {
+        let row = pair.arc_mut(step, arc);
+        if row.machines == 0 {
+            return None;
+        }
+        row.machines &= row.machines - 1;
+    }
+    Some(())
 }

@@ -28,7 +28,7 @@ pub enum Row {
     },
 }
 
-/// The row's number in the table, and the row.
+/// The row's number in the table, and the row. Row 6 has two more, with another p0.
 pub fn rows() -> Vec<(u8, Row)> {
     let loose = with_tolerances(60, 1);
     let mut rows = vec![

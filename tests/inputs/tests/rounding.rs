@@ -106,22 +106,23 @@ fn the_bound_at_26_is_reached() {
     let mut compressing = 0;
     for seed in 0..PAIRS {
         let pair = generate::accepted(&mut Rng::new(seed));
-        let step = pair.steps();
-        for arc in 0..pair.case.arcs.len() {
-            let Some(over) = overreach(&pair, step, arc) else {
-                continue;
-            };
-            let mut off = pair.clone();
-            lean_26(&mut off, step, arc);
-            let most = over + twice_26(&pair, step, arc);
-            assert_eq!(overreach(&off, step, arc), Some(most), "{seed} {arc}");
-            compressing += 1;
-        }
+        let arcs = 0..pair.case.arcs.len();
+        compressing += arcs.filter_map(|arc| leaned_26(&pair, arc)).count();
     }
     assert!(compressing > 200, "{compressing} arcs");
 }
 
-/// The machine reaches the out pressure from 1 mbar less, and no more: of all errors only in - 1 with out + 1 would pass the reach.
+/// The arc in the last step, if it compresses: off by 1 at both ends it loses just the bound.
+fn leaned_26(pair: &Pair, arc: usize) -> Option<()> {
+    let step = pair.steps();
+    let most = overreach(pair, step, arc)? + twice_26(pair, step, arc);
+    let mut off = pair.clone();
+    lean_26(&mut off, step, arc);
+    assert_eq!(overreach(&off, step, arc), Some(most), "arc {arc}");
+    Some(())
+}
+
+/// The machine reaches the out pressure from 1 mbar less, and no more: of all errors only in - 1 with out + 1 would go past the reach.
 #[test]
 fn errors_of_both_pressures_stay_within_the_reach() {
     let (step, arc) = STATION;

@@ -1,8 +1,7 @@
 //! What the generator makes: every kind of thing, and the same things from the same seed.
 
-use std::collections::BTreeMap;
-
 use inputs::Rng;
+use inputs::counts::{Counts, note, seldom};
 use inputs::generate::{Size, accepted, of_size};
 use inputs::model::{
     Arc, ArcRow, BOTH_WAYS, C, COMBINED, COMPRESSOR, F, G, H, INNER, MOST_FLOW, MOST_PRESSURE,
@@ -14,12 +13,6 @@ const PAIRS: u64 = 1_500;
 
 /// Each thing has to occur this often.
 const LEAST: u64 = 20;
-
-type Counts = BTreeMap<String, u64>;
-
-fn note(counts: &mut Counts, name: impl Into<String>, occurs: bool) {
-    *counts.entry(name.into()).or_default() += u64::from(occurs);
-}
 
 fn note_case(counts: &mut Counts, pair: &Pair) {
     let case = &pair.case;
@@ -147,7 +140,7 @@ fn note_empty_bound(counts: &mut Counts, pair: &Pair, step: usize, arc: usize) {
     }
 }
 
-/// Compressing: whether p of the in end is p0, what p0 would reach, and whether the machines can do no more.
+/// Compressing: with no machine on above and below p0, past what p0 would reach, as far as the machines reach, and from 0.
 fn note_reach(counts: &mut Counts, pair: &Pair, step: usize, arc: usize) {
     let row = pair.arc(step, arc);
     let (in_end, _) = pair.ends(step, arc);
@@ -186,7 +179,7 @@ fn everything_occurs() {
             }
         }
     }
-    let seldom: Vec<_> = counts.iter().filter(|&(_, &count)| count < LEAST).collect();
+    let seldom = seldom(&counts, LEAST);
     assert!(seldom.is_empty(), "{seldom:?}");
 }
 

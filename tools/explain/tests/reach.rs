@@ -68,14 +68,29 @@ fn the_pressure_of_the_in_end_is_named() {
     );
 }
 
+/// All machines of the station together don't reach what `drift` has in step 7, unless the second were stronger.
 #[test]
 fn more_machines_reach_further() {
     let with = |steps: &[usize]| {
         let on = |step| format!(" --change plan 'step {step} arc 0 machines' '{{0 1}}'");
         format!("drift{}", steps.iter().map(on).collect::<String>())
     };
-    accepts(&with(&[7, 8, 9, 10]));
-    says(&with(&[7, 8, 10]), &["refused 26 9 0"]);
+    let all = [7, 8, 9, 10];
+    says(
+        &with(&all),
+        &[
+            "refused 26 7 0",
+            "compressor 0 (node 1 to 2, station 0), step 7, 21600 s to 25200 s: p at the out end, node 2, = 74974, over the 73704 \
+             that its machines reach by 1,270 mbar",
+            "    from p at the in end, node 1, = 41407: 41407 × (1000 + 250 + 530) / 1000, rounded down",
+        ],
+    );
+    let stronger = "--change case 'station 0 machine 1 ratio' 1600";
+    accepts(&format!("{} {stronger}", with(&all)));
+    says(
+        &format!("{} {stronger}", with(&[7, 8, 10])),
+        &["refused 26 9 0"],
+    );
 }
 
 /// Only 28 of the first step goes by p0.

@@ -5,7 +5,7 @@ use mathlib.Core.Path.{refl}
 use mathlib.Core.List.{List, [], _∷_, _++_}
 use Prim.Native.Nat.{ℕ}
 use lib.IntN.{ℤ, pos}
-use Rattle.numbers.specs.law.Told.{gives, refuses}
+use Rattle.numbers.specs.law.Told.{Told, gives, refuses}
 use Rattle.plan.specs.inside.Computed.{law}
 use Rattle.plan.specs.claims.TableT.{Row, judges, draws, judgesBytes, reads, RowHolds, AllHold, minus, caseC, planP}
 
@@ -30,8 +30,8 @@ runsBackward p0 bound acthigh =
     ++ ((pos 2 ∷ pos 1 ∷ pos 0 ∷ pos 200 ∷ [])
     ++ (pos 2500 ∷ pos 1200 ∷ []))))))))))))
 
-abbrev caseB : List ℤ
-caseB = runsBackward (pos 50000) (pos 60000) (pos 60000)
+abbrev pub caseB : (p0 : ℤ) → List ℤ
+caseB p0 = runsBackward p0 (pos 60000) (pos 60000)
 
 -- From step 1 on the compressor runs backward, so that node 2 is its in end, in the second direction and the second state. Node 2 stands at `first` in step 1
 -- and at `second` in step 2, below its actlow, 50300, by the two slacks.
@@ -53,6 +53,9 @@ raisedFrom first firstSlack second secondSlack =
 
 abbrev pub planB : List ℤ
 planB = raisedFrom (pos 50000) (pos 300) (pos 50000) (pos 300)
+
+abbrev pub acceptedB : Told
+acceptedB = gives (pos 614 ∷ pos 30 ∷ pos 2207 ∷ pos 120 ∷ pos 239991 ∷ pos 359991 ∷ [])
 
 -- ---- C and P in groups of seven
 
@@ -86,11 +89,11 @@ furtherRows =
     -- Six totals above 0: pressure slack 7 and 300 in both steps; demand slack 20 and 10; switching cost 2000 for the new direction, 200 for the new state and
     -- 7 for the compressor, all in step 1; residual 60 at the pipe and 60 at node 1. In 26 the out pressure, 60000, is just what the machine, of 1200, reaches
     -- from 50000.
-    judges caseB planB (gives (pos 614 ∷ pos 30 ∷ pos 2207 ∷ pos 120 ∷ pos 239991 ∷ pos 359991 ∷ []))
-    ∷ judges caseB (raisedFrom (pos 49999) (pos 301) (pos 50000) (pos 300)) (refuses 26 1 1)
+    judges (caseB (pos 50000)) planB acceptedB
+    ∷ judges (caseB (pos 50000)) (raisedFrom (pos 49999) (pos 301) (pos 50000) (pos 300)) (refuses 26 1 1)
     -- the pipe inside the set; the pipe at its edge, and gas that leaves it
-    ∷ draws caseB planB (pos 3) (pos 0) (pos 2) (gives (pos 2 ∷ pos 1 ∷ pos 239991 ∷ pos 359991 ∷ pos 120000 ∷ pos 120 ∷ []))
-    ∷ draws caseB planB (pos 6) (pos 0) (pos 2) (gives (pos 2 ∷ pos 0 ∷ pos 0 ∷ pos 0 ∷ minus 60 ∷ pos 60 ∷ []))
+    ∷ draws (caseB (pos 50000)) planB (pos 3) (pos 0) (pos 2) (gives (pos 2 ∷ pos 1 ∷ pos 239991 ∷ pos 359991 ∷ pos 120000 ∷ pos 120 ∷ []))
+    ∷ draws (caseB (pos 50000)) planB (pos 6) (pos 0) (pos 2) (gives (pos 2 ∷ pos 0 ∷ pos 0 ∷ pos 0 ∷ minus 60 ∷ pos 60 ∷ []))
     -- as row 5, with both nodes
     ∷ draws (caseC (pos 60) (pos 1)) (planP (pos 901)) (pos 3) (pos 0) (pos 1)
     (gives (pos 2 ∷ pos 1 ∷ pos 599988 ∷ pos 611988 ∷ pos 12000 ∷ pos 120 ∷ []))

@@ -1,11 +1,12 @@
 -- The law's own questions under another test of arcs that compress: 26 of such an arc is answered by the test, every other question as it is. So "as before"
 -- can be said of the whole verdict and of the ledger.
 -- Assumes nothing.
-use mathlib.Core.Bool.{Bool, cond}
+use mathlib.Core.Bool.{Bool, cond, _&&_}
 use mathlib.Core.List.{List, _++_, map}
 use Prim.Native.Nat.{ℕ, _-_}
 use lib.Dec.{eqb}
 use lib.IntN.{ℤ}
+use lib.Signed.{leZ}
 use Rattle.numbers.specs.law.Told.{Told}
 use Rattle.numbers.specs.law.Question.{Question, firstNo}
 use Rattle.numbers.specs.law.Signed.{posPart}
@@ -25,6 +26,10 @@ use Rattle.plan.specs.law.Ledger.{regionQuestions, ledgerBy, ledgerTold}
 -- a test of an arc e that compresses from the node u to the node w, in the step with index i whose numbers are `rows`
 abbrev pub CompressionTest : Type 0
 CompressionTest = (rows : List ℤ) (i e u w : ℕ) → Bool
+
+-- "compressing in ≤ out, out ≤ out bound, and" that the machines reach it: what the tests in these claims have in common
+abbrev pub testsKept : (pIn pOut bound : ℤ) (reached : Bool) → Bool
+testsKept pIn pOut bound reached = leZ pIn pOut && (leZ pOut bound && reached)
 
 -- an arc that does not compress is asked as it is
 abbrev pub settingPressuresUnder : CompressionTest → List ℤ → List ℤ → ℕ → ℕ → Setting → Bool

@@ -3,13 +3,13 @@
 -- document 01 too. The product of 26 is that of document 02, P1, throughout.
 -- Assumes nothing.
 use mathlib.Core.Path.{_≡_, refl, sym, _∙_}
-use mathlib.Core.Bool.{Bool, true, false, cond, _&&_}
+use mathlib.Core.Bool.{Bool, true, cond}
 use mathlib.Core.List.{List, [], _∷_}
 use mathlib.Core.Logic.{_≢_}
 use Prim.Native.Nat.{ℕ, _≤_, _<_}
 use lib.IntN.{ℤ, pos}
 use lib.Signed.{leZ, _≤ℤ_}
-use Rattle.numbers.specs.law.Told.{Told, gives, refuses}
+use Rattle.numbers.specs.law.Told.{Told, refuses}
 use Rattle.numbers.specs.inside.SignedParts.{ints, size}
 use Rattle.case.specs.law.Field.{mostPressure}
 use Rattle.case.specs.law.Layout.{nodesOf, arcsOf, stepsOf}
@@ -30,15 +30,15 @@ use Rattle.plan.specs.law.ArcPressures.{reachKept, compressionKept, pres
 use Rattle.plan.specs.law.Judged.{verdictTold, judgeOf}
 use Rattle.plan.specs.law.Ledger.{ledgerOf}
 use Rattle.plan.specs.inside.SettingLaws.{compressing-five}
-use Rattle.plan.specs.inside.JudgedAlike.{alike-bound, pressures-alike, Alike26, judged-alike, ledger-alike}
+use Rattle.plan.specs.inside.JudgedAlike.{default-alike, pressures-alike, Alike26, judged-alike, ledger-alike}
 use Rattle.plan.specs.inside.Preconditions.{AcceptedCase}
 use Rattle.plan.specs.inside.CaseSizes.{node-sized, from-node, to-node}
 use Rattle.plan.specs.inside.Computed.{law}
 use Rattle.plan.specs.claims.Acceptance.{sound}
 use Rattle.plan.specs.claims.ArcFacts.{rule26-compressing}
-use Rattle.plan.specs.claims.JudgedUnder.{CompressionTest, settingPressuresUnder, pressuresUnder, judgedUnder, ledgerUnder}
-use Rattle.plan.specs.claims.TableT.{Row, judges, AllHold, RowHolds, minus, twoMachines, raised, plan6}
-use Rattle.plan.specs.claims.FurtherRows.{runsBackward, planB}
+use Rattle.plan.specs.claims.JudgedUnder.{CompressionTest, testsKept, settingPressuresUnder, pressuresUnder, judgedUnder, ledgerUnder}
+use Rattle.plan.specs.claims.TableT.{Row, judges, AllHold, RowHolds, minus, twoMachines, raised, plan6, accepted6}
+use Rattle.plan.specs.claims.FurtherRows.{runsBackward, planB, acceptedB}
 
 -- ---- 26 and the verdict with another default
 
@@ -54,12 +54,14 @@ defaultOf01 i e w = mostPressure
 abbrev pub actHigh : List ℤ → Default
 actHigh case i e w = nodeOf case w i .acthigh
 
+-- the out bound, of arc e with the out end w
+abbrev pub boundWith : Default → List ℤ → ℕ → ℕ → ℕ → ℤ
+boundWith default case i e w = cond (isZero (artificialOf case e .outbound)) (default i e w) (artificialOf case e .outbound)
+
 -- compressing from the node `u` to the node `w`
 abbrev pub compressionWith : Default → List ℤ → CompressionTest
 compressionWith default case rows i e u w =
-    leZ (pressureIn rows u) (pressureIn rows w)
-    && (leZ (pressureIn rows w) (cond (isZero (artificialOf case e .outbound)) (default i e w) (artificialOf case e .outbound))
-    && reachKept case rows e u w)
+    testsKept (pressureIn rows u) (pressureIn rows w) (boundWith default case i e w) (reachKept case rows e u w)
 
 -- 26, the verdict and what the ledger tells
 abbrev pub pressuresWith : Default → List ℤ → List ℤ → ℕ → ℕ → Bool
@@ -79,26 +81,26 @@ IsActHigh default case i e =
     5 ≤ arcOf case e .kind → artificialOf case e .outbound ≡ pos 0 → (way : Way)
     → default i e (outEnd way (arcOf case e)) ≡ actHigh case i e (outEnd way (arcOf case e))
 
-bound-alike : (default : Default) (case rows : List ℤ) (i e : ℕ) → IsActHigh default case i e
+arc-alike : (default : Default) (case rows : List ℤ) (i e : ℕ) → IsActHigh default case i e
     → pressuresWith default case rows i e ≡ pressuresKept case rows i e
 unfolding compressionKept
-bound-alike default case rows i e h =
+arc-alike default case rows i e h =
     pressures-alike (compressionWith default case) case rows i e (λ way k.
     let w = outEnd way (arcOf case e) in
-    let a = alike-bound (artificialOf case e .outbound) (default i e w) (actHigh case i e w) (λ z. h (compressing-five _ _ way k) z way) in
+    let a = default-alike (artificialOf case e .outbound) (default i e w) (actHigh case i e w) (λ z. h (compressing-five _ _ way k) z way) in
     rw a)
 
 -- 26 of an arc whose out bound is not 0, or that has none, answers as with any default
 pub outbound-given : (default : Default) (case rows : List ℤ) (i e : ℕ) → (5 ≤ arcOf case e .kind → artificialOf case e .outbound ≢ pos 0)
     → pressuresWith default case rows i e ≡ pressuresKept case rows i e
-outbound-given default case rows i e given = bound-alike default case rows i e (λ k z way. absurd (given k z))
+outbound-given default case rows i e given = arc-alike default case rows i e (λ k z way. absurd (given k z))
 
 -- ---- the verdict and the ledger
 
 -- with acthigh of the out end as the default both are the law's, on every case
 module _ (case plan : List ℤ) where
   by-acthigh : Alike26 (compressionWith (actHigh case) case) case plan
-  by-acthigh i e p l = bound-alike (actHigh case) case (stepRows case plan i) i e (λ k z way. refl)
+  by-acthigh i e p l = arc-alike (actHigh case) case (stepRows case plan i) i e (λ k z way. refl)
 
   pub judged-by-acthigh : judgedWith (actHigh case) case plan ≡ judgeOf case plan
   judged-by-acthigh = judged-alike (compressionWith (actHigh case) case) case plan by-acthigh
@@ -171,16 +173,16 @@ outBoundRows =
     -- 0 stands for acthigh of the out end: 59,999 does not let 60,000 through, 60,000 does
     judges (twoMachines (pos 40000) (pos 0) (pos 0) (pos 0) (pos 59999)) (plan6 (pos 60000)) (refuses 26 1 0)
     ∷ judges (twoMachines (pos 40000) (pos 0) (pos 0) (pos 0) (pos 60000)) (plan6 (pos 60000))
-    (gives (pos 0 ∷ pos 0 ∷ pos 7 ∷ pos 0 ∷ pos 0 ∷ pos 0 ∷ []))
+    accepted6
     -- the slack u-, with which 23 is passed at a sink that has a demand, does not lift it
     ∷ judges (twoMachines (pos 40000) (pos 2) (minus 1) (pos 0) (pos 59999)) (raised (pos 3) (pos 60000) (pos 1) (pos 1)) (refuses 26 1 0)
     -- a bound that is given counts alone, above acthigh and below it
     ∷ judges (twoMachines (pos 40000) (pos 0) (pos 0) (pos 60000) (pos 59999)) (plan6 (pos 60000))
-    (gives (pos 0 ∷ pos 0 ∷ pos 7 ∷ pos 0 ∷ pos 0 ∷ pos 0 ∷ []))
+    accepted6
     ∷ judges (twoMachines (pos 40000) (pos 0) (pos 0) (pos 59999) (pos 60000)) (plan6 (pos 60000)) (refuses 26 1 0)
     -- 0 backward, where acthigh of the in end is 60,000
     ∷ judges (runsBackward (pos 50000) (pos 0) (pos 59999)) planB (refuses 26 1 1)
-    ∷ judges (runsBackward (pos 50000) (pos 0) (pos 60000)) planB (gives (pos 614 ∷ pos 30 ∷ pos 2207 ∷ pos 120 ∷ pos 239991 ∷ pos 359991 ∷ []))
+    ∷ judges (runsBackward (pos 50000) (pos 0) (pos 60000)) planB acceptedB
     ∷ []
 
 pub outBounds : AllHold outBoundRows
@@ -189,6 +191,6 @@ outBounds = (refl, (refl, (refl, (refl, (refl, (refl, (refl, tt)))))))
 
 -- the first of them is accepted with the default of document 01
 pub first-row-with-01 : judgedWith defaultOf01 (twoMachines (pos 40000) (pos 0) (pos 0) (pos 0) (pos 59999)) (plan6 (pos 60000))
-    ≡ gives (pos 0 ∷ pos 0 ∷ pos 7 ∷ pos 0 ∷ pos 0 ∷ pos 0 ∷ [])
+    ≡ accepted6
 unfolding law
 first-row-with-01 = refl

@@ -2,7 +2,7 @@
 -- acceptance now leans on this rule."
 -- Assumes nothing.
 use mathlib.Core.Path.{_≡_, refl, _∙_}
-use mathlib.Core.Bool.{Bool, cond, _&&_}
+use mathlib.Core.Bool.{Bool, cond}
 use mathlib.Core.List.{List, [], _∷_}
 use Prim.Native.Nat.{ℕ, _<_}
 use native.Mathlib.Omega.{arith}
@@ -29,14 +29,14 @@ use Rattle.plan.specs.law.ArcPressures.{ratioOf, reachKept, compressionK
 use Rattle.plan.specs.law.Judged.{verdictTold, judgeOf}
 use Rattle.plan.specs.law.Ledger.{ledgerOf}
 use Rattle.plan.specs.inside.SettingLaws.{compressing-five}
-use Rattle.plan.specs.inside.JudgedAlike.{alike-bound, pressures-alike, Alike26, judged-alike, ledger-alike}
+use Rattle.plan.specs.inside.JudgedAlike.{default-alike, pressures-alike, Alike26, judged-alike, ledger-alike}
 use Rattle.plan.specs.inside.Computed.{law}
 use Rattle.plan.specs.claims.Acceptance.{sound}
 use Rattle.plan.specs.claims.ArcFacts.{Compression, rule26-compressing}
-use Rattle.plan.specs.claims.JudgedUnder.{CompressionTest, judgedUnder, ledgerUnder}
-use Rattle.plan.specs.claims.OutBound.{Default, defaultOf01, actHigh, IsActHigh, OutBoundsGiven}
-use Rattle.plan.specs.claims.TableT.{Row, judges, AllHold, RowHolds, twoMachines, case6, raised, plan6}
-use Rattle.plan.specs.claims.FurtherRows.{runsBackward, raisedFrom, planB}
+use Rattle.plan.specs.claims.JudgedUnder.{CompressionTest, testsKept, judgedUnder, ledgerUnder}
+use Rattle.plan.specs.claims.OutBound.{Default, defaultOf01, actHigh, boundWith, IsActHigh, OutBoundsGiven}
+use Rattle.plan.specs.claims.TableT.{Row, judges, AllHold, RowHolds, case6, raised, plan6, accepted6}
+use Rattle.plan.specs.claims.FurtherRows.{caseB, raisedFrom, planB, acceptedB}
 
 -- ---- what acceptance says of an arc that compresses
 
@@ -51,7 +51,7 @@ no-gain : (case : List ℤ) (offset : ℕ) → machineGain case offset (pos 0) �
 unfolding machineGain gainPart
 no-gain case offset = sum-cong (machineCount case offset) _ (λ m. pos 0) (λ m p. rw (bit-zero m)) ∙ sum-zero (machineCount case offset)
 
--- with no machine on the ratio is 1,000, and the two pressures are one
+-- with no machine on the ratio is 1,000, and the two pressures are equal
 pub no-machine : (case rows : List ℤ) (i e u w : ℕ) → Compression case rows i e u w → arcRow case rows e .machines ≡ pos 0
     → pressureIn rows u ≡ pressureIn rows w
 no-machine case rows i e u w f z =
@@ -70,18 +70,18 @@ from-zero case rows i e u w f z =
 
 -- ---- p0 is not asked
 
--- the tests of an arc that compresses: "compressing in ≤ out, out ≤ out bound", and what its machines reach
 abbrev pub keptBy : (pIn pOut outbound acthigh gain : ℤ) → Bool
 keptBy pIn pOut outbound acthigh gain =
-    leZ pIn pOut && (leZ pOut (cond (isZero outbound) acthigh outbound) && leZ (pos 1000 *ℤ pOut) (pIn *ℤ (pos 1000 +ℤ gain)))
+    testsKept pIn pOut (cond (isZero outbound) acthigh outbound) (leZ (pos 1000 *ℤ pOut) (pIn *ℤ (pos 1000 +ℤ gain)))
 
--- 26 of such an arc goes by five numbers, none of which is p0: two pressures of the step, its out bound, acthigh of its out end, and the gain of its machines
-pub by-five : (case rows : List ℤ) (i e : ℕ) (way : Way) → settingIn case rows e ≡ Active way Compressing
+-- 26 of an arc that compresses goes by five numbers, none of which is p0: two pressures of the step, its out bound, acthigh of its out end, and the gain of its
+-- machines
+pub without-p0 : (case rows : List ℤ) (i e : ℕ) (way : Way) → settingIn case rows e ≡ Active way Compressing
     → let w = outEnd way (arcOf case e) in
     pressuresKept case rows i e ≡ keptBy (pressureIn rows (inEnd way (arcOf case e))) (pressureIn rows w)
     (artificialOf case e .outbound) (nodeOf case w i .acthigh) (machineGain case (stationOffset case e) (arcRow case rows e .machines))
 unfolding pressuresKept compressionKept reachKept
-by-five case rows i e way k =
+without-p0 case rows i e way k =
     let five = compressing-five _ _ way k in
     rw (ne-eqb (arcOf case e .kind) 1 (λ o. omega (arith, five, o)), k)
 
@@ -90,9 +90,22 @@ by-five case rows i e way k =
 -- document 01: "1,000 × out ≤ p0 of the in end × (1,000 + the sum of (R - 1,000) over its machines)"; what an out bound of 0 stands for is left open
 abbrev pub compressionFromP0 : Default → List ℤ → CompressionTest
 compressionFromP0 default case rows i e u w =
-    leZ (pressureIn rows u) (pressureIn rows w)
-    && (leZ (pressureIn rows w) (cond (isZero (artificialOf case e .outbound)) (default i e w) (artificialOf case e .outbound))
-    && leZ (pos 1000 *ℤ pressureIn rows w) (nodeOf case u i .p0 *ℤ ratioOf case rows e))
+    testsKept (pressureIn rows u) (pressureIn rows w) (boundWith default case i e w)
+    (leZ (pos 1000 *ℤ pressureIn rows w) (nodeOf case u i .p0 *ℤ ratioOf case rows e))
+
+-- the verdict with it and what the ledger tells; an out bound of 0 stands for acthigh of the out end, as in the law
+abbrev pub judgedFromP0 : List ℤ → List ℤ → Told
+judgedFromP0 case = judgedUnder (compressionFromP0 (actHigh case) case) case
+
+abbrev pub ledgerFromP0 : List ℤ → List ℤ → ℤ → ℤ → ℤ → Told
+ledgerFromP0 case = ledgerUnder (compressionFromP0 (actHigh case) case) case
+
+-- those of document 01, in which it stands for 200,000
+abbrev pub judgedBy01 : List ℤ → List ℤ → Told
+judgedBy01 case = judgedUnder (compressionFromP0 defaultOf01 case) case
+
+abbrev pub ledgerBy01 : List ℤ → List ℤ → ℤ → ℤ → ℤ → Told
+ledgerBy01 case = ledgerUnder (compressionFromP0 defaultOf01 case) case
 
 -- no in end has drifted: every arc that compresses does so from p0 of its in end
 abbrev pub Undrifted : List ℤ → List ℤ → Type 0
@@ -107,72 +120,66 @@ undrifted-26 default case plan h a i e p l =
     pressures-alike (compressionFromP0 default case) case (stepRows case plan i) i e (λ way k.
     let w = outEnd way (arcOf case e) in
     let five = compressing-five _ _ way k in
-    let b = alike-bound (artificialOf case e .outbound) (default i e w) (actHigh case i e w) (λ z. a i e l five z way) in
+    let b = default-alike (artificialOf case e .outbound) (default i e w) (actHigh case i e w) (λ z. a i e l five z way) in
     rw (h i e p l way k, b))
 
--- then the verdict and the ledger are as with p0, on every case with acthigh of the out end for an out bound of 0
+-- then, on every case, the verdict and the ledger are as with p0
 module _ (case plan : List ℤ) (h : Undrifted case plan) where
-  pub judged-undrifted : judgedUnder (compressionFromP0 (actHigh case) case) case plan ≡ judgeOf case plan
-  judged-undrifted = judged-alike (compressionFromP0 (actHigh case) case) case plan (undrifted-26 (actHigh case) case plan h (λ i e l k z way. refl))
+  alike-26 : Alike26 (compressionFromP0 (actHigh case) case) case plan
+  alike-26 = undrifted-26 (actHigh case) case plan h (λ i e l k z way. refl)
 
-  pub ledger-undrifted : (set s t : ℤ) → ledgerUnder (compressionFromP0 (actHigh case) case) case plan set s t ≡ ledgerOf case plan set s t
-  ledger-undrifted = ledger-alike (compressionFromP0 (actHigh case) case) case plan (undrifted-26 (actHigh case) case plan h (λ i e l k z way. refl))
+  pub judged-undrifted : judgedFromP0 case plan ≡ judgeOf case plan
+  judged-undrifted = judged-alike (compressionFromP0 (actHigh case) case) case plan alike-26
 
--- and where the out bounds are given too they are document 01's own, which has p0 and 200,000
+  pub ledger-undrifted : (set s t : ℤ) → ledgerFromP0 case plan set s t ≡ ledgerOf case plan set s t
+  ledger-undrifted = ledger-alike (compressionFromP0 (actHigh case) case) case plan alike-26
+
+-- and where the out bounds are given too they are document 01's own
 module _ (case plan : List ℤ) (h : Undrifted case plan) (given : OutBoundsGiven case) where
   alike-01 : Alike26 (compressionFromP0 defaultOf01 case) case plan
   alike-01 = undrifted-26 defaultOf01 case plan h (λ i e l k z way. absurd (given e l k z))
 
-  pub judged-as-01 : judgedUnder (compressionFromP0 defaultOf01 case) case plan ≡ judgeOf case plan
+  pub judged-as-01 : judgedBy01 case plan ≡ judgeOf case plan
   judged-as-01 = judged-alike (compressionFromP0 defaultOf01 case) case plan alike-01
 
-  pub ledger-as-01 : (set s t : ℤ) → ledgerUnder (compressionFromP0 defaultOf01 case) case plan set s t ≡ ledgerOf case plan set s t
+  pub ledger-as-01 : (set s t : ℤ) → ledgerBy01 case plan set s t ≡ ledgerOf case plan set s t
   ledger-as-01 = ledger-alike (compressionFromP0 defaultOf01 case) case plan alike-01
 
 -- ---- rows: the case of table T's row 6, whose in end stands at 40,000, and a compressor that runs backward
-
--- p0 of the in end
-abbrev pub drifted6 : (p0 : ℤ) → List ℤ
-drifted6 p0 = twoMachines p0 (pos 0) (pos 0) (pos 200000) (pos 200000)
-
-abbrev pub driftedB : (p0 : ℤ) → List ℤ
-driftedB p0 = runsBackward p0 (pos 60000) (pos 60000)
 
 -- node 2, the in end, falls from 50,000 to 49,999 in step 2
 abbrev pub fallingB : List ℤ
 fallingB = raisedFrom (pos 50000) (pos 300) (pos 49999) (pos 301)
 
-abbrev pub accepted6 : Told
-accepted6 = gives (pos 0 ∷ pos 0 ∷ pos 7 ∷ pos 0 ∷ pos 0 ∷ pos 0 ∷ [])
-
 unfoldable pub reachRows : List Row
 reachRows =
     -- p0 30,000: 60,000 is what the machines reach from 40,000
-    judges (drifted6 (pos 30000)) (plan6 (pos 60000)) accepted6
+    judges (case6 (pos 30000)) (plan6 (pos 60000)) accepted6
     -- p0 50,000: 60,001 is not
-    ∷ judges (drifted6 (pos 50000)) (plan6 (pos 60001)) (refuses 26 1 0)
+    ∷ judges (case6 (pos 50000)) (plan6 (pos 60001)) (refuses 26 1 0)
     -- backward, where the machine, of 1,200, raises 50,000 to 60,000: p0 49,999, and p0 60,000 with 49,999 in step 2
-    ∷ judges (driftedB (pos 49999)) planB (gives (pos 614 ∷ pos 30 ∷ pos 2207 ∷ pos 120 ∷ pos 239991 ∷ pos 359991 ∷ []))
-    ∷ judges (driftedB (pos 60000)) fallingB (refuses 26 2 1)
+    ∷ judges (caseB (pos 49999)) planB acceptedB
+    ∷ judges (caseB (pos 60000)) fallingB (refuses 26 2 1)
     -- the first machine alone is on, of 1,200: 48,000 is what it reaches, though the arc may have the second too
-    ∷ judges case6 (raised (pos 1) (pos 48000) (pos 0) (pos 0)) accepted6
-    ∷ judges case6 (raised (pos 1) (pos 48001) (pos 0) (pos 0)) (refuses 26 1 0)
+    ∷ judges (case6 (pos 40000)) (raised (pos 1) (pos 48000) (pos 0) (pos 0)) accepted6
+    ∷ judges (case6 (pos 40000)) (raised (pos 1) (pos 48001) (pos 0) (pos 0)) (refuses 26 1 0)
     -- no machine is on: in and out at 40,000, and out 1 above
-    ∷ judges case6 (raised (pos 0) (pos 40000) (pos 0) (pos 0)) accepted6
-    ∷ judges case6 (raised (pos 0) (pos 40001) (pos 0) (pos 0)) (refuses 26 1 0)
+    ∷ judges (case6 (pos 30000)) (raised (pos 0) (pos 40000) (pos 0) (pos 0)) accepted6
+    ∷ judges (case6 (pos 50000)) (raised (pos 0) (pos 40001) (pos 0) (pos 0)) (refuses 26 1 0)
     ∷ []
 
 pub reaches : AllHold reachRows
 unfolding AllHold RowHolds reachRows law
 reaches = (refl, (refl, (refl, (refl, (refl, (refl, (refl, (refl, tt))))))))
 
--- the first four come out the other way with p0
-abbrev pub judgedFromP0 : (case plan : List ℤ) → Told
-judgedFromP0 case plan = judgedUnder (compressionFromP0 (actHigh case) case) case plan
-
-pub rows-from-p0 : (judgedFromP0 (drifted6 (pos 30000)) (plan6 (pos 60000)) ≡ refuses 26 1 0)
-    × (judgedFromP0 (drifted6 (pos 50000)) (plan6 (pos 60001)) ≡ accepted6)
-    × (judgedFromP0 (driftedB (pos 49999)) planB ≡ refuses 26 1 1)
-    × (judgedFromP0 (driftedB (pos 60000)) fallingB ≡ gives (pos 615 ∷ pos 30 ∷ pos 2207 ∷ pos 120 ∷ pos 239991 ∷ pos 359991 ∷ []))
+-- with p0 the first four and the last two come out the other way, and row 6 of the table as it is
+pub rows-from-p0 : (judgedFromP0 (case6 (pos 30000)) (plan6 (pos 60000)) ≡ refuses 26 1 0)
+    × (judgedFromP0 (case6 (pos 50000)) (plan6 (pos 60001)) ≡ accepted6)
+    × (judgedFromP0 (caseB (pos 49999)) planB ≡ refuses 26 1 1)
+    × (judgedFromP0 (caseB (pos 60000)) fallingB ≡ gives (pos 615 ∷ pos 30 ∷ pos 2207 ∷ pos 120 ∷ pos 239991 ∷ pos 359991 ∷ []))
+    × (judgedFromP0 (case6 (pos 30000)) (raised (pos 0) (pos 40000) (pos 0) (pos 0)) ≡ refuses 26 1 0)
+    × (judgedFromP0 (case6 (pos 50000)) (raised (pos 0) (pos 40001) (pos 0) (pos 0)) ≡ accepted6)
+    × (judgedFromP0 (case6 (pos 40000)) (plan6 (pos 60000)) ≡ accepted6)
+    × (judgedFromP0 (case6 (pos 40000)) (plan6 (pos 60001)) ≡ refuses 26 1 0)
 unfolding law
-rows-from-p0 = (refl, refl, refl, refl)
+rows-from-p0 = (refl, refl, refl, refl, refl, refl, refl, refl)

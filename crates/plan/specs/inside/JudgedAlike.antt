@@ -1,4 +1,5 @@
--- Under a test of arcs that compress which agrees with the law's, 26 answers as it does, and so all questions, the verdict and the ledger are the law's.
+-- Under a test of arcs that compress which agrees with the law's, 26 answers as the law's does, and so all questions, the verdict and the ledger are the
+-- law's; and an out bound of 0 with two defaults.
 use mathlib.Core.Path.{_≡_, refl, ap}
 use mathlib.Core.Bool.{Bool, true, false, cond}
 use mathlib.Core.List.{List, _∷_, _++_}
@@ -33,13 +34,14 @@ use Rattle.plan.specs.inside.Unmoved.{Unmoved, unmoved-append, unmoved-o
 use Rattle.plan.specs.claims.JudgedUnder.{CompressionTest, settingPressuresUnder, pressuresUnder, askedUnder, questionsUnder, judgedUnder, ledgerUnder}
 
 -- an out bound with two defaults that are alike where it is 0
-pub alike-bound : (x default acthigh : ℤ) → (x ≡ pos 0 → default ≡ acthigh) → cond (isZero x) default x ≡ cond (isZero x) acthigh x
-alike-bound x default acthigh h = go (isZero x) refl
+pub default-alike : (x default acthigh : ℤ) → (x ≡ pos 0 → default ≡ acthigh) → cond (isZero x) default x ≡ cond (isZero x) acthigh x
+default-alike x default acthigh h = go (isZero x) refl
   where
     go : (b : Bool) → isZero x ≡ b → cond b default x ≡ cond b acthigh x
     go true e = h (zero-says x .fact e)
     go false e = refl
 
+-- 26 of one arc
 pub pressures-alike : (test : CompressionTest) (case rows : List ℤ) (i e : ℕ)
     → ((way : Way) → settingIn case rows e ≡ Active way Compressing → let c = arcOf case e in
     test rows i e (inEnd way c) (outEnd way c) ≡ compressionKept case rows i e (inEnd way c) (outEnd way c))

@@ -6,7 +6,7 @@ use crate::model::{
     Arc, BOTH_WAYS, COMBINED, INNER, MACHINES, MOST, MOST_FLOW, OUT_BOUND, Pair, REGULATING,
     REGULATOR, SHORTCUT, VALVE, is_backward,
 };
-use crate::reach::{named_machines, overreach};
+use crate::reach::{named_machines, take_machines};
 use crate::rng::Rng;
 
 /// Gives the arc a setting and lets its flow go that way, so that 25 is passed.
@@ -185,13 +185,7 @@ pub fn aim_26_ratio(rng: &mut Rng, pair: &Pair) -> Option<Aimed> {
         pair.compressed(step, arc).is_some() && pair.arc(step, arc).machines != 0
     };
     let (step, arc) = find_row(rng, &pair, test)?;
-    while overreach(&pair, step, arc)? <= 0 {
-        let row = pair.arc_mut(step, arc);
-        if row.machines == 0 {
-            return None;
-        }
-        row.machines &= row.machines - 1;
-    }
+    take_machines(&mut pair, step, arc)?;
     aimed(&pair, 26, step, arc)
 }
 

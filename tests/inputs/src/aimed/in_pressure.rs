@@ -37,7 +37,7 @@ fn lower(rng: &mut Rng, pair: &Pair, wanted: impl Fn(usize, usize) -> bool) -> O
     let mut pair = pair.clone();
     let test = |step: usize, arc: usize, _: &Arc| {
         let high = pair.compressed(step, arc).is_some_and(|out| out > 0);
-        high && wanted(step, arc) && is_first_to_mind(&pair, step, arc)
+        high && wanted(step, arc) && no_arc_before_asks(&pair, step, arc)
     };
     let (step, arc) = find_row(rng, &pair, test)?;
     let (in_end, _) = pair.ends(step, arc);
@@ -50,8 +50,8 @@ fn lower(rng: &mut Rng, pair: &Pair, wanted: impl Fn(usize, usize) -> bool) -> O
     (found == (step, arc)).then(|| aimed(&pair, 26, step, arc))?
 }
 
-/// Do the arcs before this one not ask of the pressure at its in end, unless they compress from there too?
-fn is_first_to_mind(pair: &Pair, step: usize, arc: usize) -> bool {
+/// Does no arc before this one ask for the pressure at its in end? One that compresses from there too may.
+fn no_arc_before_asks(pair: &Pair, step: usize, arc: usize) -> bool {
     let (in_end, _) = pair.ends(step, arc);
     (0..arc).all(|other| {
         let its = &pair.case.arcs[other];

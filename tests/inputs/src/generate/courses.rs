@@ -10,7 +10,7 @@ pub type Course = Vec<i64>;
 /// Steps of a long horizon.
 const MANY: usize = 12;
 
-/// Divides every pressure of a course, so that a course in proportion to it is whole.
+/// Divides every pressure of a course that is drawn, so that one in proportion to it is whole.
 const GRAIN: i64 = 20;
 
 /// By more than this a pressure is far from another.
@@ -22,8 +22,8 @@ const LOWEST: i64 = 10_000;
 /// What one course may be of another, in thousandths.
 const PROPORTIONS: [i64; 6] = [1_050, 1_100, 1_200, 1_250, 1_500, 2_000];
 
-/// Half of the drafts have courses, of those over many steps three in four. Nodes that take them drift together, or in a
-/// proportion that machines can keep up.
+/// Of the drafts over several steps half have courses, of those over many three in four. Nodes that take them drift
+/// together, or in a proportion that machines can keep up.
 pub fn draw(rng: &mut Rng, steps: usize) -> Vec<Course> {
     let share = if steps < MANY { 2 } else { 3 };
     if steps == 1 || rng.below(4) >= share {

@@ -200,12 +200,16 @@ fn compressor(rng: &mut Rng) -> Link {
 
 /// The link with its ends exchanged, so that the gas goes from to to from.
 fn backward(mut link: Link) -> Link {
+    let turned = |row: ArcRow| ArcRow {
+        a: row.b,
+        b: row.a,
+        setting: 2,
+        ..row
+    };
     link.arc.more[BOTH_WAYS] = 1;
+    (link.first, link.later) = (turned(link.first), turned(link.later));
     for ends in [&mut link.kinds, &mut link.p0, &mut link.p] {
         ends.reverse();
-    }
-    for row in [&mut link.first, &mut link.later] {
-        (row.setting, row.a, row.b) = (2, row.b, row.a);
     }
     link
 }

@@ -1,7 +1,9 @@
 //! Flows: paths through arcs that are no pipes, then pipes that take up what is left.
 
 use super::{Draft, Role, Style};
-use crate::model::{ArcRow, INNER, PIPE, REGULATOR, SHORTCUT, SINK, SOURCE, VALVE, is_backward};
+use crate::model::{
+    ArcRow, INNER, PIPE, REGULATOR, SHORTCUT, SINK, SOURCE, VALVE, is_backward, named,
+};
 use crate::rng::Rng;
 
 /// Paths tried in each step.
@@ -126,9 +128,9 @@ fn room(draft: &Draft, arc: usize, step: usize) -> i64 {
     let station = it.arc.station().map(|station| &draft.stations[station]);
     match station {
         Some(station) if it.arc.compresses(row.setting) => {
-            let machines = station.machines.iter().enumerate();
-            let named = machines.filter(|(machine, _)| row.machines >> machine & 1 == 1);
-            let most: i64 = named.map(|(_, [flow, _])| flow).sum();
+            let most: i64 = named(&station.machines, row.machines)
+                .map(|[flow, _]| flow)
+                .sum();
             (most - row.a - row.b).min(draft.share)
         }
         _ => draft.share,

@@ -21,6 +21,8 @@ use crate::model::{Arc, ArcRow, MOST_FLOW, Pair, StationRow};
 use crate::rng::Rng;
 use courses::Course;
 
+const MILLION: i64 = 1_000_000;
+
 /// How large a pair is to be.
 #[derive(Clone, Copy, Debug)]
 pub struct Size {

@@ -1,13 +1,11 @@
 //! Storage and friction of pipes, fitted to pressures and flows.
 
-use super::{Draft, DraftArc, Role};
+use super::{Draft, DraftArc, MILLION, Role};
 use crate::model::{Arc, ArcRow, C, F, G, H, PIPE, SOURCE};
 use crate::rng::Rng;
 
 const MOST_STORAGE: i64 = 100_000_000;
 const MOST_FRICTION: i64 = 10_000_000;
-const MILLION: i64 = 1_000_000;
-
 /// A pipe whose fields are still to be fitted.
 pub fn bare(from: usize, to: usize) -> Arc {
     Arc {

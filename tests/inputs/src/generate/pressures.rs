@@ -1,13 +1,11 @@
 //! Pressures of all nodes and steps, together with the pipes that bind them.
 
 use super::courses::{self, Course};
-use super::{Draft, DraftArc, Group, Role, Size, Style, pipes, spurs};
+use super::{Draft, DraftArc, Group, MILLION, Role, Size, Style, pipes, spurs};
 use crate::model::{Arc, H, MOST_PRESSURE, SINK, SOURCE};
 use crate::rng::Rng;
 
 /// A millionth is the unit of friction and slope.
-const MILLION: i64 = 1_000_000;
-
 /// Parts the nodes into groups and gives each group pipes and pressures.
 pub fn draw(rng: &mut Rng, draft: &mut Draft, size: Size) {
     let mut left: Vec<usize> = (0..size.nodes).collect();

@@ -2,6 +2,7 @@
 
 use super::Draft;
 use super::finish::around;
+use crate::model::named;
 use crate::rng::Rng;
 
 /// The least ratio that a machine may have.
@@ -11,9 +12,8 @@ const LEAST: i64 = 1_001;
 pub fn ratio(draft: &Draft, index: usize, set: i64) -> i64 {
     let station = draft.arcs[index].arc.station();
     let machines = station.map(|it| draft.stations[it].machines.as_slice());
-    let gains = machines.unwrap_or_default().iter().enumerate();
-    let named = gains.filter(|(machine, _)| set >> machine & 1 == 1);
-    1_000 + named.map(|(_, [_, ratio])| ratio - 1_000).sum::<i64>()
+    let gains = named(machines.unwrap_or_default(), set).map(|[_, ratio]| ratio - 1_000);
+    1_000 + gains.sum::<i64>()
 }
 
 /// Lowers ratios of machines that run, one after the other, often to the least with which 26 still holds.

@@ -1,12 +1,10 @@
 //! Spurs: a source and a sink with one pipe between.
 
-use super::{Draft, DraftArc, Role, Style, pipes};
+use super::{Draft, DraftArc, MILLION, Role, Style, pipes};
 use crate::model::{C, F, G, H, SINK, SOURCE};
 use crate::rng::Rng;
 
 /// A millionth is the unit of friction.
-const MILLION: i64 = 1_000_000;
-
 /// The most units of flow that a spur stores in a step.
 const MOST_STORED: i64 = 2_000;
 

@@ -1,4 +1,5 @@
-//! Edges of 26 at what the machines reach from the in end's pressure of the same step. Taken for it, p0 of the in end gives another answer.
+//! Edges of 26 at what the machines reach from the in end's pressure of the same step. With p0 of the in end in its place all but `from_0_to_0`
+//! are answered otherwise.
 
 use super::machines::Compression;
 use super::{Both, Branch};
@@ -19,6 +20,7 @@ impl Compression {
         for step in &mut pair.plan.steps {
             step.arcs[self.arc].machines = all;
         }
+        self.ratio = 1_000 + machines.iter().map(|[_, ratio]| ratio - 1_000).sum::<i64>();
         self
     }
 
@@ -130,7 +132,7 @@ fn strongest(rng: &mut Rng, pair: &Pair, pressures: [i64; 2]) -> Compression {
     it.with_machines(&[[MOST_FLOW, 10_000]; 12]).held(pressures)
 }
 
-/// From 0 mbar no machine reaches more than 0, whatever p0 is.
+/// From 0 mbar no machine reaches more than 0.
 pub fn edge_26_from_0_to_0(rng: &mut Rng, pair: &Pair) -> Both {
     strongest(rng, pair, [0, 0]).branch.accepted()
 }
