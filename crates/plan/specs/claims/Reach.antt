@@ -35,7 +35,7 @@ use Rattle.plan.specs.claims.Acceptance.{sound}
 use Rattle.plan.specs.claims.ArcFacts.{Compression, rule26-compressing}
 use Rattle.plan.specs.claims.JudgedUnder.{CompressionTest, testsKept, judgedUnder, ledgerUnder}
 use Rattle.plan.specs.claims.OutBound.{Default, defaultOf01, actHigh, boundWith, IsActHigh, OutBoundsGiven}
-use Rattle.plan.specs.claims.TableT.{Row, judges, AllHold, RowHolds, case6, raised, plan6, accepted6}
+use Rattle.plan.specs.claims.TableT.{Row, judges, AllHold, RowHolds, drifted6, case6, raised, plan6, accepted6}
 use Rattle.plan.specs.claims.FurtherRows.{caseB, raisedFrom, planB, acceptedB}
 
 -- ---- what acceptance says of an arc that compresses
@@ -154,18 +154,18 @@ fallingB = raisedFrom (pos 50000) (pos 300) (pos 49999) (pos 301)
 unfoldable pub reachRows : List Row
 reachRows =
     -- p0 30,000: 60,000 is what the machines reach from 40,000
-    judges (case6 (pos 30000)) (plan6 (pos 60000)) accepted6
+    judges (drifted6 (pos 30000)) (plan6 (pos 60000)) accepted6
     -- p0 50,000: 60,001 is not
-    ∷ judges (case6 (pos 50000)) (plan6 (pos 60001)) (refuses 26 1 0)
+    ∷ judges (drifted6 (pos 50000)) (plan6 (pos 60001)) (refuses 26 1 0)
     -- backward, where the machine, of 1,200, raises 50,000 to 60,000: p0 49,999, and p0 60,000 with 49,999 in step 2
     ∷ judges (caseB (pos 49999)) planB acceptedB
     ∷ judges (caseB (pos 60000)) fallingB (refuses 26 2 1)
     -- the first machine alone is on, of 1,200: 48,000 is what it reaches, though the arc may have the second too
-    ∷ judges (case6 (pos 40000)) (raised (pos 1) (pos 48000) (pos 0) (pos 0)) accepted6
-    ∷ judges (case6 (pos 40000)) (raised (pos 1) (pos 48001) (pos 0) (pos 0)) (refuses 26 1 0)
+    ∷ judges case6 (raised (pos 1) (pos 48000) (pos 0) (pos 0)) accepted6
+    ∷ judges case6 (raised (pos 1) (pos 48001) (pos 0) (pos 0)) (refuses 26 1 0)
     -- no machine is on: in and out at 40,000, and out 1 above
-    ∷ judges (case6 (pos 30000)) (raised (pos 0) (pos 40000) (pos 0) (pos 0)) accepted6
-    ∷ judges (case6 (pos 50000)) (raised (pos 0) (pos 40001) (pos 0) (pos 0)) (refuses 26 1 0)
+    ∷ judges (drifted6 (pos 30000)) (raised (pos 0) (pos 40000) (pos 0) (pos 0)) accepted6
+    ∷ judges (drifted6 (pos 50000)) (raised (pos 0) (pos 40001) (pos 0) (pos 0)) (refuses 26 1 0)
     ∷ []
 
 pub reaches : AllHold reachRows
@@ -173,13 +173,13 @@ unfolding AllHold RowHolds reachRows law
 reaches = (refl, (refl, (refl, (refl, (refl, (refl, (refl, (refl, tt))))))))
 
 -- with p0 the first four and the last two come out the other way, and row 6 of the table as it is
-pub rows-from-p0 : (judgedFromP0 (case6 (pos 30000)) (plan6 (pos 60000)) ≡ refuses 26 1 0)
-    × (judgedFromP0 (case6 (pos 50000)) (plan6 (pos 60001)) ≡ accepted6)
+pub rows-from-p0 : (judgedFromP0 (drifted6 (pos 30000)) (plan6 (pos 60000)) ≡ refuses 26 1 0)
+    × (judgedFromP0 (drifted6 (pos 50000)) (plan6 (pos 60001)) ≡ accepted6)
     × (judgedFromP0 (caseB (pos 49999)) planB ≡ refuses 26 1 1)
     × (judgedFromP0 (caseB (pos 60000)) fallingB ≡ gives (pos 615 ∷ pos 30 ∷ pos 2207 ∷ pos 120 ∷ pos 239991 ∷ pos 359991 ∷ []))
-    × (judgedFromP0 (case6 (pos 30000)) (raised (pos 0) (pos 40000) (pos 0) (pos 0)) ≡ refuses 26 1 0)
-    × (judgedFromP0 (case6 (pos 50000)) (raised (pos 0) (pos 40001) (pos 0) (pos 0)) ≡ accepted6)
-    × (judgedFromP0 (case6 (pos 40000)) (plan6 (pos 60000)) ≡ accepted6)
-    × (judgedFromP0 (case6 (pos 40000)) (plan6 (pos 60001)) ≡ refuses 26 1 0)
+    × (judgedFromP0 (drifted6 (pos 30000)) (raised (pos 0) (pos 40000) (pos 0) (pos 0)) ≡ refuses 26 1 0)
+    × (judgedFromP0 (drifted6 (pos 50000)) (raised (pos 0) (pos 40001) (pos 0) (pos 0)) ≡ accepted6)
+    × (judgedFromP0 case6 (plan6 (pos 60000)) ≡ accepted6)
+    × (judgedFromP0 case6 (plan6 (pos 60001)) ≡ refuses 26 1 0)
 unfolding law
 rows-from-p0 = (refl, refl, refl, refl, refl, refl, refl, refl)

@@ -74,9 +74,12 @@ twoMachines p0 kind demand bound acthigh =
     ++ ((pos 0 ∷ pos 0 ∷ pos 0 ∷ pos 1 ∷ pos 0 ∷ pos 0 ∷ pos 0 ∷ [])
     ++ (pos 1000 ∷ pos 1200 ∷ pos 1000 ∷ pos 1300 ∷ []))))))
 
--- "In end with p0 and p 40,000, out bound 200,000, machines 1,200 and 1,300"; p0 is left open
-abbrev pub case6 : (p0 : ℤ) → List ℤ
-case6 p0 = twoMachines p0 (pos 0) (pos 0) (pos 200000) (pos 200000)
+-- "In end with p0 and p 40,000, out bound 200,000, machines 1,200 and 1,300", with p0 left open
+abbrev pub drifted6 : (p0 : ℤ) → List ℤ
+drifted6 p0 = twoMachines p0 (pos 0) (pos 0) (pos 200000) (pos 200000)
+
+abbrev pub case6 : List ℤ
+case6 = drifted6 (pos 40000)
 
 -- its in end at the pressure 40,000, its out end at `out` with the slacks s- and u-, and the machines that are on
 abbrev pub raised : (machines out sminus uminus : ℤ) → List ℤ
@@ -89,7 +92,7 @@ raised machines out sminus uminus =
 abbrev pub plan6 : (out : ℤ) → List ℤ
 plan6 out = raised (pos 3) out (pos 0) (pos 0)
 
--- the compressor, off at 0, costs 7
+-- what an accepted plan is told on them: the compressor, off at 0, costs 7
 abbrev pub accepted6 : Told
 accepted6 = gives (pos 0 ∷ pos 0 ∷ pos 7 ∷ pos 0 ∷ pos 0 ∷ pos 0 ∷ [])
 
@@ -109,8 +112,8 @@ rows =
     ∷ draws (caseC (pos 60) (pos 1)) (planP (pos 901)) (pos 2) (pos 0) (pos 1) (gives (pos 1 ∷ pos 0 ∷ pos 0 ∷ pos 0 ∷ pos 60 ∷ pos 60 ∷ []))
     -- "6. [..] out 60,000 passes 26, 60,001 doesn't." The case and the plan around the row's figures are `case6` and `plan6` above; the row "reads the in end's
     -- 40,000 as the current pressure" (document 02, P1).
-    ∷ judges (case6 (pos 40000)) (plan6 (pos 60000)) accepted6
-    ∷ judges (case6 (pos 40000)) (plan6 (pos 60001)) (refuses 26 1 0)
+    ∷ judges case6 (plan6 (pos 60000)) (gives (pos 0 ∷ pos 0 ∷ pos 7 ∷ pos 0 ∷ pos 0 ∷ pos 0 ∷ []))
+    ∷ judges case6 (plan6 (pos 60001)) (refuses 26 1 0)
     -- "7. -900 is 87 0E; 64 is 80 01."
     ∷ codes (minus 900 ∷ []) (0x87 ∷ 0x0E ∷ [])
     ∷ codes (pos 64 ∷ []) (0x80 ∷ 0x01 ∷ [])
