@@ -1,6 +1,6 @@
 -- 24 to 29 as facts of numbers, both ways. Kinds: 0 valve, 1 regulator, 2 pipe, 3 shortcut, 4 regulating, 5 compressor, 6 combined.
 -- Assumes nothing.
-use mathlib.Core.Path.{_≡_, refl, sym, _∙_}
+use mathlib.Core.Path.{_≡_, refl}
 use mathlib.Core.Bool.{Bool, true, false, false≢true, cond, not, Bool·beq, _&&_, _||_}
 use mathlib.Core.List.{List}
 use mathlib.Core.Logic.{_≢_}
@@ -28,7 +28,7 @@ use Rattle.plan.specs.declared.setting.Mode.{Mode}
 use Rattle.plan.specs.declared.setting.Mode.the-variants.{Open, Regulating, Compressing}
 use Rattle.plan.specs.declared.setting.Setting.{Setting}
 use Rattle.plan.specs.declared.setting.Setting.the-variants.{Unknown, Off, Active}
-use Rattle.plan.specs.inside.SettingLaws.{compressing-five}
+use Rattle.plan.specs.inside.SettingLaws.{compressing-kept}
 use Rattle.plan.specs.law.Compared.{within, isZero}
 use Rattle.plan.specs.law.PlanRecords.{pressureIn, arcRow}
 use Rattle.plan.specs.law.Setting.{directed, combinedOf, valveOf, activeOf, settingOf, settingIn, inEnd, outEnd, stationOffset}
@@ -216,18 +216,7 @@ rule26-says case rows i e =
 pub rule26-compressing : (case rows : List ℤ) (i e : ℕ) (way : Way) → settingIn case rows e ≡ Active way Compressing
     → Says (pressuresKept case rows i e) (Compression case rows i e (inEnd way (arcOf case e)) (outEnd way (arcOf case e)))
 rule26-compressing case rows i e way s =
-    let k = compressing-five _ _ way s in
-    let other : arcOf case e .kind ≢ 1 = λ h. omega (arith, k, h) in
-    means (rule26-says case rows i e)
-    (λ f. f .active other way Compressing s)
-    (λ f. record { regulator = λ h. absurd (other h); active = λ n x mode q. go x mode (sym s ∙ q) f })
-  where
-    go : (x : Way) (mode : Mode) → Active way Compressing ≡ Active x mode
-        → Compression case rows i e (inEnd way (arcOf case e)) (outEnd way (arcOf case e))
-        → PressuresBy case rows i e mode (inEnd x (arcOf case e)) (outEnd x (arcOf case e))
-    go x Open q f = let z : _≡_ {A = ℕ} 0 1 = cc in absurd (omega arith)
-    go x Regulating q f = let z : _≡_ {A = ℕ} 0 1 = cc in absurd (omega arith)
-    go x Compressing q f = let z : way ≡ x = cc in rw z at f
+    rw (compressing-kept case rows i e way s) (mode-says case rows i e Compressing (inEnd way (arcOf case e)) (outEnd way (arcOf case e)))
 
 -- 27: "Not compressing: machines 0? Compressing: at most "most machines", and flow ≤ the sum of their Q?"
 pub record Rule27 (case rows : List ℤ) (e : ℕ) : Type 0 where

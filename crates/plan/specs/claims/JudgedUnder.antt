@@ -10,14 +10,16 @@ use lib.Signed.{leZ}
 use Rattle.numbers.specs.law.Told.{Told}
 use Rattle.numbers.specs.law.Question.{Question, firstNo}
 use Rattle.numbers.specs.law.Signed.{posPart}
-use Rattle.case.specs.law.Records.{arcOf}
+use Rattle.case.specs.law.Records.{nodeOf, arcOf, artificialOf}
 use Rattle.case.specs.law.Judged.{caseQuestions}
 use Rattle.plan.specs.declared.setting.Mode.the-variants.{Open, Regulating, Compressing}
 use Rattle.plan.specs.declared.setting.Setting.{Setting}
 use Rattle.plan.specs.declared.setting.Setting.the-variants.{Unknown, Off, Active}
+use Rattle.plan.specs.law.Compared.{isZero}
 use Rattle.plan.specs.law.PlanLayout.{stepRows}
+use Rattle.plan.specs.law.PlanRecords.{pressureIn}
 use Rattle.plan.specs.law.Setting.{settingIn, inEnd, outEnd}
-use Rattle.plan.specs.law.ArcPressures.{pressuresKept}
+use Rattle.plan.specs.law.ArcPressures.{reachKept, pressuresKept}
 use Rattle.plan.specs.law.Totals.{totalsOf}
 use Rattle.plan.specs.law.Judged.{planQuestions, verdictOf, verdictTold}
 use Rattle.plan.specs.law.RegionFigures.{figuresOf}
@@ -27,9 +29,30 @@ use Rattle.plan.specs.law.Ledger.{regionQuestions, ledgerBy, ledgerTold}
 abbrev pub CompressionTest : Type 0
 CompressionTest = (rows : List ℤ) (i e u w : ℕ) → Bool
 
--- "compressing in ≤ out, out ≤ out bound, and" that the machines reach it: what the tests in these claims have in common
+-- "compressing in ≤ out, out ≤ out bound, and" that the machines reach it
 abbrev pub testsKept : (pIn pOut bound : ℤ) (reached : Bool) → Bool
 testsKept pIn pOut bound reached = leZ pIn pOut && (leZ pOut bound && reached)
+
+-- what an out bound of 0 stands for, in the step with index i, at arc e with the out end w
+abbrev pub Default : Type 0
+Default = (i e w : ℕ) → ℤ
+
+-- "acthigh of the out end in that step" (document 02, P8)
+abbrev pub actHigh : List ℤ → Default
+actHigh case i e w = nodeOf case w i .acthigh
+
+-- the out bound with a default
+abbrev pub boundWith : Default → List ℤ → ℕ → ℕ → ℕ → ℤ
+boundWith default case i e w = cond (isZero (artificialOf case e .outbound)) (default i e w) (artificialOf case e .outbound)
+
+-- the test with a default and with another reach
+abbrev pub compressionBy : Default → CompressionTest → List ℤ → CompressionTest
+compressionBy default reach case rows i e u w =
+    testsKept (pressureIn rows u) (pressureIn rows w) (boundWith default case i e w) (reach rows i e u w)
+
+-- the law's own reach
+abbrev pub reachOf : List ℤ → CompressionTest
+reachOf case rows i e u w = reachKept case rows e u w
 
 -- an arc that does not compress is asked as it is
 abbrev pub settingPressuresUnder : CompressionTest → List ℤ → List ℤ → ℕ → ℕ → Setting → Bool

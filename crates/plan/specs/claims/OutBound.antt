@@ -3,7 +3,7 @@
 -- document 01 too. The product of 26 is that of document 02, P1, throughout.
 -- Assumes nothing.
 use mathlib.Core.Path.{_≡_, refl, sym, _∙_}
-use mathlib.Core.Bool.{Bool, true, cond}
+use mathlib.Core.Bool.{Bool, true}
 use mathlib.Core.List.{List, [], _∷_}
 use mathlib.Core.Logic.{_≢_}
 use Prim.Native.Nat.{ℕ, _≤_, _<_}
@@ -22,46 +22,32 @@ use Rattle.plan.specs.declared.setting.Way.the-variants.{Forward, Backwa
 use Rattle.plan.specs.declared.setting.Mode.the-variants.{Open, Regulating, Compressing}
 use Rattle.plan.specs.declared.setting.Setting.{Setting}
 use Rattle.plan.specs.declared.setting.Setting.the-variants.{Unknown, Off, Active}
-use Rattle.plan.specs.law.Compared.{isZero}
 use Rattle.plan.specs.law.PlanLayout.{stepRows}
 use Rattle.plan.specs.law.PlanRecords.{pressureIn}
 use Rattle.plan.specs.law.Setting.{settingIn, outEnd}
-use Rattle.plan.specs.law.ArcPressures.{reachKept, compressionKept, pressuresKept}
+use Rattle.plan.specs.law.ArcPressures.{reachKept, pressuresKept}
 use Rattle.plan.specs.law.Judged.{verdictTold, judgeOf}
 use Rattle.plan.specs.law.Ledger.{ledgerOf}
-use Rattle.plan.specs.inside.SettingLaws.{compressing-five}
-use Rattle.plan.specs.inside.JudgedAlike.{default-alike, pressures-alike, Alike26, judged-alike, ledger-alike}
+use Rattle.plan.specs.inside.JudgedAlike.{arc-alike, Alike26, judged-alike, ledger-alike}
 use Rattle.plan.specs.inside.Preconditions.{AcceptedCase}
 use Rattle.plan.specs.inside.CaseSizes.{node-sized, from-node, to-node}
 use Rattle.plan.specs.inside.Computed.{law}
 use Rattle.plan.specs.claims.Acceptance.{sound}
 use Rattle.plan.specs.claims.ArcFacts.{rule26-compressing}
-use Rattle.plan.specs.claims.JudgedUnder.{CompressionTest, testsKept, settingPressuresUnder, pressuresUnder, judgedUnder, ledgerUnder}
+use Rattle.plan.specs.claims.JudgedUnder.{CompressionTest, Default, actHigh, compressionBy, reachOf}
+use Rattle.plan.specs.claims.JudgedUnder.{settingPressuresUnder, pressuresUnder, judgedUnder, ledgerUnder}
 use Rattle.plan.specs.claims.TableT.{Row, judges, AllHold, RowHolds, minus, twoMachines, raised, plan6, accepted6}
 use Rattle.plan.specs.claims.FurtherRows.{runsBackward, planB, acceptedB}
 
 -- ---- 26 and the verdict with another default
 
--- what an out bound of 0 stands for, in the step with index i, at arc e with the out end w
-abbrev pub Default : Type 0
-Default = (i e w : ℕ) → ℤ
-
 -- "where 0 means 200,000" (document 01)
 abbrev pub defaultOf01 : Default
 defaultOf01 i e w = mostPressure
 
--- "acthigh of the out end in that step" (document 02)
-abbrev pub actHigh : List ℤ → Default
-actHigh case i e w = nodeOf case w i .acthigh
-
--- the out bound, of arc e with the out end w
-abbrev pub boundWith : Default → List ℤ → ℕ → ℕ → ℕ → ℤ
-boundWith default case i e w = cond (isZero (artificialOf case e .outbound)) (default i e w) (artificialOf case e .outbound)
-
--- compressing from the node `u` to the node `w`
+-- compressing with it, the reach as it is
 abbrev pub compressionWith : Default → List ℤ → CompressionTest
-compressionWith default case rows i e u w =
-    testsKept (pressureIn rows u) (pressureIn rows w) (boundWith default case i e w) (reachKept case rows e u w)
+compressionWith default case = compressionBy default (reachOf case) case
 
 -- 26, the verdict and what the ledger tells
 abbrev pub pressuresWith : Default → List ℤ → List ℤ → ℕ → ℕ → Bool
@@ -75,32 +61,17 @@ ledgerWith default case = ledgerUnder (compressionWith default case) case
 
 -- ---- one arc
 
--- a default that is acthigh of the out end, either way, where the out bound of arc e is 0; arcs of kinds 0 to 4 have no out bound
-abbrev pub IsActHigh : Default → List ℤ → ℕ → ℕ → Type 0
-IsActHigh default case i e =
-    5 ≤ arcOf case e .kind → artificialOf case e .outbound ≡ pos 0 → (way : Way)
-    → default i e (outEnd way (arcOf case e)) ≡ actHigh case i e (outEnd way (arcOf case e))
-
-arc-alike : (default : Default) (case rows : List ℤ) (i e : ℕ) → IsActHigh default case i e
-    → pressuresWith default case rows i e ≡ pressuresKept case rows i e
-unfolding compressionKept
-arc-alike default case rows i e h =
-    pressures-alike (compressionWith default case) case rows i e (λ way k.
-    let w = outEnd way (arcOf case e) in
-    let a = default-alike (artificialOf case e .outbound) (default i e w) (actHigh case i e w) (λ z. h (compressing-five _ _ way k) z way) in
-    rw a)
-
 -- 26 of an arc whose out bound is not 0, or that has none, answers as with any default
 pub outbound-given : (default : Default) (case rows : List ℤ) (i e : ℕ) → (5 ≤ arcOf case e .kind → artificialOf case e .outbound ≢ pos 0)
     → pressuresWith default case rows i e ≡ pressuresKept case rows i e
-outbound-given default case rows i e given = arc-alike default case rows i e (λ k z way. absurd (given k z))
+outbound-given default case rows i e given = arc-alike default (reachOf case) case rows i e (λ k z way. absurd (given k z)) (λ way k. refl)
 
 -- ---- the verdict and the ledger
 
 -- with acthigh of the out end as the default both are the law's, on every case
 module _ (case plan : List ℤ) where
   by-acthigh : Alike26 (compressionWith (actHigh case) case) case plan
-  by-acthigh i e p l = arc-alike (actHigh case) case (stepRows case plan i) i e (λ k z way. refl)
+  by-acthigh i e p l = arc-alike (actHigh case) (reachOf case) case (stepRows case plan i) i e (λ k z way. refl) (λ way k. refl)
 
   pub judged-by-acthigh : judgedWith (actHigh case) case plan ≡ judgeOf case plan
   judged-by-acthigh = judged-alike (compressionWith (actHigh case) case) case plan by-acthigh

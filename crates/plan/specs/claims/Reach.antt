@@ -4,9 +4,8 @@
 use mathlib.Core.Path.{_≡_, refl, _∙_}
 use mathlib.Core.Bool.{Bool, cond}
 use mathlib.Core.List.{List, [], _∷_}
-use Prim.Native.Nat.{ℕ, _<_}
+use Prim.Native.Nat.{ℕ, zero, suc, _<_}
 use native.Mathlib.Omega.{arith}
-use borrow.Author.Tests.{ne-eqb}
 use lib.IntN.{ℤ, pos, _+ℤ_, _*ℤ_}
 use lib.Signed.{leZ}
 use Rattle.numbers.specs.law.Told.{Told, gives, refuses}
@@ -18,6 +17,7 @@ use Rattle.case.specs.law.Records.{nodeOf, arcOf, artificialOf}
 use Rattle.plan.specs.declared.totals.Totals.{Totals}
 use Rattle.plan.specs.declared.verdict.Verdict.the-variants.{Accepted}
 use Rattle.plan.specs.declared.setting.Way.{Way}
+use Rattle.plan.specs.declared.setting.Way.the-variants.{Forward, Backward}
 use Rattle.plan.specs.declared.setting.Mode.the-variants.{Compressing}
 use Rattle.plan.specs.declared.setting.Setting.the-variants.{Active}
 use Rattle.plan.specs.law.Compared.{isZero}
@@ -28,13 +28,13 @@ use Rattle.plan.specs.law.Machines.{gainPart, machineGain}
 use Rattle.plan.specs.law.ArcPressures.{ratioOf, reachKept, compressionKept, pressuresKept}
 use Rattle.plan.specs.law.Judged.{verdictTold, judgeOf}
 use Rattle.plan.specs.law.Ledger.{ledgerOf}
-use Rattle.plan.specs.inside.SettingLaws.{compressing-five}
-use Rattle.plan.specs.inside.JudgedAlike.{default-alike, pressures-alike, Alike26, judged-alike, ledger-alike}
+use Rattle.plan.specs.inside.SettingLaws.{compressing-kept}
+use Rattle.plan.specs.inside.JudgedAlike.{IsActHigh, arc-alike, Alike26, judged-alike, ledger-alike}
 use Rattle.plan.specs.inside.Computed.{law}
 use Rattle.plan.specs.claims.Acceptance.{sound}
 use Rattle.plan.specs.claims.ArcFacts.{Compression, rule26-compressing}
-use Rattle.plan.specs.claims.JudgedUnder.{CompressionTest, testsKept, judgedUnder, ledgerUnder}
-use Rattle.plan.specs.claims.OutBound.{Default, defaultOf01, actHigh, boundWith, IsActHigh, OutBoundsGiven}
+use Rattle.plan.specs.claims.JudgedUnder.{CompressionTest, testsKept, Default, actHigh, compressionBy, judgedUnder, ledgerUnder}
+use Rattle.plan.specs.claims.OutBound.{defaultOf01, OutBoundsGiven}
 use Rattle.plan.specs.claims.TableT.{Row, judges, AllHold, RowHolds, drifted6, case6, raised, plan6, accepted6}
 use Rattle.plan.specs.claims.FurtherRows.{caseB, raisedFrom, planB, acceptedB}
 
@@ -80,18 +80,17 @@ pub without-p0 : (case rows : List ℤ) (i e : ℕ) (way : Way) → settingIn ca
     → let w = outEnd way (arcOf case e) in
     pressuresKept case rows i e ≡ keptBy (pressureIn rows (inEnd way (arcOf case e))) (pressureIn rows w)
     (artificialOf case e .outbound) (nodeOf case w i .acthigh) (machineGain case (stationOffset case e) (arcRow case rows e .machines))
-unfolding pressuresKept compressionKept reachKept
-without-p0 case rows i e way k =
-    let five = compressing-five _ _ way k in
-    rw (ne-eqb (arcOf case e .kind) 1 (λ o. omega (arith, five, o)), k)
+unfolding compressionKept reachKept
+without-p0 case rows i e way k = compressing-kept case rows i e way k
 
 -- ---- with p0 in the product
 
--- document 01: "1,000 × out ≤ p0 of the in end × (1,000 + the sum of (R - 1,000) over its machines)"; what an out bound of 0 stands for is left open
+-- document 01: "1,000 × out ≤ p0 of the in end × (1,000 + the sum of (R - 1,000) over its machines)"
+abbrev pub reachFromP0 : List ℤ → CompressionTest
+reachFromP0 case rows i e u w = leZ (pos 1000 *ℤ pressureIn rows w) (nodeOf case u i .p0 *ℤ ratioOf case rows e)
+
 abbrev pub compressionFromP0 : Default → List ℤ → CompressionTest
-compressionFromP0 default case rows i e u w =
-    testsKept (pressureIn rows u) (pressureIn rows w) (boundWith default case i e w)
-    (leZ (pos 1000 *ℤ pressureIn rows w) (nodeOf case u i .p0 *ℤ ratioOf case rows e))
+compressionFromP0 default case = compressionBy default (reachFromP0 case) case
 
 -- the verdict with it and what the ledger tells; an out bound of 0 stands for acthigh of the out end, as in the law
 abbrev pub judgedFromP0 : List ℤ → List ℤ → Told
@@ -115,13 +114,9 @@ Undrifted case plan = (i e : ℕ) → i < stepsOf case → e < arcsOf case → (
 
 undrifted-26 : (default : Default) (case plan : List ℤ) → Undrifted case plan
     → ((i e : ℕ) → e < arcsOf case → IsActHigh default case i e) → Alike26 (compressionFromP0 default case) case plan
-unfolding compressionKept reachKept
+unfolding reachKept
 undrifted-26 default case plan h a i e p l =
-    pressures-alike (compressionFromP0 default case) case (stepRows case plan i) i e (λ way k.
-    let w = outEnd way (arcOf case e) in
-    let five = compressing-five _ _ way k in
-    let b = default-alike (artificialOf case e .outbound) (default i e w) (actHigh case i e w) (λ z. a i e l five z way) in
-    rw (h i e p l way k, b))
+    arc-alike default (reachFromP0 case) case (stepRows case plan i) i e (a i e l) (λ way k. rw (h i e p l way k))
 
 -- then, on every case, the verdict and the ledger are as with p0
 module _ (case plan : List ℤ) (h : Undrifted case plan) where
@@ -171,6 +166,19 @@ reachRows =
 pub reaches : AllHold reachRows
 unfolding AllHold RowHolds reachRows law
 reaches = (refl, (refl, (refl, (refl, (refl, (refl, (refl, (refl, tt))))))))
+
+-- row 6 of the table meets the two hypotheses above, whatever its out pressure: its in end stands at p0, and its out bound is given
+pub row-6-undrifted : (out : ℤ) → Undrifted case6 (plan6 out)
+unfolding law
+row-6-undrifted out zero zero p l Forward k = refl
+row-6-undrifted out zero zero p l Backward k = let z : _≡_ {A = ℕ} 0 1 = cc in absurd (omega arith)
+row-6-undrifted out zero (suc e) p l way k = absurd (omega (arith, l))
+row-6-undrifted out (suc i) e p l way k = absurd (omega (arith, p))
+
+pub row-6-given : OutBoundsGiven case6
+unfolding law
+row-6-given zero l k z = absurd (omega ints)
+row-6-given (suc e) l k z = absurd (omega (arith, l))
 
 -- with p0 the first four and the last two come out the other way, and row 6 of the table as it is
 pub rows-from-p0 : (judgedFromP0 (drifted6 (pos 30000)) (plan6 (pos 60000)) ≡ refuses 26 1 0)

@@ -1,15 +1,13 @@
--- Under a test of arcs that compress which agrees with the law's, 26 answers as the law's does, and so all questions, the verdict and the ledger are the
--- law's; and an out bound of 0 with two defaults.
-use mathlib.Core.Path.{_≡_, refl, ap}
+-- Under a test of arcs that compress which agrees with the law's, 26 answers as the law's does, and so all questions, the verdict and the ledger are the law's.
+use mathlib.Core.Path.{_≡_, refl, sym, ap, _∙_}
 use mathlib.Core.Bool.{Bool, true, false, cond}
 use mathlib.Core.List.{List, _∷_, _++_}
-use Prim.Native.Nat.{ℕ, _+_, _-_, _<_}
+use Prim.Native.Nat.{ℕ, _+_, _-_, _≤_, _<_}
 use native.Mathlib.Omega.{arith}
-use borrow.Author.Tests.{ne-eqb}
 use lib.IntN.{ℤ, pos}
 use Rattle.numbers.specs.law.Question.{Question}
 use Rattle.case.specs.law.Layout.{nodesOf, arcsOf, stationsOf, stepsOf}
-use Rattle.case.specs.law.Records.{arcOf}
+use Rattle.case.specs.law.Records.{arcOf, artificialOf}
 use Rattle.case.specs.law.Judged.{caseQuestions}
 use Rattle.plan.specs.declared.setting.Way.{Way}
 use Rattle.plan.specs.declared.setting.Mode.the-variants.{Open, Regulating, Compressing}
@@ -29,24 +27,15 @@ use Rattle.plan.specs.law.Balance.{balanceQuestions, allBalanceQuestions
 use Rattle.plan.specs.law.Step.{stepQuestions}
 use Rattle.plan.specs.law.Judged.{planStep, planQuestions, questions, judgeOf}
 use Rattle.plan.specs.law.Ledger.{ledgerQuestions, ledgerOf}
-use Rattle.plan.specs.inside.SettingLaws.{compressing-five}
+use Rattle.plan.specs.inside.SettingLaws.{compressing-five, compressing-kept}
 use Rattle.plan.specs.inside.Unmoved.{Unmoved, unmoved-append, unmoved-over}
-use Rattle.plan.specs.claims.JudgedUnder.{CompressionTest, settingPressuresUnder, pressuresUnder, askedUnder, questionsUnder, judgedUnder, ledgerUnder}
+use Rattle.plan.specs.claims.JudgedUnder.{CompressionTest, Default, actHigh, compressionBy, reachOf}
+use Rattle.plan.specs.claims.JudgedUnder.{settingPressuresUnder, pressuresUnder, askedUnder, questionsUnder, judgedUnder, ledgerUnder}
 
--- an out bound with two defaults that are alike where it is 0
-pub default-alike : (x default acthigh : ℤ) → (x ≡ pos 0 → default ≡ acthigh) → cond (isZero x) default x ≡ cond (isZero x) acthigh x
-default-alike x default acthigh h = go (isZero x) refl
-  where
-    go : (b : Bool) → isZero x ≡ b → cond b default x ≡ cond b acthigh x
-    go true e = h (zero-says x .fact e)
-    go false e = refl
-
--- 26 of one arc
-pub pressures-alike : (test : CompressionTest) (case rows : List ℤ) (i e : ℕ)
+pressures-alike : (test : CompressionTest) (case rows : List ℤ) (i e : ℕ)
     → ((way : Way) → settingIn case rows e ≡ Active way Compressing → let c = arcOf case e in
     test rows i e (inEnd way c) (outEnd way c) ≡ compressionKept case rows i e (inEnd way c) (outEnd way c))
     → pressuresUnder test case rows i e ≡ pressuresKept case rows i e
-unfolding pressuresKept
 pressures-alike test case rows i e h = go (settingIn case rows e) refl
   where
     go : (s : Setting) → settingIn case rows e ≡ s → settingPressuresUnder test case rows i e s ≡ pressuresKept case rows i e
@@ -54,9 +43,33 @@ pressures-alike test case rows i e h = go (settingIn case rows e) refl
     go Off k = refl
     go (Active way Open) k = refl
     go (Active way Regulating) k = refl
-    go (Active way Compressing) k =
-        let five = compressing-five _ _ way k in
-        rw (ne-eqb (arcOf case e .kind) 1 (λ o. omega (arith, five, o)), k) (h way k)
+    go (Active way Compressing) k = h way k ∙ sym (compressing-kept case rows i e way k)
+
+-- an out bound with two defaults that are alike where it is 0
+default-alike : (x default acthigh : ℤ) → (x ≡ pos 0 → default ≡ acthigh) → cond (isZero x) default x ≡ cond (isZero x) acthigh x
+default-alike x default acthigh h = go (isZero x) refl
+  where
+    go : (b : Bool) → isZero x ≡ b → cond b default x ≡ cond b acthigh x
+    go true e = h (zero-says x .fact e)
+    go false e = refl
+
+-- a default that is acthigh of the out end, either way, where the out bound of arc e is 0; arcs of kinds 0 to 4 have no out bound
+abbrev pub IsActHigh : Default → List ℤ → ℕ → ℕ → Type 0
+IsActHigh default case i e =
+    5 ≤ arcOf case e .kind → artificialOf case e .outbound ≡ pos 0 → (way : Way)
+    → default i e (outEnd way (arcOf case e)) ≡ actHigh case i e (outEnd way (arcOf case e))
+
+-- with such a default, and a reach that is the law's where the arc compresses, 26 of the arc answers as the law's does
+pub arc-alike : (default : Default) (reach : CompressionTest) (case rows : List ℤ) (i e : ℕ) → IsActHigh default case i e
+    → ((way : Way) → settingIn case rows e ≡ Active way Compressing → let c = arcOf case e in
+    reach rows i e (inEnd way c) (outEnd way c) ≡ reachOf case rows i e (inEnd way c) (outEnd way c))
+    → pressuresUnder (compressionBy default reach case) case rows i e ≡ pressuresKept case rows i e
+unfolding compressionKept
+arc-alike default reach case rows i e a h =
+    pressures-alike (compressionBy default reach case) case rows i e (λ way k.
+    let w = outEnd way (arcOf case e) in
+    let b = default-alike (artificialOf case e .outbound) (default i e w) (actHigh case i e w) (λ z. a (compressing-five _ _ way k) z way) in
+    rw (b, h way k))
 
 -- ---- all questions
 
