@@ -21,6 +21,7 @@ use crate::model::{Arc, ArcRow, MOST_FLOW, Pair, StationRow};
 use crate::rng::Rng;
 use courses::Course;
 
+/// A millionth is the unit of friction and slope.
 const MILLION: i64 = 1_000_000;
 
 /// How large a pair is to be.

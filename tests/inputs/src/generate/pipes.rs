@@ -6,6 +6,7 @@ use crate::rng::Rng;
 
 const MOST_STORAGE: i64 = 100_000_000;
 const MOST_FRICTION: i64 = 10_000_000;
+
 /// A pipe whose fields are still to be fitted.
 pub fn bare(from: usize, to: usize) -> Arc {
     Arc {

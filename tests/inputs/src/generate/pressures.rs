@@ -5,7 +5,6 @@ use super::{Draft, DraftArc, Group, MILLION, Role, Size, Style, pipes, spurs};
 use crate::model::{Arc, H, MOST_PRESSURE, SINK, SOURCE};
 use crate::rng::Rng;
 
-/// A millionth is the unit of friction and slope.
 /// Parts the nodes into groups and gives each group pipes and pressures.
 pub fn draw(rng: &mut Rng, draft: &mut Draft, size: Size) {
     let mut left: Vec<usize> = (0..size.nodes).collect();

@@ -4,7 +4,6 @@ use super::{Draft, DraftArc, MILLION, Role, Style, pipes};
 use crate::model::{C, F, G, H, SINK, SOURCE};
 use crate::rng::Rng;
 
-/// A millionth is the unit of friction.
 /// The most units of flow that a spur stores in a step.
 const MOST_STORED: i64 = 2_000;
 
