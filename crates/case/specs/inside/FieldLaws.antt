@@ -1,9 +1,9 @@
 -- What a field is known to be once 10 and 11 have let it pass: no "no" of a list is no "no" of any part of it.
 -- Assumes nothing.
-use mathlib.Core.Path.{_≡_, refl, sym, _∙_}
-use mathlib.Core.Bool.{Bool, true, false, false≢true, _&&_}
+use mathlib.Core.Path.{_≡_}
+use mathlib.Core.Bool.{true}
 use mathlib.Core.List.{List, _++_}
-use Prim.Native.Nat.{ℕ, _+_, _<_, _≤_}
+use Prim.Native.Nat.{ℕ, _<_, _≤_}
 use native.Mathlib.Omega.{arith}
 use borrow.Author.Tests.{ltb-true}
 use lib.IntN.{ℤ, pos}
@@ -11,9 +11,9 @@ use lib.ListN.{length}
 use lib.Signed.{leZ}
 use Rattle.numbers.specs.inside.SignedParts.{ints, size}
 use Rattle.numbers.specs.law.Question.{Question, firstNo}
-use Rattle.numbers.specs.inside.QuestionLaws.{firstNo-append, orElse-first, orElse-second, all-yes}
-use Rattle.numbers.specs.law.Items.{over}
-use Rattle.numbers.specs.inside.ItemLaws.{over-yes}
+use Rattle.numbers.specs.inside.QuestionLaws.{all-yes}
+pub use Rattle.numbers.specs.inside.QuestionLaws.{and-first, and-second, first-yes, second-yes}
+pub use Rattle.numbers.specs.inside.ItemLaws.{zero-add, item-yes}
 use Rattle.numbers.specs.declared.answer.Answer.the-variants.{Yes}
 use Rattle.case.specs.law.Layout.{numberAt, countAt}
 use Rattle.case.specs.law.Field.{field}
@@ -22,28 +22,6 @@ pub record InRange (case : List ℤ) (i : ℕ) (low high : ℤ) : Type 0 where
   pub there : i < length case
   pub least : leZ low (numberAt case i) ≡ true
   pub most : leZ (numberAt case i) high ≡ true
-
-pub and-first : (a b : Bool) → (a && b) ≡ true → a ≡ true
-and-first true b e = refl
-and-first false b e = e
-
-pub and-second : (a b : Bool) → (a && b) ≡ true → b ≡ true
-and-second true b e = e
-and-second false b e = absurd (false≢true e)
-
--- two groups of which no question is answered no
-pub first-yes : (X Y : List Question) → firstNo (X ++ Y) ≡ Yes → firstNo X ≡ Yes
-first-yes X Y e = orElse-first (firstNo X) (firstNo Y) (sym (firstNo-append X Y) ∙ e)
-
-pub second-yes : (X Y : List Question) → firstNo (X ++ Y) ≡ Yes → firstNo Y ≡ Yes
-second-yes X Y e = orElse-second (firstNo X) (firstNo Y) (sym (firstNo-append X Y) ∙ e)
-
-pub zero-add : (n : ℕ) → 0 + n ≡ n
-zero-add n = omega arith
-
--- item j of n items of which no question is answered no
-pub item-yes : (f : ℕ → List Question) (n : ℕ) → firstNo (over f 0 n) ≡ Yes → (j : ℕ) → j < n → firstNo (f j) ≡ Yes
-item-yes f n e j p = rw (zero-add j) at (over-yes f 0 n e j p)
 
 pub field-yes : (case : List ℤ) (i : ℕ) (low high : ℤ) → firstNo (field case i low high) ≡ Yes → InRange case i low high
 unfolding field

@@ -63,6 +63,13 @@ over-yes f i (suc c) e (suc j) p =
     let z : i + suc j ≡ suc i + j = omega arith in
     rw z (over-yes f (suc i) c (orElse-second (firstNo (f i)) (firstNo (over f (suc i) c)) (sym (firstNo-append (f i) (over f (suc i) c)) ∙ e)) j (omega arith))
 
+pub zero-add : (n : ℕ) → 0 + n ≡ n
+zero-add n = omega arith
+
+-- item j of n items of which no question is answered no
+pub item-yes : (f : ℕ → List Question) (n : ℕ) → firstNo (over f 0 n) ≡ Yes → (j : ℕ) → j < n → firstNo (f j) ≡ Yes
+item-yes f n e j p = rw (zero-add j) at (over-yes f 0 n e j p)
+
 pub over-all : (f : ℕ → List Question) (i c : ℕ) → ((j : ℕ) → j < c → firstNo (f (i + j)) ≡ Yes) → firstNo (over f i c) ≡ Yes
 over-all f i zero h = refl
 over-all f i (suc c) h =

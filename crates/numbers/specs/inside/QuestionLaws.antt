@@ -1,7 +1,7 @@
 -- The first "no" of two lists is that of the first, or else of the second; so of every question, and of what is told.
 -- Assumes nothing.
 use mathlib.Core.Path.{_≡_, refl, ap, sym, _∙_}
-use mathlib.Core.Bool.{Bool, true, false}
+use mathlib.Core.Bool.{Bool, true, false, false≢true, _&&_}
 use mathlib.Core.List.{List, [], _∷_, _++_}
 use Prim.Native.Nat.{ℕ}
 use native.Mathlib.Omega.{arith}
@@ -56,3 +56,19 @@ all-yes (q ∷ qs) e = (answer-yes (q .yes) (q .number) (q .step) (q .place) (fi
 pub none-no : (qs : List Question) → AllYes qs → firstNo qs ≡ Yes
 none-no [] a = refl
 none-no (q ∷ qs) a = rw (a .0) (none-no qs (a .1))
+
+-- two groups of which no question is answered no
+pub first-yes : (X Y : List Question) → firstNo (X ++ Y) ≡ Yes → firstNo X ≡ Yes
+first-yes X Y e = orElse-first (firstNo X) (firstNo Y) (sym (firstNo-append X Y) ∙ e)
+
+pub second-yes : (X Y : List Question) → firstNo (X ++ Y) ≡ Yes → firstNo Y ≡ Yes
+second-yes X Y e = orElse-second (firstNo X) (firstNo Y) (sym (firstNo-append X Y) ∙ e)
+
+-- a question of two tests
+pub and-first : (a b : Bool) → (a && b) ≡ true → a ≡ true
+and-first true b e = refl
+and-first false b e = e
+
+pub and-second : (a b : Bool) → (a && b) ≡ true → b ≡ true
+and-second true b e = e
+and-second false b e = absurd (false≢true e)

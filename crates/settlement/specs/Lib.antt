@@ -1,0 +1,3 @@
+pub mod law
+pub mod claims
+pub mod inside

@@ -1,0 +1,1 @@
+-- What users are told: theorems over the law.
