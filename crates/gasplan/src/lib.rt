@@ -3,4 +3,5 @@
 pub mod codec; // codec.rt: groups of seven
 pub mod judge; // judge.rt: case and plan
 pub mod ledger; // ledger.rt: a region's figures
+pub mod meters; // meters.rt: two meters at a border point
 mod tell; // tell.rt: answers as the other side sees them

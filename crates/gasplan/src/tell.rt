@@ -27,6 +27,20 @@ pub(crate) fn refusal(out: &mut [i64], number: usize, step: usize, place: usize)
     number as i64
 }
 
+// Five values.
+pub(crate) fn five(out: &mut [i64], a: i64, b: i64, c: i64, d: i64, e: i64) -> i64
+    requires { ⌜ 6 ≤ length (now out) ⌝ }
+    ensures { λ r. ⌜ r ≡ pos 0 ⌝ }
+    ensures { λ _. ⌜ now (out .exit) ≡ overlay (a ∷ b ∷ c ∷ d ∷ e ∷ []) (now (out .entry)) ⌝ }
+{
+    out[0] = a;
+    out[1] = b;
+    out[2] = c;
+    out[3] = d;
+    out[4] = e;
+    0
+}
+
 // Six values.
 pub(crate) fn six(out: &mut [i64], a: i64, b: i64, c: i64, d: i64, e: i64, f: i64) -> i64
     requires { ⌜ 6 ≤ length (now out) ⌝ }

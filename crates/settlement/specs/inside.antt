@@ -5,3 +5,5 @@ pub mod RecordLaws
 pub mod LookUpLaws
 pub mod MergingLaws
 pub mod Asked
+pub mod ToldLaws
+pub mod SettlementSizes

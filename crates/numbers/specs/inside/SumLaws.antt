@@ -149,3 +149,11 @@ abs-only-le false z h = omega arith
 
 pub sumN-bound : (k x : ℕ) (f : ℕ → ℕ) → ((i : ℕ) → i < k → f i ≤ x) → sumN k f ≤ k * x
 sumN-bound k x f h = omega (arith, sumN-le k f (λ i. x) h, sumN-const k x)
+
+pub count-most : (k : ℕ) (w : ℕ → Bool) → count k w ≤ k
+unfolding count
+count-most k w = omega (arith, sumN-bound k 1 (λ i. onlyN (w i) 1) (λ i l. one (w i)))
+  where
+    one : (b : Bool) → onlyN b 1 ≤ 1
+    one true = omega arith
+    one false = omega arith

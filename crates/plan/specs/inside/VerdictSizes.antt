@@ -19,8 +19,7 @@ use Rattle.numbers.specs.law.Items.{over}
 use Rattle.numbers.specs.inside.SmallRefusals.{Between, Small}
 use Rattle.numbers.specs.law.Reading.{Ending, all, no, readOf, readTold}
 use Rattle.numbers.specs.inside.ReadingBounds.{refusal-within}
-use Rattle.numbers.specs.inside.SumLaws.{sumN-bound}
-use Rattle.numbers.specs.law.Sums.{onlyN, count}
+use Rattle.numbers.specs.inside.SumLaws.{sumN-bound, count-most}
 use Rattle.numbers.specs.declared.answer.Answer.{Answer}
 use Rattle.numbers.specs.declared.answer.Answer.the-variants.{Yes, No}
 use Rattle.case.specs.law.Layout.{nodesOf, arcsOf, stepsOf, massTolerance}
@@ -49,7 +48,7 @@ use Rattle.plan.specs.declared.verdict.Verdict.the-variants.{Accepted, R
 use Rattle.plan.specs.declared.figures.Ledger.{Ledger}
 use Rattle.plan.specs.declared.figures.Ledger.the-variants.{Given}
 use Rattle.plan.specs.declared.figures.Ledger.the-variants as stopped
-use Rattle.plan.specs.inside.StepSizes.{only-le, choice-costs-le, activity-costs-le}
+use Rattle.plan.specs.inside.StepSizes.{choice-costs-le, activity-costs-le}
 
 -- the counts of a verdict are below b, and a refusal's number is not 0
 abbrev pub Fit : ℕ → Verdict → Type 0
@@ -177,10 +176,6 @@ bytes-fit caseBytes planBytes caseList planList small short v e =
 abbrev pub FitLedger : ℕ → Ledger → Type 0
 FitLedger b (Given f) = (f .nodes < b) × (f .pipes < b) × (f .residual < b)
 FitLedger b (stopped.Refused n s p) = (n < b) × (s < b) × (p < b)
-
-count-most : (k : ℕ) (w : ℕ → Bool) → count k w ≤ k
-unfolding count
-count-most k w = omega (arith, sumN-bound k 1 (λ i. onlyN (w i) 1) (λ i l. only-le (w i) 1 (omega arith)))
 
 module _ (case plan : List ℤ) (set s t : ℤ) where
   -- the figures of a region of an accepted plan

@@ -3,7 +3,7 @@
 use mathlib.Core.Bool.{true, _&&_}
 use mathlib.Core.List.{List, [], _∷_, _++_}
 use mathlib.Core.Path.{_≡_}
-use Prim.Native.Nat.{ℕ, _%_}
+use Prim.Native.Nat.{_≤_, _%_}
 use borrow.Author.Tests.{leb-true}
 use lib.Dec.{eqb}
 use lib.IntN.{ℤ}
@@ -17,16 +17,20 @@ use Rattle.settlement.specs.law.RecordRules.{inGrams, wholeRows, mostRow
 use Rattle.settlement.specs.law.RecordRules.{massQuestion, massQuestions, settleQuestions}
 use Rattle.settlement.specs.inside.Merging.{Meter, Meters}
 
+pub whole-few : (meter : List ℤ) → wholeRows meter ≡ true → rowsOf meter ≤ mostRows
+unfolding wholeRows
+whole-few meter w = leb-true (rowsOf meter) mostRows (and-second (eqb (length meter % 2) 0) _ w)
+
 meter-of : (meter : List ℤ) → wholeRows meter ≡ true → firstNo (timeQuestions meter) ≡ Yes → firstNo (massQuestions meter) ≡ Yes → Meter meter
-unfolding wholeRows timeQuestions massQuestions timeQuestion massQuestion
+unfolding timeQuestions massQuestions timeQuestion massQuestion
 meter-of meter w t m = record {
-  few = leb-true (rowsOf meter) mostRows (and-second (eqb (length meter % 2) 0) _ w);
+  few = whole-few meter w;
   rising = λ i h. all-yes (timeQuestion meter i) (item-yes (timeQuestion meter) (rowsOf meter) t i h) .0;
   sized = λ i h. all-yes (massQuestion meter i) (item-yes (massQuestion meter) (rowsOf meter) m i h) .0;
 }
 
 -- what is asked after 60
-abbrev rowQuestions : List ℤ → List ℤ → List Question
+abbrev pub rowQuestions : List ℤ → List ℤ → List Question
 rowQuestions sender receiver = timeQuestions sender ++ (timeQuestions receiver ++ (massQuestions sender ++ massQuestions receiver))
 
 module _ (sender receiver : List ℤ) (agreed : ℤ) (y : firstNo (settleQuestions sender receiver agreed) ≡ Yes) where

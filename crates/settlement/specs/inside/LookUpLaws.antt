@@ -33,7 +33,7 @@ above {a} {b} h = go (leZ b a) refl
     go true e = let f : ⊥ = omega (ints, h, e) in absurd f
     go false e = e
 
-earlier-differs : {a b : ℤ} → a <ℤ b → sameTime a b ≡ false
+pub earlier-differs : {a b : ℤ} → a <ℤ b → sameTime a b ≡ false
 earlier-differs {a} {b} h = go (leZ a b) (above h)
   where
     go : (t : Bool) {u : Bool} → u ≡ false → (t && u) ≡ false
@@ -45,7 +45,7 @@ later-differs h = rw (above h)
 
 -- ---- the rows of a record
 
-none-found : (meter : List ℤ) (time : ℤ) (n : ℕ) → ((y : ℕ) → y < n → sameTime (timeOf meter y) time ≡ false) → lookUpIn meter time n ≡ missing
+pub none-found : (meter : List ℤ) (time : ℤ) (n : ℕ) → ((y : ℕ) → y < n → sameTime (timeOf meter y) time ≡ false) → lookUpIn meter time n ≡ missing
 unfolding lookUpIn
 none-found meter time zero h = refl
 none-found meter time (suc n) h = rw (h n (omega arith)) (none-found meter time n (λ y l. h y (omega (arith, l))))

@@ -9,7 +9,7 @@ use native.Mathlib.Omega.{arith}
 use lib.IntN.{ℤ, pos, natAbs, _+ℤ_}
 use lib.Signed.{_<ℤ_}
 use Rattle.numbers.specs.law.Sums.{sum, sumN, count, only, onlyN}
-use Rattle.numbers.specs.inside.SumLaws.{sumN-bound}
+use Rattle.numbers.specs.inside.SumLaws.{count-most}
 use Rattle.numbers.specs.inside.SignedParts.{ints}
 use Rattle.numbers.specs.inside.SignedBounds.{abs-add}
 use Rattle.numbers.specs.inside.SignedLinear.{v, _⊞_, eq! }
@@ -115,14 +115,6 @@ module _ (meter other : List ℤ) (m : Meter meter) (i j : ℕ) (l : i < rowsOf 
   stay-passed passed y p h = let a = passed y p l in let b = earlier m i (i + 1) (omega arith) h in omega (ints, a, b)
 
 -- ---- a turn
-
-count-most : (k : ℕ) (w : ℕ → Bool) → count k w ≤ k
-unfolding count
-count-most k w = let b = sumN-bound k 1 (λ i. onlyN (w i) 1) (λ i l. one (w i)) in omega (arith, b)
-  where
-    one : (b : Bool) → onlyN b 1 ≤ 1
-    one true = omega arith
-    one false = omega arith
 
 module _ {sender receiver : List ℤ} {agreed : ℤ} (k : Meters sender receiver) {m : Merged} (h : Merging sender receiver agreed m) where
   pub room : Room (m .figures)
