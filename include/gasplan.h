@@ -1,8 +1,8 @@
 /* The gas plan checker, for programs in C and C++.
  *
  * Link libgasplan.a: `rt staticlib gasplan` proves it and writes it to target/staticlib, `./install PREFIX` puts it where
- * `pkg-config --cflags --libs gasplan` finds it. What a case and a plan are, and each refusal at length, is in RULES.md
- * (docs, or PREFIX/share/doc/gasplan).
+ * `pkg-config --cflags --libs gasplan` finds it. What a case, a plan and a record are, and each refusal at length, is in
+ * RULES.md (docs, or PREFIX/share/doc/gasplan).
  *
  * All functions have the following in common.
  *
@@ -18,7 +18,7 @@
  * Answers.
  *   -1        `out` has fewer than 6 places. Nothing that was lent is changed.
  *   0         Yes. The values are in the first places of `out`; each function says which. The other places are unchanged.
- *   1 to 41   The number of the first question whose answer is "no". out[0] is its step and out[1] its place; the other
+ *   1 to 62   The number of the first question whose answer is "no". out[0] is its step and out[1] its place; the other
  *             places are unchanged.
  * Steps and places are 0 or more. Where a rule names no step or place, it is 0.
  * In what follows, "unchanged" means: holds what it held before the call.
@@ -51,14 +51,15 @@ extern "C" {
 /* The version of the library: the first number changes when programs over it may have to, the second when something is
  * added.
  *
+ * 4.1.0    gasplan_settle, with its numbers 60 to 62. The other functions are what they were.
  * 4.0.0    In 26 what an arc's machines reach is taken from p of its in end in the same step. Before, it was taken from p0 of
  *          the in end. A plan that was accepted may be refused by 26 now, and one that 26 refused may be accepted.
  * 3.0.0    In 26 an out bound of 0 stands for acthigh of the arc's out end. Before, it stood for 200,000, which has to be
  *          written outright now.
  * 2.0.0    The place of 1, 2, 5 and 6 is the byte that is missing or wrong. In 1.0.0 it was the first byte of its number. */
-#define GASPLAN_VERSION "4.0.0"
+#define GASPLAN_VERSION "4.1.0"
 #define GASPLAN_VERSION_MAJOR 4
-#define GASPLAN_VERSION_MINOR 0
+#define GASPLAN_VERSION_MINOR 1
 #define GASPLAN_VERSION_PATCH 0
 
 /* The latest edition of a case, its first number. A plan's first number is 1 whatever the edition. */
@@ -79,16 +80,22 @@ extern "C" {
 #define GASPLAN_CASE_MOST 5551
 #define GASPLAN_PLAN_MOST 41090
 
+/* A meter's record has at most so many rows, of two numbers each. Each mass, and the agreed figure of a settlement, is at most
+ * so many grams. */
+#define GASPLAN_RECORD_MOST 5000
+#define GASPLAN_GRAMS_MOST 1000000000000
+
 /* The bytes of stack that a call takes at most, its arguments and return address included; what memcpy and memset take is
  * left out. No call is recursive and each frame has one size, so this holds for every input: the gate adds the frames up in
- * the machine code, measures each call on a case and a plan of the largest size, and holds these figures, which have some
- * room, to both. */
+ * the machine code, measures each call on a case and a plan or on two records of the largest size, and holds these figures,
+ * which have some room, to both. */
 #define GASPLAN_STACK_READ 256
 #define GASPLAN_STACK_WRITE 128
 #define GASPLAN_STACK_CASE 3072
 #define GASPLAN_STACK_JUDGE 6144
 #define GASPLAN_STACK_JUDGE_BYTES 6144
 #define GASPLAN_STACK_LEDGER 8192
+#define GASPLAN_STACK_SETTLE 512
 
 /* The refusals, each with the question that has a "no". k, N, A and S are the case's steps, nodes, arcs and stations. */
 enum gasplan_refusal {
@@ -136,7 +143,11 @@ enum gasplan_refusal {
     GASPLAN_BALANCE = 33,            /* Is dt * |flow out - flow in - d| <= E? */
     /* The ledger. */
     GASPLAN_LEDGER_SET = 40,         /* Does the set name only nodes? */
-    GASPLAN_LEDGER_STEPS = 41        /* Is 0 <= s <= t <= k? */
+    GASPLAN_LEDGER_STEPS = 41,       /* Is 0 <= s <= t <= k? */
+    /* The settlement of two records. Place: for 61 and 62 the row. */
+    GASPLAN_RECORDS = 60,            /* Are the rows whole and at most 5,000, and is the agreed figure 0 to 10^12? */
+    GASPLAN_RECORD_TIMES = 61,       /* Do times rise strictly, from 0 or more? */
+    GASPLAN_RECORD_MASSES = 62       /* Is each mass 0 to 10^12? */
 };
 
 /* Reads bytes into a list.
@@ -215,6 +226,27 @@ int64_t gasplan_judge_bytes(const uint8_t *case_bytes, size_t case_bytes_len,
 int64_t gasplan_ledger(const int64_t *case_list, size_t case_len,
                        const int64_t *plan_list, size_t plan_len,
                        int64_t set, int64_t s, int64_t t,
+                       int64_t *out, size_t out_len);
+
+/* Settles the records of two meters at a border point, the sender's and the receiver's. A record has two numbers to a row:
+ * the end of an interval (s) and the mass that passed in it (g). Its rows count from 0; it may have none.
+ *
+ * For a time in both records the sender's mass stands if the two masses differ by at most `agreed` (g), otherwise the
+ * smaller. For a time in one record alone that row's mass stands.
+ *
+ * 0     The five figures are in out[0] to out[4]: the settled total (g), which is the sum of what stands, and four counts of
+ *       times: agreed, cut to the smaller, only in the sender's record, only in the receiver's. Each row is counted in one of
+ *       them, and the two rows of a time in both records as one. The total is at most 10^16.
+ * 60    A record has a number too many for its rows, or more than GASPLAN_RECORD_MOST rows, or `agreed` is outside 0 to
+ *       GASPLAN_GRAMS_MOST. out[0] and out[1] are 0.
+ * 61    The time is below 0, in row 0, or not above that of the row before. out[0] is 0 and out[1] is the row.
+ * 62    The mass is outside 0 to GASPLAN_GRAMS_MOST. out[0] is 0 and out[1] is the row.
+ *       60 is asked of both records and `agreed`, then 61 of the sender's rows and of the receiver's, then 62 of the sender's
+ *       and of the receiver's. Whose row out[1] is, a second call tells: it is the sender's if the sender's record is refused
+ *       by the same number with an empty one as the receiver's. */
+int64_t gasplan_settle(const int64_t *sender, size_t sender_len,
+                       const int64_t *receiver, size_t receiver_len,
+                       int64_t agreed,
                        int64_t *out, size_t out_len);
 
 #ifdef __cplusplus

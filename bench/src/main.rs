@@ -1,4 +1,5 @@
-//! The proved library against the second checker, plain Rust.
+//! The proved library against the second checker, plain Rust. Settlements run against two
+//! of them: the second checker's sorted map and a merge that is written for speed.
 //!
 //! Both run in the same process on the same inputs, in turns. What counts is the ratio:
 //! speed of the proved code over speed of the plain code, so that 1 is as fast and 0.5
@@ -7,11 +8,13 @@
 //! takes fewer and shorter samples.
 #![forbid(unsafe_code)]
 
+mod alike;
 mod codec;
 mod growth;
 mod judging;
 mod pairs;
 mod race;
+mod settling;
 mod subjects;
 
 use std::env;
@@ -34,5 +37,7 @@ fn main() -> ExitCode {
     judging::print(timer);
     println!();
     growth::print(timer);
+    println!();
+    settling::print(timer);
     ExitCode::SUCCESS
 }

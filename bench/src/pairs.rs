@@ -3,10 +3,11 @@
 use std::hint::black_box;
 
 use gasplan::calls as proved;
-use harness::calls::{self as plain, OUT_PLACES};
+use harness::calls as plain;
 use inputs::Rng;
 use inputs::generate::{Size, of_size};
 
+use crate::alike::race;
 use crate::race::Timer;
 
 /// About what the program's lists hold: 1,500 and 4,000 numbers.
@@ -36,44 +37,26 @@ impl Lists {
 
     /// Seconds for the case, proved and plain.
     pub fn race_case(&self, timer: Timer) -> [f64; 2] {
-        race(
-            timer,
-            |out| proved::case(black_box(&self.case), out),
-            |out| plain::judge_case(black_box(&self.case), out),
-        )
+        let proved = |out: &mut [i64]| proved::case(black_box(&self.case), out);
+        let plain = |out: &mut [i64]| plain::judge_case(black_box(&self.case), out);
+        race(timer, [&proved, &plain])
     }
 
     /// Seconds for case and plan, proved and plain.
     pub fn race_plan(&self, timer: Timer) -> [f64; 2] {
-        race(
-            timer,
-            |out| proved::judge(black_box(&self.case), black_box(&self.plan), out),
-            |out| plain::judge_plan(black_box(&self.case), black_box(&self.plan), out),
-        )
+        let [case, plan] = [&self.case, &self.plan];
+        let proved = |out: &mut [i64]| proved::judge(black_box(case), black_box(plan), out);
+        let plain = |out: &mut [i64]| plain::judge_plan(black_box(case), black_box(plan), out);
+        race(timer, [&proved, &plain])
     }
 
     /// Seconds for a ledger of every second node over all steps, proved and plain.
     pub fn race_ledger(&self, timer: Timer) -> [f64; 2] {
         let set = (0..self.size.nodes).step_by(2).map(|i| 1 << i).sum();
         let steps = self.size.steps as i64;
-        race(
-            timer,
-            |out| proved::ledger(black_box(&self.case), &self.plan, set, 0, steps, out),
-            |out| plain::draw_ledger(black_box(&self.case), &self.plan, set, 0, steps, out),
-        )
+        let [case, plan] = [&self.case, &self.plan];
+        let proved = |out: &mut [i64]| proved::ledger(black_box(case), plan, set, 0, steps, out);
+        let plain = |out: &mut [i64]| plain::draw_ledger(black_box(case), plan, set, 0, steps, out);
+        race(timer, [&proved, &plain])
     }
-}
-
-fn race(
-    timer: Timer,
-    proved: impl Fn(&mut [i64]) -> i64,
-    plain: impl Fn(&mut [i64]) -> i64,
-) -> [f64; 2] {
-    let mut outs = [[0; OUT_PLACES]; 2];
-    let [ours, others] = &mut outs;
-    let mut proved = || assert_eq!(black_box(proved(ours)), 0);
-    let mut plain = || assert_eq!(black_box(plain(others)), 0);
-    let seconds = timer.race([&mut proved, &mut plain]);
-    assert_eq!(outs[0], outs[1], "both give the same figures");
-    seconds
 }

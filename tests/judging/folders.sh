@@ -13,7 +13,7 @@ sums() { (cd "$1" && find . -type f -exec sha256sum {} + | sort); }
 
 verdicts() {
     local folder expected
-    for folder in examples/*/expected.txt; do
+    for folder in examples/*/case.bin; do
         folder=$(dirname "$folder") expected=$(cat "$folder/expected.txt")
         run "$folder" ./judge "$folder"
         case $expected in accepted*) ends 0 "$expected" ;; refused*) ends 1 "$expected" ;; *) fail "what is '$expected'?" ;; esac

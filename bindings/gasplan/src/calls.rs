@@ -59,6 +59,16 @@ unsafe extern "C" {
         out: *mut i64,
         out_len: usize,
     ) -> i64;
+
+    fn gasplan_settle(
+        sender: *const i64,
+        sender_len: usize,
+        receiver: *const i64,
+        receiver_len: usize,
+        agreed: i64,
+        out: *mut i64,
+        out_len: usize,
+    ) -> i64;
 }
 
 /// Reads bytes into a list.
@@ -169,6 +179,23 @@ pub fn ledger(
             set,
             s,
             t,
+            out.as_mut_ptr(),
+            out.len(),
+        )
+    }
+}
+
+/// Settles the records of two meters.
+#[inline]
+pub fn settle(sender: &[i64], receiver: &[i64], agreed: i64, out: &mut [i64]) -> i64 {
+    // SAFETY: as in `read`.
+    unsafe {
+        gasplan_settle(
+            sender.as_ptr(),
+            sender.len(),
+            receiver.as_ptr(),
+            receiver.len(),
+            agreed,
             out.as_mut_ptr(),
             out.len(),
         )

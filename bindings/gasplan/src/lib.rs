@@ -43,6 +43,12 @@ pub const NO_ROOM: i64 = -1;
 /// The longest that one number can be in bytes.
 pub const NUMBER_BYTES: usize = 10;
 
+/// The most rows of a meter's record, each of two numbers.
+pub const RECORD_MOST: usize = 5_000;
+
+/// The most grams of a row, and of the agreed figure of a settlement.
+pub const GRAMS_MOST: i64 = 1_000_000_000_000;
+
 /// The first "no": the question's number, the step and the place.
 #[derive(Clone, Copy, Debug, PartialEq, Eq)]
 pub struct Refusal {
@@ -73,6 +79,16 @@ pub struct Ledger {
     pub gas_at_t: i64,
     pub brought_in: i64,
     pub residual: i64,
+}
+
+/// What two meters settle to: the total in grams, and how many times were settled in each way.
+#[derive(Clone, Copy, Debug, PartialEq, Eq)]
+pub struct Settlement {
+    pub total: i64,
+    pub agreed: i64,
+    pub cut: i64,
+    pub only_sender: i64,
+    pub only_receiver: i64,
 }
 
 /// Reads bytes into a lent list and gives the count of numbers. The place of a refusal is the count of bytes where they end in
@@ -130,6 +146,15 @@ pub fn ledger(case_list: &[i64], plan_list: &[i64], set: i64, s: i64, t: i64) ->
     yes(answer, out).map(Ledger::of)
 }
 
+/// Settles the records of two meters, a time in seconds and a mass in grams to a row. The place of a refusal by 61 or 62 is the
+/// row, in the sender's record if that is refused by the same number beside an empty one, or else in the receiver's.
+#[inline]
+pub fn settle(sender: &[i64], receiver: &[i64], agreed: i64) -> Answer<Settlement> {
+    let mut out = [0; OUT_PLACES];
+    let answer = calls::settle(sender, receiver, agreed, &mut out);
+    yes(answer, out).map(Settlement::of)
+}
+
 /// Counts, steps and places are promised not to be negative.
 fn yes(answer: i64, out: [i64; OUT_PLACES]) -> Answer<[i64; OUT_PLACES]> {
     match answer {
@@ -177,6 +202,19 @@ impl Ledger {
     }
 }
 
+impl Settlement {
+    fn of(out: [i64; OUT_PLACES]) -> Self {
+        let [total, agreed, cut, only_sender, only_receiver, _] = out;
+        Settlement {
+            total,
+            agreed,
+            cut,
+            only_sender,
+            only_receiver,
+        }
+    }
+}
+
 impl Error for Refusal {}
 
 impl fmt::Display for Refusal {
@@ -211,6 +249,16 @@ impl fmt::Display for Ledger {
             self.gas_at_t,
             self.brought_in,
             self.residual
+        )
+    }
+}
+
+impl fmt::Display for Settlement {
+    fn fmt(&self, f: &mut fmt::Formatter<'_>) -> fmt::Result {
+        write!(
+            f,
+            "settled {} {} {} {} {}",
+            self.total, self.agreed, self.cut, self.only_sender, self.only_receiver
         )
     }
 }

@@ -4,7 +4,7 @@ mod table_t;
 
 use std::thread;
 
-use gasplan::{calls, judge, judge_bytes, ledger, write_all};
+use gasplan::{calls, judge, judge_bytes, ledger, settle, write_all};
 use table_t::{CASE, PLAN};
 
 /// One region may be lent as case and as plan: the answer is that on two copies.
@@ -22,6 +22,11 @@ fn const_regions_may_be_the_same() {
     assert_eq!(answer, Err(refusal));
     assert_eq!(one, other);
     assert_eq!(one[..33], CASE);
+
+    let (record, copy) = ([0, 5, 60, 7], [0, 5, 60, 7]);
+    let settled = settle(&record, &copy, 0).unwrap();
+    assert_eq!(settled.to_string(), "settled 12 2 0 0 0");
+    assert_eq!(settle(&record, &record, 0), Ok(settled));
 }
 
 /// A plan that begins before the case has ended: the answer is that on two copies.
@@ -45,6 +50,9 @@ fn no_places_are_lent_too() {
     assert_eq!(calls::judge(&[], &[], &mut []), gasplan::NO_ROOM);
     assert_eq!(calls::judge(&[], &[], &mut out), 10);
     assert_eq!(out, [0, 0, 7, 7, 7, 7]);
+    assert_eq!(calls::settle(&[], &[], 0, &mut []), gasplan::NO_ROOM);
+    assert_eq!(calls::settle(&[], &[], 0, &mut out), 0);
+    assert_eq!(out, [0, 0, 0, 0, 0, 7]);
 }
 
 /// Threads share what is only read, and have lists of their own.

@@ -32,7 +32,7 @@ fn types(signatures: &Signatures) -> Vec<(&str, Vec<&str>)> {
 #[test]
 fn header_crate_and_rattle_declare_the_same_functions() {
     let header = Header::read().functions();
-    assert!(header.len() >= 6, "{header:?}");
+    assert!(header.len() >= 7, "{header:?}");
     assert_eq!(header, of_rust(&source("bindings/gasplan/src/calls.rs")));
     assert_eq!(types(&header), types(&of_rattle(&exporting())));
 }
@@ -54,6 +54,28 @@ fn header_and_crate_have_the_same_sizes() {
     let no_room = format!("({})", gasplan::NO_ROOM);
     assert_eq!(header.text("GASPLAN_NO_ROOM"), no_room);
     assert_eq!(header.number("GASPLAN_NUMBER_BYTES"), gasplan::NUMBER_BYTES);
+    assert_eq!(header.number("GASPLAN_RECORD_MOST"), gasplan::RECORD_MOST);
+    let grams = header.number("GASPLAN_GRAMS_MOST");
+    assert_eq!(grams as i64, gasplan::GRAMS_MOST);
+}
+
+/// Neither a row more nor a gram.
+#[test]
+fn a_record_has_at_most_so_many_rows_and_grams() {
+    let header = Header::read();
+    let most = header.number("GASPLAN_RECORD_MOST");
+    let grams = header.number("GASPLAN_GRAMS_MOST") as i64;
+    let record = |rows: usize, grams: i64| -> Vec<i64> {
+        (0..rows as i64).flat_map(|time| [time, grams]).collect()
+    };
+    let number = |record: &[i64], agreed: i64| {
+        let answer = gasplan::settle(record, record, agreed);
+        answer.err().map(|refusal| refusal.number)
+    };
+    assert_eq!(number(&record(most, grams), grams), None);
+    assert_eq!(number(&record(most + 1, grams), grams), Some(60));
+    assert_eq!(number(&record(most, grams + 1), grams), Some(62));
+    assert_eq!(number(&record(most, grams), grams + 1), Some(60));
 }
 
 /// Document 01's limits: 60 nodes, 120 arcs, 8 stations with 8 directions, 16 states and 12 machines, 48 steps.

@@ -44,14 +44,16 @@ impl Taken {
     }
 }
 
-/// Each call on an accepted case and plan with all counts as large as they can be.
-fn painted() -> [(&'static str, usize); 6] {
+/// Each call on an accepted case and plan with all counts as large as they can be, or on two records of 5,000 rows that are
+/// settled in every way.
+fn painted() -> [(&'static str, usize); 7] {
     let pair = of_size(&mut Rng::new(1), Size::LARGEST);
     let (case, plan) = (pair.case.list(), pair.plan.list());
     let (case_bytes, plan_bytes) = (encode(&case).bytes, encode(&plan).bytes);
     let (mut cases, mut plans) = (vec![0; case.len()], vec![0; plan.len()]);
     let (mut bytes, mut out) = (vec![0; plan_bytes.len()], [0; gasplan::OUT_PLACES]);
     let (all, steps) = ((1 << Size::LARGEST.nodes) - 1, Size::LARGEST.steps as i64);
+    let [sender, receiver] = full_records();
     [
         yes("read", || calls::read(&plan_bytes, &mut plans, &mut out)),
         yes("write", || calls::write(&plan, &mut bytes, &mut out)),
@@ -63,7 +65,22 @@ fn painted() -> [(&'static str, usize); 6] {
         yes("ledger", || {
             calls::ledger(&case, &plan, all, 0, steps, &mut out)
         }),
+        yes("settle", || calls::settle(&sender, &receiver, 1, &mut out)),
     ]
+}
+
+/// Times in both records, every sixth in the sender's alone and every sixth in the receiver's.
+fn full_records() -> [Vec<i64>; 2] {
+    let rows = |left_out: i64, more: i64| -> Vec<i64> {
+        let times = (0..).filter(|time| time % 6 != left_out);
+        let rows = times.map(|time| [time, time % 4 * more]);
+        rows.take(gasplan::RECORD_MOST).flatten().collect()
+    };
+    let [sender, receiver] = [rows(0, 1), rows(3, 2)];
+    let it = gasplan::settle(&sender, &receiver, 1).unwrap();
+    let ways = [it.agreed, it.cut, it.only_sender, it.only_receiver];
+    assert!(ways.iter().all(|&count| count > 500), "{it}");
+    [sender, receiver]
 }
 
 /// The bytes that a call takes whose answer is 0: it has gone all the way.

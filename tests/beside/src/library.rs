@@ -15,6 +15,7 @@ pub fn judge() -> Judge {
         plan: Some(Box::new(calls::judge)),
         bytes: Some(Box::new(calls::judge_bytes)),
         ledger: Some(Box::new(calls::ledger)),
+        settle: Some(Box::new(calls::settle)),
         line: Program::find().map(print_line),
     }
 }

@@ -4,7 +4,7 @@ use std::io::{Write, stdout};
 
 use beside::library;
 use gasplan::calls;
-use harness::{Beside, Judge, codec_rounds, document, rounds};
+use harness::{Beside, Judge, codec_rounds, document, rounds, settlement_rounds};
 
 const ROUNDS: u64 = 6_000;
 
@@ -26,6 +26,9 @@ fn the_library_answers_as_the_second_checker() {
             panic!("tests/soak 0 {seed}: {difference}");
         }
         if let Err(difference) = codec_rounds::round(&mut beside, seed) {
+            panic!("tests/soak 0 {seed}: {difference}");
+        }
+        if let Err(difference) = settlement_rounds::round(&mut beside, seed) {
             panic!("tests/soak 0 {seed}: {difference}");
         }
     }
@@ -63,6 +66,7 @@ fn a_wrong_call_is_found() {
         let found = (1..200).any(|seed| {
             rounds::round(&mut beside, seed).is_err()
                 || codec_rounds::round(&mut beside, seed).is_err()
+                || settlement_rounds::round(&mut beside, seed).is_err()
         });
         assert!(found, "{name}");
     }
@@ -98,7 +102,7 @@ fn wrong_judges() -> Vec<(&'static str, Judge)> {
     add("plan", |judge| {
         judge.plan = Some(Box::new(|case, plan, out| {
             let answer = calls::judge(case, plan, out);
-            raise_last_total(answer, out);
+            raise(answer, out, 5);
             answer
         }));
     });
@@ -112,7 +116,14 @@ fn wrong_judges() -> Vec<(&'static str, Judge)> {
     add("ledger", |judge| {
         judge.ledger = Some(Box::new(|case, plan, set, s, t, out| {
             let answer = calls::ledger(case, plan, set, s, t, out);
-            raise_last_total(answer, out);
+            raise(answer, out, 5);
+            answer
+        }));
+    });
+    add("settle", |judge| {
+        judge.settle = Some(Box::new(|sender, receiver, agreed, out| {
+            let answer = calls::settle(sender, receiver, agreed, out);
+            raise(answer, out, 4);
             answer
         }));
     });
@@ -122,8 +133,9 @@ fn wrong_judges() -> Vec<(&'static str, Judge)> {
     all
 }
 
-fn raise_last_total(answer: i64, out: &mut [i64]) {
+/// Raises a figure after a yes.
+fn raise(answer: i64, out: &mut [i64], figure: usize) {
     if answer == 0 {
-        out[5] += 1;
+        out[figure] += 1;
     }
 }

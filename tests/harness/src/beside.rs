@@ -188,6 +188,24 @@ impl Beside {
         Ok(reply)
     }
 
+    /// The sender's record and the receiver's, and the agreed figure.
+    pub fn settle(&mut self, records: [&[i64]; 2], agreed: i64) -> Result<Reply, Difference> {
+        let [sender, receiver] = records;
+        let outs = self.outs();
+        let reply = both(
+            || format!("settle {sender:?} with {receiver:?}, agreed {agreed}"),
+            (),
+            outs,
+            |(), out| calls::settle(sender, receiver, agreed, out),
+            self.judge
+                .settle
+                .as_ref()
+                .map(|settle| |(): &mut (), out: &mut [i64]| settle(sender, receiver, agreed, out)),
+        )?;
+        self.count(&reply, |tally| tally.settle(&reply.out));
+        Ok(reply)
+    }
+
     /// The program's line for two files.
     pub fn line(&mut self, files: [Option<&[u8]>; 2]) -> Result<String, Difference> {
         let [case, plan] = files;

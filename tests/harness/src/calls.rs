@@ -4,7 +4,9 @@
 //! first two places of `out`. With fewer than six places in `out` it gives -1 and touches
 //! nothing. Places of `out` that an answer doesn't use stay as they were.
 
-use second::{Answer, Refusal, call, case, codec, earlier, ledger, plan, program};
+use second::{
+    Answer, Refusal, call, case, codec, earlier, ledger, merged, plan, program, settlement,
+};
 
 pub const OUT_PLACES: usize = 6;
 
@@ -17,6 +19,7 @@ pub type JudgeCase = Box<dyn Fn(&[i64], &mut [i64]) -> i64>;
 pub type JudgePlan = Box<dyn Fn(&[i64], &[i64], &mut [i64]) -> i64>;
 pub type JudgeBytes = Box<dyn Fn(&[u8], &[u8], &mut [i64], &mut [i64], &mut [i64]) -> i64>;
 pub type DrawLedger = Box<dyn Fn(&[i64], &[i64], i64, i64, i64, &mut [i64]) -> i64>;
+pub type Settle = Box<dyn Fn(&[i64], &[i64], i64, &mut [i64]) -> i64>;
 pub type PrintLine = Box<dyn Fn(Option<&[u8]>, Option<&[u8]>) -> String>;
 
 /// The calls that a judge offers.
@@ -34,6 +37,8 @@ pub struct Judge {
     pub bytes: Option<JudgeBytes>,
     /// A case, a plan, a node set and two steps; six figures go into `out`.
     pub ledger: Option<DrawLedger>,
+    /// The sender's record, the receiver's and the agreed figure; five figures go into `out`.
+    pub settle: Option<Settle>,
     /// The program's line for the contents of case.bin and plan.bin.
     pub line: Option<PrintLine>,
 }
@@ -48,6 +53,7 @@ impl Judge {
             plan: Some(Box::new(judge_plan)),
             bytes: Some(Box::new(judge_bytes)),
             ledger: Some(Box::new(draw_ledger)),
+            settle: Some(Box::new(settle)),
             line: Some(Box::new(program::line)),
         }
     }
@@ -109,6 +115,23 @@ pub fn draw_ledger(case: &[i64], plan: &[i64], set: i64, s: i64, t: i64, out: &m
     }
     let figures = ledger::ledger(case, plan, set, s, t).map(|ledger| ledger.figures());
     answer(figures, out)
+}
+
+pub fn settle(sender: &[i64], receiver: &[i64], agreed: i64, out: &mut [i64]) -> i64 {
+    if out.len() < OUT_PLACES {
+        return NO_ROOM;
+    }
+    let settlement = settlement::settle(sender, receiver, agreed);
+    answer(settlement.map(|settlement| settlement.figures()), out)
+}
+
+/// The settlement by a merge.
+pub fn settle_merged(sender: &[i64], receiver: &[i64], agreed: i64, out: &mut [i64]) -> i64 {
+    if out.len() < OUT_PLACES {
+        return NO_ROOM;
+    }
+    let settlement = merged::settle(sender, receiver, agreed);
+    answer(settlement.map(|settlement| settlement.figures()), out)
 }
 
 fn count(count: usize) -> [i128; 1] {

@@ -2,7 +2,7 @@
 
 use inputs::aimed::edges::{
     EDGES, EDGES_OF_COMPRESSING, EDGES_OF_FIELDS, Edge, Expect, LEDGER_EDGES, LedgerEdge,
-    READ_EDGES, ReadEdge, WRITE_EDGES,
+    READ_EDGES, RECORD_EDGES, ReadEdge, SETTLE_EDGES, SettleEdge, WRITE_EDGES,
 };
 use inputs::bytes::{Encoded, encode, on_plan_bytes};
 use inputs::generate;
@@ -38,6 +38,20 @@ pub fn wrong(beside: &mut Beside, seeds: u64) -> Vec<Wrong> {
         let ask = |beside: &mut Beside, _: &mut Rng, _: &Pair| {
             let mut both = edge().into_iter();
             both.try_for_each(|edge| ledger(beside, &edge, name))
+        };
+        wrong.extend(differences(beside, name, seeds, ask));
+    }
+    wrong.extend(settling(beside, seeds));
+    wrong
+}
+
+/// The edges of records and of their settlement.
+fn settling(beside: &mut Beside, seeds: u64) -> Vec<Wrong> {
+    let mut wrong = Vec::new();
+    for &(name, edges) in RECORD_EDGES.iter().chain(SETTLE_EDGES) {
+        let ask = |beside: &mut Beside, _: &mut Rng, _: &Pair| {
+            let edges = edges();
+            edges.iter().try_for_each(|edge| settle(beside, edge, name))
         };
         wrong.extend(differences(beside, name, seeds, ask));
     }
@@ -125,16 +139,21 @@ fn ledger(beside: &mut Beside, edge: &LedgerEdge, name: &str) -> Result<(), Diff
     expect(&reply, edge.expect, name)
 }
 
+fn settle(beside: &mut Beside, edge: &SettleEdge, name: &str) -> Result<(), Difference> {
+    let reply = beside.settle([&edge.sender, &edge.receiver], edge.agreed)?;
+    expect(&reply, edge.expect, name)
+}
+
 /// Is this the answer that the edge is to have?
 fn expect(reply: &Reply, expect: Expect, name: &str) -> Result<(), Difference> {
     let wanted = match expect {
         Expect::Refused(refused) => return reply.expect(refused, name),
         Expect::Any => return Ok(()),
-        Expect::Accepted => None,
-        Expect::Totals(totals) => Some(totals),
+        Expect::Accepted => &[],
+        Expect::Totals(ref totals) => totals.as_slice(),
+        Expect::Settled(ref figures) => figures.as_slice(),
     };
-    let as_wanted = wanted.is_none_or(|totals| reply.out[..6] == totals);
-    if reply.answer == 0 && as_wanted {
+    if reply.answer == 0 && reply.out.starts_with(wanted) {
         return Ok(());
     }
     Err(Difference {

@@ -14,6 +14,7 @@ pub mod files;
 pub mod lent;
 pub mod optimisers;
 pub mod rounds;
+pub mod settlement_rounds;
 pub mod tally;
 
 pub use beside::{Beside, Difference};

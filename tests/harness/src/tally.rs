@@ -3,13 +3,13 @@
 use std::collections::BTreeMap;
 use std::fmt;
 
-use inputs::aimed::{AIMS, LEDGER_AIMS};
+use inputs::aimed::{AIMS, LEDGER_AIMS, SETTLE_AIMS};
 use inputs::bytes::BYTES_AIMS;
 
 /// Every question an input can end in.
-const QUESTIONS: [u8; 31] = [
+const QUESTIONS: [u8; 34] = [
     1, 2, 3, 4, 5, 6, 7, 10, 11, 12, 13, 14, 15, 16, 17, 20, 21, 22, 23, 24, 25, 26, 27, 28, 29,
-    30, 31, 32, 33, 40, 41,
+    30, 31, 32, 33, 40, 41, 60, 61, 62,
 ];
 
 /// What an aimed change of bytes is made on, beside bytes that are read alone: the two strings of one call.
@@ -26,6 +26,9 @@ pub struct Tally {
     /// Accepted with pressure slack, demand slack, switching cost and residual above 0.
     pub all_above_0: u64,
     pub ledgers: u64,
+    pub settled: u64,
+    /// Settled with rows in each of the four ways.
+    pub in_every_way: u64,
     /// Strings read and lists written without a "no".
     pub coded: u64,
     /// Strings and lists made for reading and writing, whatever the room.
@@ -46,6 +49,13 @@ impl Tally {
         }
     }
 
+    pub fn settle(&mut self, figures: &[i64]) {
+        self.settled += 1;
+        if figures[1..5].iter().all(|&count| count > 0) {
+            self.in_every_way += 1;
+        }
+    }
+
     pub fn aim(&mut self, name: &'static str) {
         self.aim_in(name, "");
     }
@@ -60,7 +70,8 @@ impl Tally {
 
     /// All inputs counted here.
     pub fn inputs(&self) -> u64 {
-        self.refused.values().sum::<u64>() + self.accepted + self.ledgers + self.coded
+        let answered = self.accepted + self.ledgers + self.settled + self.coded;
+        self.refused.values().sum::<u64>() + answered
     }
 
     pub fn add(&mut self, other: &Tally) {
@@ -73,6 +84,8 @@ impl Tally {
         self.accepted += other.accepted;
         self.all_above_0 += other.all_above_0;
         self.ledgers += other.ledgers;
+        self.settled += other.settled;
+        self.in_every_way += other.in_every_way;
         self.coded += other.coded;
         self.strings_and_lists += other.strings_and_lists;
     }
@@ -89,6 +102,12 @@ impl Tally {
         }
         if self.all_above_0 < LEAST {
             gaps.push("accepted with all four totals above 0".to_string());
+        }
+        if self.settled < LEAST {
+            gaps.push("settled".to_string());
+        }
+        if self.in_every_way < LEAST {
+            gaps.push("settled in every way".to_string());
         }
         let seldom = aims().filter(|&aim| self.aim_count(aim) < LEAST);
         gaps.extend(seldom.map(|(name, string)| format!("aim {name}{string}")));
@@ -107,7 +126,8 @@ fn aims() -> impl Iterator<Item = (&'static str, &'static str)> {
     let bytes = bytes.flat_map(move |(name, _)| strings.map(|string| (*name, string)));
     let lists = AIMS.iter().map(|(name, _)| (*name, ""));
     let ledgers = LEDGER_AIMS.iter().map(|(name, _)| (*name, ""));
-    bytes.chain(lists).chain(ledgers)
+    let records = SETTLE_AIMS.iter().map(|(name, _)| (*name, ""));
+    bytes.chain(lists).chain(ledgers).chain(records)
 }
 
 impl fmt::Display for Tally {
@@ -123,6 +143,8 @@ impl fmt::Display for Tally {
             self.all_above_0
         )?;
         writeln!(f, "ledgers {:>10}", self.ledgers)?;
+        writeln!(f, "settled {:>10}", self.settled)?;
+        writeln!(f, "  of these in every way: {}", self.in_every_way)?;
         writeln!(f, "read or written {}", self.coded)?;
         writeln!(f, "aimed at a part of a question:")?;
         for (name, string) in aims() {

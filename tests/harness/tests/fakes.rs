@@ -1,7 +1,7 @@
-//! Judges that are wrong in one thing: the harness must find every one of them.
+//! Judges that are wrong in one thing: the harness must find every one of them. Those that settle are in `settlers`.
 
 use harness::calls::{self, NO_ROOM, OUT_PLACES};
-use harness::{Beside, Judge, codec_rounds, rounds};
+use harness::{Beside, Judge, codec_rounds, rounds, settlement_rounds};
 
 /// Rounds in which a fake has to fall.
 const ROUNDS: u64 = 300;
@@ -9,7 +9,9 @@ const ROUNDS: u64 = 300;
 fn falls(judge: Judge) -> bool {
     let mut beside = Beside::new(judge);
     (0..ROUNDS).any(|seed| {
-        rounds::round(&mut beside, seed).is_err() || codec_rounds::round(&mut beside, seed).is_err()
+        rounds::round(&mut beside, seed).is_err()
+            || codec_rounds::round(&mut beside, seed).is_err()
+            || settlement_rounds::round(&mut beside, seed).is_err()
     })
 }
 
@@ -32,6 +34,9 @@ fn lenient(waved: impl Fn(i64, &[i64]) -> bool + Copy + 'static) -> Judge {
         ledger: Some(Box::new(move |case, plan, set, s, t, out| {
             wave(calls::draw_ledger(case, plan, set, s, t, out), out)
         })),
+        settle: Some(Box::new(move |sender, receiver, agreed, out| {
+            wave(calls::settle(sender, receiver, agreed, out), out)
+        })),
         ..Judge::default()
     }
 }
@@ -44,7 +49,7 @@ fn the_second_checker_itself_stands() {
 #[test]
 fn a_judge_blind_to_one_question_falls() {
     let blind_on_bytes = [1, 2, 3, 5, 6, 7];
-    let blind_on_lists = (10..=17).chain(20..=33).chain(40..=41);
+    let blind_on_lists = (10..=17).chain(20..=33).chain(40..=41).chain(60..=62);
     for question in blind_on_bytes.into_iter().chain(blind_on_lists) {
         let judge = lenient(move |answer, _| answer == question);
         assert!(falls(judge), "blind to {question}");

@@ -2,7 +2,7 @@
 
 use std::io::{Write, stdout};
 
-use harness::{Beside, Judge, codec_rounds, rounds};
+use harness::{Beside, Judge, codec_rounds, rounds, settlement_rounds};
 
 /// Enough for every question; more are run beside a judge.
 const ROUNDS: u64 = 1_000;
@@ -16,6 +16,9 @@ fn every_question_is_reached() {
         }
         if let Err(difference) = codec_rounds::round(&mut beside, seed) {
             panic!("codec round {seed}: {difference}");
+        }
+        if let Err(difference) = settlement_rounds::round(&mut beside, seed) {
+            panic!("settlement round {seed}: {difference}");
         }
     }
     // Not by `println`, which is kept back unless the test fails.

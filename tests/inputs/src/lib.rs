@@ -1,7 +1,8 @@
 //! Inputs for a gas plan checker, all of them from a seed.
 //!
-//! Accepted pairs of case and plan are built so that they must be accepted. Aimed
-//! changes turn one into a pair with a known first "no"; damage changes it at random.
+//! Accepted pairs of case and plan are built so that they must be accepted, records of two
+//! meters so that they must settle. Aimed changes turn them into inputs with a known first
+//! "no"; damage changes them at random.
 #![forbid(unsafe_code)]
 
 pub mod aimed;
@@ -11,6 +12,7 @@ pub mod damage;
 pub mod generate;
 pub mod model;
 pub mod reach;
+pub mod records;
 pub mod rng;
 pub mod rounding;
 pub mod slips;

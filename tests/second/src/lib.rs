@@ -10,8 +10,10 @@ pub mod case;
 pub mod codec;
 pub mod earlier;
 pub mod ledger;
+pub mod merged;
 pub mod plan;
 pub mod program;
+pub mod settlement;
 pub mod verdict;
 
 pub use verdict::{Answer, Refusal, Totals};

@@ -4,6 +4,7 @@ use checker::main as program;
 use gasplan::codec::{gasplan_read, gasplan_write};
 use gasplan::judge::{gasplan_case, gasplan_judge, gasplan_judge_bytes};
 use gasplan::ledger::gasplan_ledger;
+use gasplan::meters::gasplan_settle;
 use harness::Judge;
 use inputs::Rng;
 use inputs::damage::any_list;
@@ -17,7 +18,7 @@ pub fn judge(edited: &Edited) -> Judge {
         ["gasplan_read", "gasplan_write", "gasplan_case"].map(|call| edited.named(call));
     let [plan, bytes, ledger] =
         ["gasplan_judge", "gasplan_judge_bytes", "gasplan_ledger"].map(|call| edited.named(call));
-    let line = edited.named("the program");
+    let [settle, line] = ["gasplan_settle", "the program"].map(|call| edited.named(call));
     Judge {
         read: Some(Box::new(move |bytes, list, out| {
             read.lent([list, out], &mut [], |[list, out], _| {
@@ -41,6 +42,11 @@ pub fn judge(edited: &Edited) -> Judge {
         ledger: Some(Box::new(move |case, plan, set, s, t, out| {
             ledger.lent([out], &mut [], |[out], _| {
                 gasplan_ledger(case, plan, set, s, t, out)
+            })
+        })),
+        settle: Some(Box::new(move |sender, receiver, agreed, out| {
+            settle.lent([out], &mut [], |[out], _| {
+                gasplan_settle(sender, receiver, agreed, out)
             })
         })),
         line: Some(Box::new(move |case, plan| {

@@ -11,7 +11,7 @@ use std::process::exit;
 use std::sync::atomic::{AtomicUsize, Ordering};
 use std::{env, fs, panic, thread};
 
-use harness::{Beside, Difference, codec_rounds, document, rounds};
+use harness::{Beside, Difference, codec_rounds, document, rounds, settlement_rounds};
 
 use edited::{Edited, NONE, Told};
 
@@ -121,6 +121,7 @@ fn inputs_of(beside: &mut Beside, edited: &Edited, seed: u64) -> Result<(), Diff
         return document::slips(beside);
     }
     codec_rounds::round(beside, seed)?;
+    settlement_rounds::round(beside, seed)?;
     rounds::round(beside, seed)?;
     rounds::files_round(beside, seed)?;
     beside.input = "a function by itself";

@@ -5,7 +5,7 @@ use std::process::ExitCode;
 use std::time::{Duration, Instant};
 
 use beside::library;
-use harness::{Beside, Difference, codec_rounds, rounds};
+use harness::{Beside, Difference, codec_rounds, rounds, settlement_rounds};
 
 /// The first seed, and one in so many, has its lists written in every room, which takes as long as many rounds.
 const LISTS_IN: u64 = 32;
@@ -47,6 +47,7 @@ fn soak(time: Duration, first_seed: u64) -> ExitCode {
 fn round(beside: &mut Beside, seed: u64, lists: bool) -> Result<(), Difference> {
     rounds::round(beside, seed)?;
     codec_rounds::round(beside, seed)?;
+    settlement_rounds::round(beside, seed)?;
     if lists {
         codec_rounds::lists_round(beside, seed)?;
     }

@@ -1,6 +1,6 @@
-//! Aimed changes: each makes an accepted pair end in a known first "no".
+//! Aimed changes: each makes an accepted pair, or records that settle, end in a known first "no".
 //!
-//! A change gives nothing where the pair has no place for it.
+//! A change gives nothing where what it is made on has no place for it.
 
 mod arcs;
 mod case;
@@ -10,10 +10,12 @@ mod in_pressure;
 mod ledger;
 mod nodes;
 mod pipes;
+mod settlement;
 pub mod sides;
 mod stations;
 
 pub use ledger::{LEDGER_AIMS, LedgerAim, LedgerInput};
+pub use settlement::{SETTLE_AIMS, SettleAim, SettleInput};
 
 use crate::model::{Pair, Refused};
 use crate::rng::Rng;

@@ -1,4 +1,4 @@
-//! Inputs at the edges of each question: the last number that passes and the first that does not, the last arc, node, machine and step.
+//! Inputs at the edges of each question: the last number that passes and the first that does not, the last arc, node, machine, step and row.
 //!
 //! Each is made in every round, whatever the seed; the seed only says what it stands beside. A name begins with the question that the input is at.
 
@@ -14,6 +14,8 @@ mod machines;
 mod nodes;
 mod pipes;
 mod reach;
+mod records;
+mod settlement;
 mod stations;
 mod table;
 mod table_of_compressing;
@@ -22,6 +24,8 @@ mod turned;
 use branch::Branch;
 pub use groups::{ReadEdge, WriteEdge, numbers_of_every_width};
 pub use known::LEDGER_EDGES;
+pub use records::RECORD_EDGES;
+pub use settlement::SETTLE_EDGES;
 pub use table::{EDGES, EDGES_OF_FIELDS, READ_EDGES, WRITE_EDGES};
 pub use table_of_compressing::EDGES_OF_COMPRESSING;
 
@@ -37,6 +41,8 @@ pub enum Expect {
     Accepted,
     /// With these totals, or these figures of a ledger.
     Totals([i64; 6]),
+    /// With these figures of a settlement.
+    Settled([i64; 5]),
     Refused(Refused),
 }
 
@@ -60,9 +66,19 @@ pub struct LedgerEdge {
     pub expect: Expect,
 }
 
+/// Two records and an agreed figure with their answer.
+pub struct SettleEdge {
+    pub sender: Vec<i64>,
+    pub receiver: Vec<i64>,
+    pub agreed: i64,
+    pub expect: Expect,
+}
+
 pub type EdgeOf = fn(&mut Rng, &Pair) -> Both;
 pub type EdgesOf = fn() -> Vec<Edge>;
 pub type LedgerEdgeOf = fn() -> [LedgerEdge; 2];
+
+pub type SettleEdgesOf = fn() -> Vec<SettleEdge>;
 
 pub type ReadEdgesOf = fn() -> Vec<ReadEdge>;
 pub type WriteEdgesOf = fn() -> Vec<WriteEdge>;

@@ -1,4 +1,5 @@
-//! Every edge by its name; those of arcs that compress are in `table_of_compressing`, those of ledgers in `known`.
+//! Every edge by its name; those of arcs that compress are in `table_of_compressing`, those of ledgers in `known`,
+//! those of records in `records` and `settlement`.
 
 use super::{EdgeOf, EdgesOf, ReadEdgesOf, WriteEdgesOf};
 use super::{arcs, case, fields, groups, known, largest, nodes, pipes, stations};
