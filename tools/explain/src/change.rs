@@ -2,7 +2,7 @@
 
 use gasplan::{read_all, write_all};
 use gasplan_text::files::{File, layout_of};
-use gasplan_text::layout::{Field, fields};
+use gasplan_text::layout::{Field, Layout, fields};
 use gasplan_text::parse::value;
 
 use crate::input::Input;
@@ -60,16 +60,29 @@ fn change_field(input: &mut Input, file: File, address: &str, text: &str) -> Res
     };
     let case = list_of(File::Case)?;
     let mut list = list_of(file)?;
-    let found = fields(layout_of(file, &case).as_mut(), &list);
+    let layout = &mut *layout_of(file, &case);
+    put(&mut list, layout, file.name(), address, text)?;
+    *input.bytes_mut(file) = write_all(&list).map_err(|refusal| refusal.to_string())?;
+    Ok(())
+}
+
+/// Puts another number into the field of this address; the name is the list's.
+pub fn put(
+    list: &mut [i64],
+    layout: &mut dyn Layout,
+    name: &str,
+    address: &str,
+    text: &str,
+) -> Result<(), String> {
+    let found = fields(layout, list);
     let is_it = |field: &Field| field.address() == address;
     let at = found.iter().position(is_it);
-    let at = at.ok_or_else(|| format!("no field of the {} is called '{address}'", file.name()))?;
+    let at = at.ok_or_else(|| format!("no field of the {name} is called '{address}'"))?;
     list[at] = value(&found[at], text).map_err(|error| {
         format!(
             "{address}: expected {}, found {}",
             error.expected, error.found
         )
     })?;
-    *input.bytes_mut(file) = write_all(&list).map_err(|refusal| refusal.to_string())?;
     Ok(())
 }

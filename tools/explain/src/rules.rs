@@ -16,7 +16,7 @@ const fn rule(number: i64, title: &'static str, question: &'static str) -> Rule 
     }
 }
 
-pub const RULES: [Rule; 31] = [
+pub const RULES: [Rule; 34] = [
     rule(
         1,
         "case bytes end early",
@@ -149,6 +149,17 @@ pub const RULES: [Rule; 31] = [
     ),
     rule(40, "ledger set", "does the set name only nodes?"),
     rule(41, "ledger steps", "is 0 ≤ s ≤ t ≤ k?"),
+    rule(
+        60,
+        "records and agreed figure",
+        "are the rows whole and at most 5,000, and is the agreed figure 0 to 10^12?",
+    ),
+    rule(
+        61,
+        "times of a record",
+        "do times rise strictly, from 0 or more?",
+    ),
+    rule(62, "masses of a record", "is each mass 0 to 10^12?"),
 ];
 
 pub fn rule_of(number: i64) -> Option<&'static Rule> {

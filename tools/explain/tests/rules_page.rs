@@ -53,11 +53,11 @@ fn every_input_gives_its_number_and_is_explained() {
         assert!(!text.contains("no part of the question"), "{text}");
         given.insert(number.parse().unwrap());
     }
-    // 4 is the writer's: no file gives it.
+    // 4 is the writer's: no file gives it. From 60 on they are of records, and settle's tests run what the page shows.
     let wanted = RULES
         .iter()
         .map(|rule| rule.number)
-        .filter(|&number| number != 4);
+        .filter(|&number| number != 4 && number < 60);
     assert_eq!(given, wanted.collect());
 }
 

@@ -1,4 +1,4 @@
-//! `gasplan-text`: cases and plans as text, to and from their binary files.
+//! `gasplan-text`: cases, plans and the records of meters as text, to and from their binary files.
 #![forbid(unsafe_code)]
 
 use std::path::Path;
@@ -8,14 +8,16 @@ use gasplan_text::terminal::{asks_for_help, say, trouble, words};
 use gasplan_text::{files, write};
 
 const USAGE: &str = "\
-usage: gasplan-text to-bin FOLDER                    case.txt and plan.txt into case.bin and plan.bin, both or none
+usage: gasplan-text to-bin FOLDER                    case.txt and plan.txt into case.bin and plan.bin, all or none
        gasplan-text to-text FOLDER                   case.bin and plan.bin into case.txt and plan.txt, where there is none
        gasplan-text check FOLDER                     are texts and binary files the same?
        gasplan-text to-bin TEXT BINARY               one file
        gasplan-text to-text case CASE.bin            one file, to standard output
        gasplan-text to-text plan PLAN.bin CASE.bin
+       gasplan-text to-text meter FILE.bin
        gasplan-text to-text numbers FILE.bin
   -h, --help                                         this page
+In a folder the records of two meters, sender.txt and receiver.txt, go the same way, beside a case or without one.
 Nothing is judged. The status is 0 where all went well, and 2 where words, a text or a file are of no use, or nothing can be written.
 The text form is described in tools/README.md.";
 
@@ -49,6 +51,7 @@ fn done(words: &[&str]) -> files::Result<String> {
             let case = files::read_bin(Path::new(case))?;
             Ok(write::plan(&files::read_bin(Path::new(plan))?, &case))
         }
+        ["to-text", "meter", file] => Ok(write::meter(&files::read_bin(Path::new(file))?)),
         ["to-text", "numbers", file] => Ok(write::numbers(&files::read_bin(Path::new(file))?)),
         _ => Err(USAGE.to_string()),
     }

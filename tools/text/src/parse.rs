@@ -2,8 +2,10 @@
 
 pub use crate::cursor::Error;
 use crate::cursor::{Cursor, Line, lines};
-use crate::files::File;
-use crate::layout::{CaseLayout, Counts, Field, Form, Layout, NoParts, PlanLayout};
+use crate::layout::{
+    CaseLayout, Counts, Field, Form, Layout, MeterLayout, NoParts, Part, PlanLayout,
+};
+use crate::names::Content;
 use crate::words::words;
 
 /// Ends a text whose list stops before it is whole.
@@ -15,16 +17,16 @@ pub const LEFT_OVER: &str = "left-over";
 const LAST_ITEM: i64 = 62;
 
 /// What the first word of a text may be.
-const ANY: [&str; 3] = ["case", "plan", "numbers"];
+const ANY: [&str; 4] = ["case", "plan", "meter", "numbers"];
 
 /// Gives the list that a text stands for.
 pub fn parse(text: &str) -> Result<Vec<i64>, Error> {
     read(text, &ANY)
 }
 
-/// Gives the list of a text that has to be a case or a plan, or numbers without names.
-pub fn parse_as(file: File, text: &str) -> Result<Vec<i64>, Error> {
-    read(text, &[file.name(), "numbers"])
+/// Gives the list of a text that has to hold this, or numbers without names.
+pub fn parse_as(content: impl Into<Content>, text: &str) -> Result<Vec<i64>, Error> {
+    read(text, &[content.into().word(), "numbers"])
 }
 
 fn read(text: &str, first_words: &[&str]) -> Result<Vec<i64>, Error> {
@@ -103,6 +105,8 @@ struct Reader {
     layout: Box<dyn Layout>,
     list: Vec<i64>,
     place: Place,
+    /// What is wrong with a line that has a part of its row alone, unless the list is cut short there.
+    open: Option<Error>,
 }
 
 impl Reader {
@@ -118,6 +122,7 @@ impl Reader {
                 let counts = counts(&mut cursor)?;
                 (Box::new(PlanLayout::new(counts)), Place::Fields)
             }
+            Some("meter") => (Box::<MeterLayout>::default(), Place::Fields),
             Some("numbers") => (Box::new(NoParts), Place::Numbers),
             _ => return Err(wrong),
         };
@@ -126,6 +131,7 @@ impl Reader {
             layout,
             list: Vec::new(),
             place,
+            open: None,
         })
     }
 
@@ -137,15 +143,11 @@ impl Reader {
                 return Err(cursor.wrong(format!("nothing after `{CUT_SHORT}`")));
             }
             (Place::Numbers, _) => self.list.push(number(&mut cursor, "a whole number")?),
-            (Place::Fields, Some(_)) if first == CUT_SHORT => {
+            (Place::Fields, Some(_)) if first == CUT_SHORT && !self.layout.may_end() => {
                 cursor.next();
                 self.place = Place::CutShort;
             }
-            (Place::Fields, Some(due)) => {
-                let number = field(&mut cursor, &due)?;
-                self.layout.take(number);
-                self.list.push(number);
-            }
+            (Place::Fields, Some(due)) => self.fields(&mut cursor, &due)?,
             (Place::Fields, None) if first == LEFT_OVER => {
                 cursor.next();
                 self.place = Place::Numbers;
@@ -158,9 +160,26 @@ impl Reader {
         cursor.end()
     }
 
+    /// The field that is due; of a record with the others of its row.
+    fn fields(&mut self, cursor: &mut Cursor, due: &Field) -> Result<(), Error> {
+        if let Some(error) = self.open.take() {
+            return Err(error);
+        }
+        let number = field(cursor, due)?;
+        self.layout.take(number);
+        self.list.push(number);
+        let in_row = |next: &Field| matches!(next.part, Part::Row(_)) && next.part == due.part;
+        match self.layout.due().filter(in_row) {
+            Some(next) if cursor.peek().is_none() => self.open = field(cursor, &next).err(),
+            Some(next) => self.fields(cursor, &next)?,
+            None => {}
+        }
+        Ok(())
+    }
+
     fn finish(self, end: usize) -> Result<Vec<i64>, Error> {
         match (self.place, self.layout.due()) {
-            (Place::Fields, Some(due)) => {
+            (Place::Fields, Some(due)) if !self.layout.may_end() => {
                 let expected = format!("{due}, or `{CUT_SHORT}` if the list is to end here");
                 Err(ended(end, &expected))
             }

@@ -53,6 +53,29 @@ pub fn plan(list: &[i64], case_list: &[i64]) -> String {
     text
 }
 
+/// A meter's record as text, a row a line.
+pub fn meter(list: &[i64]) -> String {
+    let mut text = String::from("meter\n");
+    if !list.is_empty() {
+        text.push_str("\n# the end of each interval in s, the mass in it in g\n");
+    }
+    let width = |field| {
+        let numbers = list.iter().skip(field).step_by(2);
+        numbers.map(|it| it.to_string().len()).max().unwrap_or(0)
+    };
+    let (times, masses) = (width(0), width(1));
+    for (row, numbers) in list.chunks(2).enumerate() {
+        text.push_str(&match numbers {
+            [time, grams] => format!("time {time:times$}  grams {grams:masses$}  # row {row}\n"),
+            _ => format!(
+                "time {:times$}\n{CUT_SHORT} # before grams of row {row}\n",
+                numbers[0]
+            ),
+        });
+    }
+    text
+}
+
 /// Every number as a line: headings before each part, comments beside.
 fn put(
     text: &mut String,

@@ -14,7 +14,7 @@ fn wrong(text: &str, line: usize, column: usize, expected: &str, found: &str) {
 
 #[test]
 fn the_first_word_says_what_a_text_holds() {
-    let first = "`case`, `plan` or `numbers`";
+    let first = "`case`, `plan`, `meter` or `numbers`";
     wrong("", 1, 1, first, "the end of the text");
     wrong("# nothing\n\n", 3, 1, first, "the end of the text");
     wrong("  edition 1\n", 1, 3, first, "`edition`");
@@ -202,6 +202,44 @@ fn a_text_ends_where_its_list_is_whole() {
         "`left-over`",
         "`cut-short`",
     );
+}
+
+#[test]
+fn a_record_has_a_row_a_line() {
+    let grams = "a whole number for grams of row 1, in decimal and of 64 bits";
+    let row = |rest: &str| format!("meter\n3600 5\n{rest}\n");
+    let end = "the end of the line";
+    wrong(&row("time 7200 # 5\n\n9000 5"), 3, 10, grams, end);
+    wrong(&row("7200\ngrams 5"), 3, 5, grams, end);
+    wrong(&row("7200 5.0"), 3, 6, grams, "`5.0`");
+    let expected = "the end of the line or a comment";
+    wrong(&row("7200 5 6"), 3, 8, expected, "`6`");
+    wrong(&row("7200 1,800"), 3, 7, expected, "`,`");
+    wrong(&row("time"), 3, 5, "a whole number for time of row 1", end);
+    let expected = "`grams` (grams of row 1) or its number alone";
+    wrong(&row("time 7200 time 9000"), 3, 11, expected, "`time`");
+    let expected = "`time` (time of row 1) or its number alone";
+    wrong(&row("grams 5 time 7200"), 3, 1, expected, "`grams`");
+    wrong("meter 2 rows\n", 1, 7, "the end of the line", "`2`");
+}
+
+#[test]
+fn a_record_may_end_after_each_row() {
+    assert_eq!(parse("meter # of no rows\n"), Ok(vec![]));
+    assert_eq!(parse("meter\n3600 5\n7200 6\n"), Ok(vec![3600, 5, 7200, 6]));
+    let cut = "meter\n3600 5\ntime 7200 # the rest is lost\n";
+    assert_eq!(
+        parse(&format!("{cut}\ncut-short\n")),
+        Ok(vec![3600, 5, 7200])
+    );
+    let expected = "grams of row 1, or `cut-short`";
+    wrong(cut, 4, 1, expected, "the end of the text");
+    let after = format!("{cut}cut-short\n9000 5\n");
+    wrong(&after, 5, 1, "nothing after `cut-short`", "`9000`");
+    for word in ["cut-short", "left-over"] {
+        let text = format!("meter\n3600 5\n{word}\n");
+        wrong(&text, 3, 1, "`time` (time of row 1)", &format!("`{word}`"));
+    }
 }
 
 #[test]

@@ -62,6 +62,22 @@ fn a_case_shows_its_parts() {
 }
 
 #[test]
+fn a_record_shows_its_rows() {
+    let folder = Path::new(env!("CARGO_TARGET_TMPDIR")).join("record");
+    fs::create_dir_all(&folder).expect("a folder to write into");
+    let file = folder.join("any.bin");
+    fs::write(&file, [120, 10, 1, 0x80, 1]).unwrap();
+    let done = run(&["to-text", "meter", &file.display().to_string()]);
+    assert_eq!(done.status.code(), Some(0));
+    let said = String::from_utf8_lossy(&done.stdout).into_owned();
+    let rows = "time 60  grams  5  # row 0\ntime -1  grams 64  # row 1\n";
+    assert!(
+        said.starts_with("meter\n") && said.ends_with(rows),
+        "{said}"
+    );
+}
+
+#[test]
 fn an_empty_out_bound_says_what_it_stands_for() {
     let said = |name: &str| {
         let done = run(&["to-text", "case", &example(name)]);

@@ -4,7 +4,8 @@ use std::fs;
 use std::path::{Path, PathBuf};
 
 use gasplan::{read_all, write_all};
-use gasplan_text::{files, parse, write};
+use gasplan_text::files::{self, Meter};
+use gasplan_text::{parse, parse_as, write};
 
 fn examples() -> Vec<PathBuf> {
     let root = Path::new(env!("CARGO_MANIFEST_DIR")).join("../../examples");
@@ -104,6 +105,54 @@ fn lists_of_any_numbers_come_back() {
         let (case, plan) = (list(), list());
         there_and_back(&case, &plan);
     }
+}
+
+/// A record's text is also the same again, and each row a line of it.
+fn record_there_and_back(list: &[i64]) {
+    let text = write::meter(list);
+    let again = parse_as(Meter::Sender, &text).expect("a text that was written");
+    assert_eq!(again, list);
+    assert_eq!(write::meter(&again), text);
+    let rows = text.lines().filter(|line| line.starts_with("time "));
+    assert_eq!(rows.count(), list.len().div_ceil(2));
+    assert_eq!(text.contains("cut-short"), list.len() % 2 == 1);
+    assert_eq!(read_all(&write_all(list).unwrap()).as_deref(), Ok(list));
+}
+
+/// Whatever a record holds: nothing is judged.
+#[test]
+fn records_come_back() {
+    let mut sequence = Sequence(4);
+    record_there_and_back(&[]);
+    record_there_and_back(&[7]);
+    record_there_and_back(&[i64::MIN, i64::MAX, i64::MAX, i64::MIN, -1, 0]);
+    record_there_and_back(&[7200, 5, 3600, 5, 3600, 5, 0, 5]);
+    for count in 0..2_000 {
+        let list: Vec<i64> = (0..count % 97).map(|_| sequence.number()).collect();
+        record_there_and_back(&list);
+    }
+    let long: Vec<i64> = (0..10_002).map(|_| sequence.number()).collect();
+    record_there_and_back(&long);
+}
+
+#[test]
+fn a_record_is_written_in_columns() {
+    let text = "meter
+
+# the end of each interval in s, the mass in it in g
+time  3600  grams 1798236000  # row 0
+time  7200  grams         -5  # row 1
+time 10800
+cut-short # before grams of row 2
+";
+    let list = [3600, 1_798_236_000, 7200, -5, 10800];
+    assert_eq!(write::meter(&list), text);
+    assert_eq!(write::meter(&[]), "meter\n");
+    let by_hand = "# a comment first\r\n\r\nmeter\r\n3600\t1798236000 # and here\r\n  time 7200 -5\n10800 grams 0";
+    assert_eq!(
+        parse(by_hand),
+        Ok(vec![3600, 1_798_236_000, 7200, -5, 10800, 0])
+    );
 }
 
 #[test]

@@ -1,6 +1,8 @@
 //! Examples, and requests on them as they are typed.
 #![allow(dead_code)]
 
+mod pages;
+
 use std::fs;
 use std::path::{Path, PathBuf};
 
@@ -10,6 +12,7 @@ use explain::noes::{Noes, noes};
 use explain::request::Request;
 use explain::{Explanation, Input};
 use gasplan::{Refusal, write_all};
+pub use pages::{Shown, words};
 
 pub const EXAMPLES: [&str; 8] = [
     "two-nodes",
@@ -35,18 +38,6 @@ pub fn example(name: &str) -> Input {
         case_bytes: bytes("case.bin"),
         plan_bytes: bytes("plan.bin"),
     }
-}
-
-/// Words of a command, split at spaces; quotes keep words together.
-pub fn words(line: &str) -> Vec<String> {
-    let mut words = Vec::new();
-    for (at, part) in line.split('\'').enumerate() {
-        match at % 2 {
-            0 => words.extend(part.split_whitespace().map(str::to_string)),
-            _ => words.push(part.to_string()),
-        }
-    }
-    words
 }
 
 /// The answer to a command on an example, as `two-nodes --ledger 0 0 1`.
@@ -114,33 +105,7 @@ pub fn second(case: &[i64], plan: &[i64]) -> Option<Refusal> {
     Some(refusal(answer.number.into(), answer.step, answer.place))
 }
 
-/// A command that a page shows, with the heading above it and the lines that it promises.
-pub struct Shown {
-    pub heading: String,
-    pub command: String,
-    pub lines: Vec<String>,
-}
-
-/// The commands of a page that begin with `$ tools/bin/explain`. A block ends where its indent does.
+/// The commands of a page that begin with `$ tools/bin/explain`.
 pub fn shown(page: &str) -> Vec<Shown> {
-    let mut shown: Vec<Shown> = Vec::new();
-    let (mut heading, mut within) = (String::new(), false);
-    for line in page.lines() {
-        if let Some(title) = line.strip_prefix("### ") {
-            heading = title.to_string();
-        }
-        let text = line.strip_prefix("    ");
-        let command = text.and_then(|it| it.strip_prefix("$ tools/bin/explain "));
-        within = command.is_some() || (within && text.is_some());
-        if let Some(command) = command {
-            shown.push(Shown {
-                heading: heading.clone(),
-                command: command.to_string(),
-                lines: Vec::new(),
-            });
-        } else if let (true, Some(text), Some(last)) = (within, text, shown.last_mut()) {
-            last.lines.push(text.to_string());
-        }
-    }
-    shown
+    pages::shown(page, "explain")
 }

@@ -71,6 +71,7 @@ impl CaseLayout {
             Part::Direction(..) => DIRECTION.len(),
             Part::State(..) => STATE.len(),
             Part::Machine(..) => MACHINE.len(),
+            Part::Row(_) => 0, // no case has one
         }
     }
 
@@ -85,6 +86,7 @@ impl CaseLayout {
             Part::Direction(station, row) => self.direction(station, row + 1),
             Part::State(station, row) => self.state(station, row + 1),
             Part::Machine(station, row) => self.machine(station, row + 1),
+            Part::Row(_) => None,
         }
     }
 
@@ -160,6 +162,7 @@ impl Layout for CaseLayout {
             Part::Direction(..) => of_form(part, DIRECTION[at], [true, true, false][at]),
             Part::State(..) => of_form(part, STATE[at], [true, true, true, false][at]),
             Part::Machine(..) => field(part, MACHINE[at]),
+            Part::Row(_) => return None,
         })
     }
 

@@ -1,13 +1,15 @@
-//! What stands where in a case list and in a plan list.
+//! What stands where in a case list, in a plan list and in a meter's record.
 //!
 //! A layout says which field is due, and is told the number that came. Nothing is judged
 //! here: a list of any numbers has a layout, up to where it ends or has numbers left over.
 
 mod case;
+mod meter;
 mod plan;
 mod words;
 
 pub use case::CaseLayout;
+pub use meter::MeterLayout;
 pub use plan::{Counts, PlanLayout};
 
 /// The part of a list that a field belongs to. Items count from 0.
@@ -22,6 +24,8 @@ pub enum Part {
     Direction(usize, usize),
     State(usize, usize),
     Machine(usize, usize),
+    /// Of a meter's record.
+    Row(usize),
 }
 
 /// How people write a field's number.
@@ -48,6 +52,10 @@ pub trait Layout {
     fn due(&self) -> Option<Field>;
     /// Takes the number of the field that is due.
     fn take(&mut self, number: i64);
+    /// May the list end here? A record may after each row, where another can follow.
+    fn may_end(&self) -> bool {
+        self.due().is_none()
+    }
 }
 
 /// The layout of a list that has no parts: no field is ever due.

@@ -34,7 +34,7 @@ impl Field {
             "p0" | "low" | "high" | "actlow" | "acthigh" | "pressure-tolerance" | "p" | "u+"
             | "u-" | "out-bound" => Some("mbar"),
             "demand" | "qmax" | "d" | "s+" | "s-" | "a" | "b" | "flow" => Some("g/s"),
-            "mass-tolerance" => Some("g"),
+            "mass-tolerance" | "grams" => Some("g"),
             "time" => Some("s"),
             "c" => Some("g per mbar"),
             "f" | "g" => Some("millionths of a mbar per g/s"),
@@ -56,6 +56,7 @@ impl fmt::Display for Part {
             Part::Direction(station, row) => write!(f, "station {station} direction {row}"),
             Part::State(station, row) => write!(f, "station {station} state {row}"),
             Part::Machine(station, row) => write!(f, "station {station} machine {row}"),
+            Part::Row(row) => write!(f, "row {row}"),
         }
     }
 }
