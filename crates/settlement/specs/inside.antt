@@ -3,7 +3,9 @@ pub mod Adding
 pub mod Merging
 pub mod RecordLaws
 pub mod LookUpLaws
+pub mod TimeCounts
 pub mod MergingLaws
 pub mod Asked
 pub mod ToldLaws
 pub mod SettlementSizes
+pub mod Computed

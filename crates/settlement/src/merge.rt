@@ -100,6 +100,16 @@ fn next(sender: &[i64], receiver: &[i64], i: usize, j: usize) -> Which
     if r < s { Which::Receiver } else { Which::Both }
 }
 
+fn passed(i: usize, j: usize, figures: Figures) -> Merged
+    ensures { λ m. ⌜ m ≡ record { i = i; j = j; figures = figures } ⌝ }
+{
+    Merged {
+        i: i,
+        j: j,
+        figures: figures,
+    }
+}
+
 // The earliest row that is left, or the pair of rows, is settled.
 fn advance(sender: &[i64], receiver: &[i64], agreed: i64, m: Merged) -> Merged
     requires { ⌜ (Meters (now sender) (now receiver)) × (Merging (now sender) (now receiver) agreed m) × (Left (now sender) (now receiver) (m .i) (m .j)) ⌝ }
@@ -111,21 +121,12 @@ fn advance(sender: &[i64], receiver: &[i64], agreed: i64, m: Merged) -> Merged
     let f = m.figures;
     let n = next(sender, receiver, i, j);
     match n {
-        Which::Both => Merged {
-            i: i + 1,
-            j: j + 1,
-            figures: with_pair(f, grams(sender, i), grams(receiver, j), agreed),
-        },
-        Which::Sender => Merged {
-            i: i + 1,
-            j: j,
-            figures: with_sender(f, grams(sender, i)),
-        },
-        Which::Receiver => Merged {
-            i: i,
-            j: j + 1,
-            figures: with_receiver(f, grams(receiver, j)),
-        },
+        Which::Both => {
+            let g = with_pair(f, grams(sender, i), grams(receiver, j), agreed);
+            passed(i + 1, j + 1, g)
+        }
+        Which::Sender => passed(i + 1, j, with_sender(f, grams(sender, i))),
+        Which::Receiver => passed(i, j + 1, with_receiver(f, grams(receiver, j))),
     }
 }
 

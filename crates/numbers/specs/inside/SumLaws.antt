@@ -3,11 +3,11 @@
 use mathlib.Core.Path.{_≡_, refl, sym, ap, ap₂, _∙_, subst}
 use Prim.Native.Nat.{ℕ, zero, suc, _+_, _*_, _≤_, _<_}
 use native.Mathlib.Omega.{arith}
-use native.Mathlib.Nat.{le-trans}
+use native.Mathlib.Nat.{le-trans, eq-or-lt-of-le}
 use mathlib.Core.Bool.{Bool, true, false}
 use lib.Dec.{T, eqb, eqb→eq, eqb-refl}
 use lib.IntN.{ℤ, pos, natAbs, _+ℤ_, _-ℤ_, _*ℤ_, +ℤ-idl, +ℤ-idr}
-use mathlib.Core.Logic.{_≢_}
+use mathlib.Core.Logic.{_≢_, ⊎-elim}
 use Rattle.numbers.specs.inside.SignedLinear.{v, _⊞_, _⊟_, _⊠_, eq! }
 use Rattle.numbers.specs.inside.SignedBounds.{abs-add}
 use Rattle.numbers.specs.law.Sums.{sum, sumN, only, onlyN, count}
@@ -130,6 +130,16 @@ unfolding sumN
 sumN-const zero x = omega arith
 sumN-const (suc k) x = omega (arith, sumN-const k x)
 
+pub sumN-add : (k : ℕ) (f g : ℕ → ℕ) → sumN k (λ i. f i + g i) ≡ sumN k f + sumN k g
+unfolding sumN
+sumN-add zero f g = refl
+sumN-add (suc k) f g = omega (arith, sumN-add k f g)
+
+pub sumN-swap : (k m : ℕ) (f : ℕ → ℕ → ℕ) → sumN k (λ i. sumN m (λ j. f i j)) ≡ sumN m (λ j. sumN k (λ i. f i j))
+unfolding sumN
+sumN-swap zero m f = omega (arith, sumN-const m 0)
+sumN-swap (suc k) m f = omega (arith, sumN-swap k m f, sumN-add m (λ j. sumN k (λ i. f i j)) (λ j. f k j))
+
 pub sumN-count : (k x : ℕ) (w : ℕ → Bool) (f : ℕ → ℕ) → ((i : ℕ) → i < k → T (w i) → f i ≤ x) → sumN k (λ i. onlyN (w i) (f i)) ≤ count k w * x
 unfolding sumN count
 sumN-count zero x w f h = omega arith
@@ -157,3 +167,18 @@ count-most k w = omega (arith, sumN-bound k 1 (λ i. onlyN (w i) 1) (λ i l. one
     one : (b : Bool) → onlyN b 1 ≤ 1
     one true = omega arith
     one false = omega arith
+
+pub count-none : (k : ℕ) (w : ℕ → Bool) → ((i : ℕ) → i < k → w i ≡ false) → count k w ≡ 0
+unfolding count
+count-none k w h = omega (arith, sumN-cong k (λ i. onlyN (w i) 1) (λ i. 0) (λ i l. rw (h i l)), sumN-const k 0)
+
+pub none-counted : (k : ℕ) (w : ℕ → Bool) → count k w ≡ 0 → (i : ℕ) → i < k → w i ≡ false
+unfolding count sumN
+none-counted zero w e i l = let f : ⊥ = omega arith in absurd f
+none-counted (suc k) w e i l =
+    ⊎-elim (λ q. subst (λ (j : ℕ). w j ≡ false) (sym q) (last (w k) (omega arith))) (λ p. none-counted k w (omega arith) i p)
+    (eq-or-lt-of-le {n = i} {m = k} (omega arith))
+  where
+    last : (b : Bool) → onlyN b 1 ≡ 0 → b ≡ false
+    last true q = let f : ⊥ = omega arith in absurd f
+    last false q = refl

@@ -35,7 +35,7 @@ rowQuestions sender receiver = timeQuestions sender ++ (timeQuestions receiver +
 
 module _ (sender receiver : List ℤ) (agreed : ℤ) (y : firstNo (settleQuestions sender receiver agreed) ≡ Yes) where
   -- 60
-  kept : (wholeRows sender && (wholeRows receiver && inGrams agreed)) ≡ true
+  pub kept : (wholeRows sender && (wholeRows receiver && inGrams agreed)) ≡ true
   unfolding settleQuestions recordsQuestion
   kept = all-yes (recordsQuestion sender receiver agreed ∷ []) (first-yes (recordsQuestion sender receiver agreed ∷ []) (rowQuestions sender receiver) y) .0
 
@@ -49,10 +49,11 @@ module _ (sender receiver : List ℤ) (agreed : ℤ) (y : firstNo (settleQuestio
       let whole = and-second (wholeRows sender) (wholeRows receiver && inGrams agreed) kept in
       let later = second-yes (timeQuestions sender) _ rows-yes in
       let masses = second-yes (timeQuestions receiver) _ later in
+      let s = first-yes (timeQuestions sender) _ rows-yes in
+      let r = first-yes (timeQuestions receiver) _ later in
       record {
-        of-sender = meter-of sender (and-first (wholeRows sender) _ kept) (first-yes (timeQuestions sender) _ rows-yes) (first-yes (massQuestions sender) _ masses);
-        of-receiver =
-            meter-of receiver (and-first (wholeRows receiver) _ whole) (first-yes (timeQuestions receiver) _ later) (second-yes (massQuestions sender) _ masses);
+        of-sender = meter-of sender (and-first (wholeRows sender) _ kept) s (first-yes (massQuestions sender) _ masses);
+        of-receiver = meter-of receiver (and-first (wholeRows receiver) _ whole) r (second-yes (massQuestions sender) _ masses);
       }
 
   pub asked-agreed : inGrams agreed ≡ true

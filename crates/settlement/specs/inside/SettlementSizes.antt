@@ -1,44 +1,41 @@
--- The numbers of a settlement fit what an export hands on: a count and a place are below the rows of a record, of which 60 leaves at most 5,000.
+-- The numbers of a settlement fit what an export hands on: counts add up to the rows of a record and places are below them, and 60 leaves at most 5,000 rows.
 -- Assumes nothing.
 use mathlib.Core.Bool.{_&&_}
 use mathlib.Core.List.{List}
-use mathlib.Core.Path.{_≡_, refl, sym, ap}
-use Prim.Native.Nat.{ℕ, _+_, _<_, _≤_, _^_}
+use mathlib.Core.Path.{_≡_, sym, ap, subst}
+use Prim.Native.Nat.{ℕ, _<_, _≤_, _^_}
 use native.Mathlib.Omega.{arith}
-use lib.IntN.{ℤ, pos, natAbs}
-use lib.ListN.{length, getD}
+use lib.IntN.{ℤ}
+use lib.ListN.{length}
 use Rattle.numbers.specs.law.Told.{Told}
 use Rattle.numbers.specs.law.Question.{firstNo}
 use Rattle.numbers.specs.declared.answer.Answer.{Answer}
 use Rattle.numbers.specs.declared.answer.Answer.the-variants.{Yes, No}
-use Rattle.numbers.specs.inside.QuestionLaws.{and-first, and-second}
+use Rattle.numbers.specs.inside.QuestionLaws.{told-same, and-first, and-second}
 use Rattle.numbers.specs.inside.SmallRefusals.{Small, AllSmall, small-next, all-small, all-append, all-over}
-use Rattle.numbers.specs.inside.SumLaws.{count-most}
-use Rattle.settlement.specs.declared.figures.Figures.{Figures}
 use Rattle.settlement.specs.declared.figures.Settlement.{Settlement}
 use Rattle.settlement.specs.declared.figures.Settlement.the-variants.{Settled, Refused}
 use Rattle.settlement.specs.law.Records.{rowsOf}
 use Rattle.settlement.specs.law.RecordRules.{inGrams, wholeRows, mostRows, recordsQuestion, timeQuestion, timeQuestions}
 use Rattle.settlement.specs.law.RecordRules.{massQuestion, massQuestions, settleQuestions}
-use Rattle.settlement.specs.law.Settled.{agreedAt, cutAt, aloneAt, settledFigures}
+use Rattle.settlement.specs.law.Settled.{settledFigures}
 use Rattle.settlement.specs.law.Settling.{settlementTold, settlementBy, settleOf}
 use Rattle.settlement.specs.inside.Asked.{whole-few, rowQuestions}
-use Rattle.settlement.specs.inside.ToldLaws.{told-figures, told-meters}
+use Rattle.settlement.specs.inside.ToldLaws.{told-meters}
+use Rattle.settlement.specs.claims.Counted.{sender-rows, receiver-rows}
 
 -- above every number, step and place of a refusal
 abbrev pub limit : ℕ
 limit = 10000
 
--- ---- refusals
-
 module _ (meter : List ℤ) (few : rowsOf meter ≤ mostRows) where
   times-small : AllSmall limit (timeQuestions meter)
   unfolding timeQuestions timeQuestion
-  times-small = all-over limit (timeQuestion meter) 0 (rowsOf meter) (λ i l. (omega arith, omega arith, omega (arith, l, few), omega arith, tt))
+  times-small = all-over limit (timeQuestion meter) 0 (rowsOf meter) (λ i l. omega (arith, l, few))
 
   masses-small : AllSmall limit (massQuestions meter)
   unfolding massQuestions massQuestion
-  masses-small = all-over limit (massQuestion meter) 0 (rowsOf meter) (λ i l. (omega arith, omega arith, omega (arith, l, few), omega arith, tt))
+  masses-small = all-over limit (massQuestion meter) 0 (rowsOf meter) (λ i l. omega (arith, l, few))
 
 pub settle-small : (sender receiver : List ℤ) (agreed : ℤ) → Small limit (firstNo (settleQuestions sender receiver agreed))
 unfolding settleQuestions recordsQuestion
@@ -50,34 +47,18 @@ settle-small sender receiver agreed =
     let later = all-append limit (timeQuestions receiver) _ (times-small receiver r) masses in
     all-small limit (rowQuestions sender receiver) (all-append limit (timeQuestions sender) _ (times-small sender s) later))
 
--- ---- figures
-
 abbrev pub Fit : ℕ → Settlement → Type 0
 Fit b (Settled f) = (f .agreed < b) × (f .cut < b) × (f .sender < b) × (f .receiver < b)
 Fit b (Refused n s p) = (n < b) × (s < b) × (p < b)
 
 module _ (sender receiver : List ℤ) (agreed : ℤ) where
   pub settle-fits : (v : Settlement) → settlementTold v ≡ settleOf sender receiver agreed → Fit (2 ^ 63) v
-  unfolding settleOf settledFigures
+  unfolding settleOf
   settle-fits (Settled f) e =
-      let q = told-figures sender receiver agreed f (sym e) in
-      let m = told-meters sender receiver agreed f (sym e) in
-      let s = count-most (rowsOf sender) in
-      let r = count-most (rowsOf receiver) (aloneAt receiver sender) in
-      let h = m .of-sender .few in
-      let k = m .of-receiver .few in (
-        omega (arith, ap (λ (g : Figures). g .agreed) q, s (agreedAt sender receiver agreed)),
-        omega (arith, ap (λ (g : Figures). g .cut) q, s (cutAt sender receiver agreed)),
-        omega (arith, ap (λ (g : Figures). g .sender) q, s (aloneAt sender receiver)),
-        omega (arith, ap (λ (g : Figures). g .receiver) q),
-      )
+      omega (arith, told-meters sender receiver agreed f (sym e), sender-rows sender receiver agreed f (sym e), receiver-rows sender receiver agreed f (sym e))
   settle-fits (Refused n s p) e = go (firstNo (settleQuestions sender receiver agreed)) (settle-small sender receiver agreed) e
     where
       go : (a : Answer) → Small limit a → settlementTold (Refused n s p) ≡ settlementTold (settlementBy a (settledFigures sender receiver agreed))
           → Fit (2 ^ 63) (Refused n s p)
       go Yes w e = let t = ap (λ (x : Told). length (x .values)) e in let z : ⊥ = omega arith in absurd z
-      go (No m t q) w e =
-          let a = ap (λ (x : Told). x .number) e in
-          let b = ap (λ (x : Told). natAbs (getD (x .values) 0 (pos 0))) e in
-          let c = ap (λ (x : Told). natAbs (getD (x .values) 1 (pos 0))) e in
-          (omega arith, omega arith, omega arith)
+      go (No m t q) w e = let k = subst (Small limit) (sym (told-same (No n s p) (No m t q) e)) w in omega (arith, k)

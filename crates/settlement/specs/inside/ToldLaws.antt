@@ -1,11 +1,10 @@
 -- Figures that are told are those of the law, and then no question of 60 to 62 has a "no"; by the case of the answer.
 -- Assumes nothing.
 use mathlib.Core.Bool.{true}
-use mathlib.Core.List.{List, [], _∷_}
-use mathlib.Core.Path.{_≡_, refl, sym, ap, _∙_}
-use Prim.Native.Nat.{ℕ}
+use mathlib.Core.List.{List}
+use mathlib.Core.Path.{_≡_, refl, sym, ap}
 use native.Mathlib.Omega.{arith}
-use lib.IntN.{ℤ, pos}
+use lib.IntN.{ℤ}
 use lib.ListN.{length}
 use Rattle.numbers.specs.law.Told.{Told}
 use Rattle.numbers.specs.law.Question.{firstNo}

@@ -44,29 +44,33 @@ with-receiver-requires c κs =
 
 returns : tie.Need-returns
 returns c =
-    let k = c .before in
+    let w = c .before in
+    let k = w .before in
     let t = k .before .before in
     let b = t .before .before .before .before in
     let s = kept-is (k .before .grams .ok) (k .before .grams .ensures) in
-    let f = simp (s, kept-is (k .grams2 .ok) (k .grams2 .ensures), toZ-ofZ (b .fits .agreed)) at (c .with-pair .ensures) in
-    (both-settled (b .pre .0) (b .pre .1) (both t) (c .with-pair .result) f, omega arith)
+    let f = simp (s, kept-is (k .grams2 .ok) (k .grams2 .ensures), toZ-ofZ (b .fits .agreed)) at (w .with-pair .ensures) in
+    rw (c .passed .ensures) (both-settled (b .pre .0) (b .pre .1) (both t) (w .with-pair .result) f, omega arith)
 
 returns-2 : tie.Need-returns-2
 returns-2 c =
-    let k = c .before in
+    let w = c .before in
+    let k = w .before in
     let b = k .before .before .before .before .before in
-    let f = simp (kept-is (k .grams3 .ok) (k .grams3 .ensures)) at (c .with-sender .ensures) in
-    (sender-settled (b .pre .0) (b .pre .1) (sender (k .before)) (c .with-sender .result) f, omega arith)
+    let f = simp (kept-is (k .grams3 .ok) (k .grams3 .ensures)) at (w .with-sender .ensures) in
+    rw (c .passed2 .ensures) (sender-settled (b .pre .0) (b .pre .1) (sender (k .before)) (w .with-sender .result) f, omega arith)
 
 returns-3 : tie.Need-returns-3
 returns-3 c =
-    let k = c .before in
+    let w = c .before in
+    let k = w .before in
     let b = k .before .before .before .before .before in
-    let f = simp (kept-is (k .grams4 .ok) (k .grams4 .ensures)) at (c .with-receiver .ensures) in
-    (receiver-settled (b .pre .0) (b .pre .1) (receiver (k .before)) (c .with-receiver .result) f, omega arith)
+    let f = simp (kept-is (k .grams4 .ok) (k .grams4 .ensures)) at (w .with-receiver .ensures) in
+    rw (c .passed3 .ensures) (receiver-settled (b .pre .0) (b .pre .1) (receiver (k .before)) (w .with-receiver .result) f, omega arith)
 
 pub advance-spec : {M : Type 1} → statement M
 advance-spec = tie.close (tie.spec
-    (λ c κs. search needs) (λ c. search needs) (λ c. search needs) (λ c. search needs) (λ c κs. both c .0) (λ c κs. both (c .before) .1)
-    with-pair-requires (λ c. search needs) (λ c. search needs) (λ c κs. sender c .0) with-sender-requires (λ c. search needs) (λ c. search needs)
-    (λ c κs. receiver c .0) with-receiver-requires returns returns-2 returns-3)
+    (λ c κs. search needs) (λ c. search needs) (λ c κs. both c .0) (λ c κs. both (c .before) .1) with-pair-requires (λ c. search needs)
+    (λ c. search needs) (λ c κs. search needs) (λ c. search needs) (λ c. search needs) (λ c κs. sender c .0) with-sender-requires
+    (λ c κs. search needs) (λ c. search needs) (λ c. search needs) (λ c κs. receiver c .0) with-receiver-requires (λ c κs. search needs)
+    returns returns-2 returns-3)
