@@ -1,1 +1,2 @@
+-- What most proofs of this crate cite.
 pub mod Common

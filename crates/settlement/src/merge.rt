@@ -130,11 +130,13 @@ fn advance(sender: &[i64], receiver: &[i64], agreed: i64, m: Merged) -> Merged
     }
 }
 
-pub(crate) fn merge(sender: &[i64], receiver: &[i64], agreed: i64) -> Figures
+// The rows up to the end of one of the records.
+fn merge_both(sender: &[i64], receiver: &[i64], agreed: i64) -> Merged
     requires { ⌜ Meters (now sender) (now receiver) ⌝ }
-    ensures { λ f. ⌜ f ≡ settledFigures (now (sender .entry)) (now (receiver .entry)) agreed ⌝ }
+    ensures { λ m. ⌜ Merging (now (sender .entry)) (now (receiver .entry)) agreed m ⌝ }
 {
-    let rows = sender.len() / 2 + receiver.len() / 2;
+    let sent = sender.len() / 2;
+    let received = receiver.len() / 2;
     let mut m = Merged {
         i: 0,
         j: 0,
@@ -146,6 +148,22 @@ pub(crate) fn merge(sender: &[i64], receiver: &[i64], agreed: i64) -> Figures
             receiver: 0,
         },
     };
+    while m.i < sent {
+        if received <= m.j {
+            return m;
+        }
+        m = advance(sender, receiver, agreed, m);
+    }
+    m
+}
+
+// The rest of the longer one is settled after that: so the loop over both has no more tests than it needs.
+pub(crate) fn merge(sender: &[i64], receiver: &[i64], agreed: i64) -> Figures
+    requires { ⌜ Meters (now sender) (now receiver) ⌝ }
+    ensures { λ f. ⌜ f ≡ settledFigures (now (sender .entry)) (now (receiver .entry)) agreed ⌝ }
+{
+    let rows = sender.len() / 2 + receiver.len() / 2;
+    let mut m = merge_both(sender, receiver, agreed);
     while m.i + m.j < rows {
         m = advance(sender, receiver, agreed, m);
     }

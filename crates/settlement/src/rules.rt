@@ -1,10 +1,12 @@
 // 60 to 62.
 ghost use mathlib.Core.Path.{_≡_};
-ghost use mathlib.Core.Bool.{_&&_};
+ghost use mathlib.Core.Bool.{true, _&&_};
 ghost use Prim.Native.Nat.{_<_};
+ghost use Rattle.numbers.specs.declared.answer.Answer.the-variants.{Yes};
 ghost use Rattle.numbers.specs.law.Question.{firstNo};
 ghost use Rattle.settlement.specs.law.Records.{rowsOf};
 ghost use Rattle.settlement.specs.law.RecordRules.{inGrams, wholeRows, rises, timeQuestions, massQuestions, settleQuestions};
+ghost use Rattle.settlement.specs.inside.Asked.{rowQuestions};
 use super::records::grams;
 use super::records::time;
 use numbers::answer::Answer;
@@ -92,6 +94,37 @@ fn records_kept(sender: &[i64], receiver: &[i64], agreed: i64) -> bool
     }
 }
 
+// Does every row keep 61 and 62? One pass over a record; which "no" is the first is asked only where there is one.
+fn rows_kept(meter: &[i64]) -> bool
+    ensures { λ r. ⌜ (r ≡ true → (firstNo (timeQuestions (now (meter .entry))) ≡ Yes) × (firstNo (massQuestions (now (meter .entry))) ≡ Yes)) ⌝ }
+{
+    let rows = meter.len() / 2;
+    let mut i: usize = 0;
+    while i < rows {
+        if !rises(meter, i) {
+            return false;
+        }
+        if !in_grams(grams(meter, i)) {
+            return false;
+        }
+        i += 1;
+    }
+    true
+}
+
+// 61 and 62 of both records, in order.
+fn rows_asked(sender: &[i64], receiver: &[i64]) -> Answer
+    ensures { λ r. ⌜ r ≡ firstNo (rowQuestions (now (sender .entry)) (now (receiver .entry))) ⌝ }
+{
+    if rows_kept(sender) {
+        if rows_kept(receiver) {
+            return Answer::Yes;
+        }
+    }
+    let rest = or_else(masses(sender), masses(receiver));
+    or_else(times(sender), or_else(times(receiver), rest))
+}
+
 // The others are asked only where 60 has a yes, so that no list is gone through that is too long.
 pub(crate) fn asked(sender: &[i64], receiver: &[i64], agreed: i64) -> Answer
     ensures { λ r. ⌜ r ≡ firstNo (settleQuestions (now (sender .entry)) (now (receiver .entry)) agreed) ⌝ }
@@ -103,6 +136,5 @@ pub(crate) fn asked(sender: &[i64], receiver: &[i64], agreed: i64) -> Answer
             place: 0,
         };
     }
-    let rest = or_else(masses(sender), masses(receiver));
-    or_else(times(sender), or_else(times(receiver), rest))
+    rows_asked(sender, receiver)
 }

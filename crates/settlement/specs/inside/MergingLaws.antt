@@ -74,31 +74,44 @@ module _ (sender receiver : List ℤ) (agreed : ℤ) (i : ℕ) {x : Found} (e : 
 -- ---- the figures with one turn more
 
 module _ (sender receiver : List ℤ) (agreed : ℤ) (i j : ℕ) where
+  abbrev stood : ℕ → ℤ
+  stood = standingAt sender receiver agreed
+
+  abbrev lone : ℕ → ℤ
+  lone = aloneGrams receiver sender
+
   pair-turn : opposite sender receiver i ≡ found (gramsOf receiver j) → opposite receiver sender j ≡ found (gramsOf sender i)
       → figuresTo sender receiver agreed (i + 1) (j + 1) ≡ pairAdded (figuresTo sender receiver agreed i j) agreed (gramsOf sender i) (gramsOf receiver j)
   unfolding figuresTo
-  pair-turn e k = same-figures
-      (ap₂ _+ℤ_ (sum-with (standingAt sender receiver agreed) i (standing-is sender receiver agreed i e)) (sum-with (aloneGrams receiver sender) j (alone-grams receiver sender agreed j k))
-      ∙ beside (sum i (standingAt sender receiver agreed)) (sum j (aloneGrams receiver sender)) (settledPair agreed (gramsOf sender i) (gramsOf receiver j)))
-      (count-with (agreedAt sender receiver agreed) i (agreed-is sender receiver agreed i e)) (count-with (cutAt sender receiver agreed) i (cut-is sender receiver agreed i e))
-      (count-with (aloneAt sender receiver) i (alone-is sender receiver agreed i e) ∙ omega arith) (count-with (aloneAt receiver sender) j (alone-is receiver sender agreed j k) ∙ omega arith)
+  pair-turn e k =
+      let s = sum-with stood i (standing-is sender receiver agreed i e) in
+      let r = sum-with lone j (alone-grams receiver sender agreed j k) in
+      same-figures
+      (ap₂ _+ℤ_ s r ∙ beside (sum i stood) (sum j lone) (settledPair agreed (gramsOf sender i) (gramsOf receiver j)))
+      (count-with (agreedAt sender receiver agreed) i (agreed-is sender receiver agreed i e))
+      (count-with (cutAt sender receiver agreed) i (cut-is sender receiver agreed i e))
+      (count-with (aloneAt sender receiver) i (alone-is sender receiver agreed i e) ∙ omega arith)
+      (count-with (aloneAt receiver sender) j (alone-is receiver sender agreed j k) ∙ omega arith)
 
   sender-turn : opposite sender receiver i ≡ missing
       → figuresTo sender receiver agreed (i + 1) j ≡ senderAdded (figuresTo sender receiver agreed i j) (gramsOf sender i)
   unfolding figuresTo
   sender-turn e = same-figures
-      (ap (λ (z : ℤ). z +ℤ sum j (aloneGrams receiver sender)) (sum-with (standingAt sender receiver agreed) i (standing-is sender receiver agreed i e))
-      ∙ before (sum i (standingAt sender receiver agreed)) (sum j (aloneGrams receiver sender)) (gramsOf sender i))
-      (count-with (agreedAt sender receiver agreed) i (agreed-is sender receiver agreed i e) ∙ omega arith) (count-with (cutAt sender receiver agreed) i (cut-is sender receiver agreed i e) ∙ omega arith)
-      (count-with (aloneAt sender receiver) i (alone-is sender receiver agreed i e)) refl
+      (ap (λ (z : ℤ). z +ℤ sum j lone) (sum-with stood i (standing-is sender receiver agreed i e)) ∙ before (sum i stood) (sum j lone) (gramsOf sender i))
+      (count-with (agreedAt sender receiver agreed) i (agreed-is sender receiver agreed i e) ∙ omega arith)
+      (count-with (cutAt sender receiver agreed) i (cut-is sender receiver agreed i e) ∙ omega arith)
+      (count-with (aloneAt sender receiver) i (alone-is sender receiver agreed i e))
+      refl
 
   receiver-turn : opposite receiver sender j ≡ missing
       → figuresTo sender receiver agreed i (j + 1) ≡ receiverAdded (figuresTo sender receiver agreed i j) (gramsOf receiver j)
   unfolding figuresTo
   receiver-turn e = same-figures
-      (ap (λ (z : ℤ). sum i (standingAt sender receiver agreed) +ℤ z) (sum-with (aloneGrams receiver sender) j (alone-grams receiver sender agreed j e))
-      ∙ after (sum i (standingAt sender receiver agreed)) (sum j (aloneGrams receiver sender)) (gramsOf receiver j))
-      refl refl refl (count-with (aloneAt receiver sender) j (alone-is receiver sender agreed j e))
+      (ap (λ (z : ℤ). sum i stood +ℤ z) (sum-with lone j (alone-grams receiver sender agreed j e)) ∙ after (sum i stood) (sum j lone) (gramsOf receiver j))
+      refl
+      refl
+      refl
+      (count-with (aloneAt receiver sender) j (alone-is receiver sender agreed j e))
 
 -- ---- which rows are passed
 
@@ -155,7 +168,8 @@ module _ {sender receiver : List ℤ} {agreed : ℤ} (k : Meters sender receiver
         sender-passed = pass-both sender receiver (k .of-sender) i j (e .0) (k .of-receiver) (e .2);
         receiver-passed = pass-both receiver sender (k .of-receiver) j i (e .1) (k .of-sender) (sym (e .2));
         small = rw g (omega (arith, grown x));
-        so-far = g ∙ ap (λ (y : Figures). pairAdded y agreed (gramsOf sender i) (gramsOf receiver j)) (h .so-far) ∙ sym (pair-turn sender receiver agreed i j n o);
+        so-far =
+            g ∙ ap (λ (y : Figures). pairAdded y agreed (gramsOf sender i) (gramsOf receiver j)) (h .so-far) ∙ sym (pair-turn sender receiver agreed i j n o);
       }
 
   pub sender-settled : Earliest sender receiver (m .i) (m .j) Sender → (f : Figures) → f ≡ senderAdded (m .figures) (gramsOf sender (m .i))

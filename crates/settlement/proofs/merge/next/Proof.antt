@@ -14,8 +14,11 @@ returns-2 c = (c .before .if1 .left, λ h. absurd (omega (arith, h, c .if2 .take
 
 -- the two times as they were read
 module _ (t : tie.After-time2) where
-  times : (toZ w64 (ofZ w64 (t .before .time .result)) ≡ timeOf (now (t .before .before .before .before .args .sender)) (t .before .before .before .before .args .i))
-      × (toZ w64 (ofZ w64 (t .time2 .result)) ≡ timeOf (now (t .before .before .before .before .args .receiver)) (t .before .before .before .before .args .j))
+  abbrev start : tie.Start
+  start = t .before .before .before .before
+
+  times : (toZ w64 (ofZ w64 (t .before .time .result)) ≡ timeOf (now (start .args .sender)) (start .args .i))
+      × (toZ w64 (ofZ w64 (t .time2 .result)) ≡ timeOf (now (start .args .receiver)) (start .args .j))
   times = (kept-is (t .before .time .ok) (t .before .time .ensures), kept-is (t .time2 .ok) (t .time2 .ensures))
 
 returns-3 : tie.Need-returns-3
