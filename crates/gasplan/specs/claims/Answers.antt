@@ -26,6 +26,12 @@ use Rattle.plan.specs.law.Ledger.{ledgerQuestions, ledgerBy, ledgerTold, ledger
 use Rattle.plan.specs.law.Vouched.{figuresFor}
 use Rattle.plan.specs.inside.SmallRefusals.{ledger-small}
 use Rattle.plan.specs.claims.BytesAccepted.{zero-accepted}
+use Rattle.settlement.specs.declared.figures.Figures as settled
+use Rattle.settlement.specs.declared.figures.Settlement.the-variants.{Settled}
+use Rattle.settlement.specs.law.RecordRules.{settleQuestions}
+use Rattle.settlement.specs.law.Settled.{settledFigures}
+use Rattle.settlement.specs.law.Settling.{settlementTold, settlementBy, settleOf}
+use Rattle.settlement.specs.inside.SettlementSizes.{limit as rowLimit, settle-small}
 use Rattle.gasplan.specs.law.Out.{codeOf}
 
 -- an answer 0 tells the number 0, and with 6 places in `out` the other way round
@@ -48,6 +54,10 @@ ledger-yes : (a : Answer) (f : Figures) → Small limit a → ledgerTold (ledger
 ledger-yes Yes f s e = refl
 ledger-yes (No n i p) f s e = let z : ⊥ = omega (arith, s .3, e) in absurd z
 
+settle-yes : (a : Answer) (f : settled.Figures) → Small rowLimit a → settlementTold (settlementBy a f) .number ≡ 0 → a ≡ Yes
+settle-yes Yes f s e = refl
+settle-yes (No n i p) f s e = let z : ⊥ = omega (arith, s .3, e) in absurd z
+
 -- Where `gasplan_case` answers 0 the case is accepted.
 pub case-zero : (case out : List ℤ) → codeOf out (judgedCase case) ≡ pos 0 → judgedCase case ≡ gives []
 unfolding judgedCase
@@ -66,10 +76,24 @@ ledger-zero case plan out set s t e =
     let n = code-zero out (ledgerOf case plan set s t) e in
     ap (λ (a : Answer). ledgerTold (ledgerBy a f)) (ledger-yes (firstNo (ledgerQuestions case plan set s t)) f (ledger-small case plan set s t) n)
 
--- With 6 places in `out` an accepted case or plan is answered by 0.
+-- Where `gasplan_settle` answers 0 the records are settled, and it tells their figures.
+pub settle-zero : (sender receiver out : List ℤ) (agreed : ℤ) → codeOf out (settleOf sender receiver agreed) ≡ pos 0
+    → settleOf sender receiver agreed ≡ settlementTold (Settled (settledFigures sender receiver agreed))
+unfolding settleOf
+settle-zero sender receiver out agreed e =
+    let f = settledFigures sender receiver agreed in
+    let n = code-zero out (settleOf sender receiver agreed) e in
+    ap (λ (a : Answer). settlementTold (settlementBy a f))
+    (settle-yes (firstNo (settleQuestions sender receiver agreed)) f (settle-small sender receiver agreed) n)
+
+-- With 6 places in `out` an accepted case or plan is answered by 0, and so are records that are settled.
 pub zero-case : (case out : List ℤ) → 6 ≤ length out → judgedCase case ≡ gives [] → codeOf out (judgedCase case) ≡ pos 0
 zero-case case out room e = zero-code out (judgedCase case) room (ap (λ (t : Told). t .number) e)
 
 pub zero-judge : (case plan out : List ℤ) → 6 ≤ length out → (totals : Totals) → judgeOf case plan ≡ verdictTold (Accepted totals)
     → codeOf out (judgeOf case plan) ≡ pos 0
 zero-judge case plan out room totals e = zero-code out (judgeOf case plan) room (ap (λ (t : Told). t .number) e)
+
+pub zero-settle : (sender receiver out : List ℤ) (agreed : ℤ) → 6 ≤ length out → (f : settled.Figures)
+    → settleOf sender receiver agreed ≡ settlementTold (Settled f) → codeOf out (settleOf sender receiver agreed) ≡ pos 0
+zero-settle sender receiver out agreed room f e = zero-code out (settleOf sender receiver agreed) room (ap (λ (t : Told). t .number) e)
