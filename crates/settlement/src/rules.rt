@@ -4,7 +4,7 @@ ghost use mathlib.Core.Bool.{true, _&&_};
 ghost use Prim.Native.Nat.{_<_};
 ghost use Rattle.numbers.specs.declared.answer.Answer.the-variants.{Yes};
 ghost use Rattle.numbers.specs.law.Question.{firstNo};
-ghost use Rattle.settlement.specs.law.Records.{rowsOf};
+ghost use Rattle.settlement.specs.law.Records.{rowsOf, gramsOf};
 ghost use Rattle.settlement.specs.law.RecordRules.{inGrams, wholeRows, rises, timeQuestions, massQuestions, settleQuestions};
 ghost use Rattle.settlement.specs.inside.Asked.{rowQuestions};
 use super::records::grams;
@@ -94,6 +94,18 @@ fn records_kept(sender: &[i64], receiver: &[i64], agreed: i64) -> bool
     }
 }
 
+// 61 and 62 of one row.
+fn row_kept(meter: &[i64], i: usize) -> bool
+    requires { ⌜ i < rowsOf (now meter) ⌝ }
+    ensures { λ r. ⌜ r ≡ (rises (now (meter .entry)) i && inGrams (gramsOf (now (meter .entry)) i)) ⌝ }
+{
+    if rises(meter, i) {
+        in_grams(grams(meter, i))
+    } else {
+        false
+    }
+}
+
 // Does every row keep 61 and 62? One pass over a record; which "no" is the first is asked only where there is one.
 fn rows_kept(meter: &[i64]) -> bool
     ensures { λ r. ⌜ (r ≡ true → (firstNo (timeQuestions (now (meter .entry))) ≡ Yes) × (firstNo (massQuestions (now (meter .entry))) ≡ Yes)) ⌝ }
@@ -101,10 +113,7 @@ fn rows_kept(meter: &[i64]) -> bool
     let rows = meter.len() / 2;
     let mut i: usize = 0;
     while i < rows {
-        if !rises(meter, i) {
-            return false;
-        }
-        if !in_grams(grams(meter, i)) {
+        if !row_kept(meter, i) {
             return false;
         }
         i += 1;

@@ -1,12 +1,12 @@
--- The rows before `i` keep both questions (`Asking`, of each); what `rises` and `in_grams` answer decides for `i`.
-use Rattle.settlement.proofs.Common.{needs, arith, refl, sym, ap, _∙_, _-_}
+-- The rows before `i` keep both questions (`Asking`, of each); what `row_kept` answers decides for `i`.
+use Rattle.settlement.proofs.Common.{arith, refl, sym, _∙_, _-_, now}
 use mathlib.Core.Bool.{false≢true}
 use borrow.Author.Tests.{not-false}
 use Rattle.numbers.specs.law.Question.{firstNo}
 use Rattle.numbers.specs.inside.ItemLaws.{Asking, asking, asking-on, asking-end}
-use Rattle.numbers.specs.inside.SignedLocals.{kept-is}
-use Rattle.settlement.specs.law.Records.{rowsOf}
-use Rattle.settlement.specs.law.RecordRules.{inGrams, timeQuestion, timeQuestions, massQuestion, massQuestions}
+use Rattle.numbers.specs.inside.QuestionLaws.{and-first, and-second}
+use Rattle.settlement.specs.law.Records.{rowsOf, gramsOf}
+use Rattle.settlement.specs.law.RecordRules.{inGrams, rises, timeQuestion, timeQuestions, massQuestion, massQuestions}
 use Rattle.settlement.proofs.rules.rows_kept.Statement.{statement}
 use Rattle.settlement.proofs.rules.rows_kept.Tie as tie
 
@@ -25,21 +25,21 @@ loop-holds c = (asking refl, asking refl)
 loop-again : tie.Need-loop-again Inv-loop μ-loop
 unfolding timeQuestion massQuestion
 loop-again c =
-    let m = c .before in
-    let g = m .before in
-    let r = g .before .before in
-    let h = r .before .before .loop .inv in
-    let l = r .before .loop-test .taken in
-    let rising = sym (r .rises .ensures) ∙ not-false _ (g .before .if1 .left) in
-    let sized = sym (m .in-grams .ensures ∙ ap inGrams (kept-is (g .grams .ok) (g .grams .ensures))) ∙ not-false _ (c .if2 .left) in
-    (asking-on (h .0) l (rw rising) refl, asking-on (h .1) l (rw sized) refl)
+    let r = c .before in
+    let l = r .before .before in
+    let h = l .loop .inv in
+    let meter = now (l .before .args .meter) in
+    let kept = sym (r .row-kept .ensures) ∙ not-false _ (c .if1 .left) in
+    let rising = and-first (rises meter (l .loop .i)) _ kept in
+    let sized = and-second (rises meter (l .loop .i)) (inGrams (gramsOf meter (l .loop .i))) kept in
+    (asking-on (h .0) (r .before .loop-test .taken) (rw rising) refl, asking-on (h .1) (r .before .loop-test .taken) (rw sized) refl)
 
-returns-3 : tie.Need-returns-3 Inv-loop μ-loop
-returns-3 c =
+returns-2 : tie.Need-returns-2 Inv-loop μ-loop
+returns-2 c =
     let h = c .before .loop .inv in
     λ _. (sym (asking-end (h .0) (c .loop-test .left)), sym (asking-end (h .1) (c .loop-test .left)))
 
 pub rows-kept-spec : {M : Type 1} → statement M
 rows-kept-spec = tie.close (tie.spec
-    Inv-loop μ-loop loop-holds (λ c κs. c .loop-test .taken) (λ c e. absurd (false≢true e)) (λ c κs. c .before .before .loop-test .taken)
-    (λ c κs. search needs) (λ c e. absurd (false≢true e)) (λ c. omega arith) (λ c. omega arith) loop-again returns-3)
+    Inv-loop μ-loop loop-holds (λ c κs. c .loop-test .taken) (λ c e. absurd (false≢true e)) (λ c. omega arith) (λ c. omega arith)
+    loop-again returns-2)
