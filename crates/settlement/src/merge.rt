@@ -1,5 +1,6 @@
 // Two records, settled in one pass over both.
 ghost use mathlib.Core.Bool.{cond};
+ghost use mathlib.Core.Logic.{_⊎_};
 ghost use mathlib.Core.Path.{_≡_};
 ghost use Prim.Native.Nat.{_+_, _<_, _≤_};
 ghost use lib.Signed.{leZ};
@@ -134,6 +135,7 @@ fn advance(sender: &[i64], receiver: &[i64], agreed: i64, m: Merged) -> Merged
 fn merge_both(sender: &[i64], receiver: &[i64], agreed: i64) -> Merged
     requires { ⌜ Meters (now sender) (now receiver) ⌝ }
     ensures { λ m. ⌜ Merging (now (sender .entry)) (now (receiver .entry)) agreed m ⌝ }
+    ensures { λ m. ⌜ (m .i ≡ rowsOf (now (sender .entry))) ⊎ (m .j ≡ rowsOf (now (receiver .entry))) ⌝ }
 {
     let sent = sender.len() / 2;
     let received = receiver.len() / 2;
@@ -157,7 +159,7 @@ fn merge_both(sender: &[i64], receiver: &[i64], agreed: i64) -> Merged
     m
 }
 
-// The rest of the longer one is settled after that: so the loop over both has no more tests than it needs.
+// First while both records have rows, then the rows that one of them has left: in the first loop the ends are not asked for twice.
 pub(crate) fn merge(sender: &[i64], receiver: &[i64], agreed: i64) -> Figures
     requires { ⌜ Meters (now sender) (now receiver) ⌝ }
     ensures { λ f. ⌜ f ≡ settledFigures (now (sender .entry)) (now (receiver .entry)) agreed ⌝ }

@@ -1,12 +1,11 @@
 // 60 to 62.
 ghost use mathlib.Core.Path.{_≡_};
-ghost use mathlib.Core.Bool.{true, _&&_};
+ghost use mathlib.Core.Bool.{_&&_};
 ghost use Prim.Native.Nat.{_<_};
-ghost use Rattle.numbers.specs.declared.answer.Answer.the-variants.{Yes};
-ghost use Rattle.numbers.specs.law.Question.{firstNo};
+ghost use Rattle.numbers.specs.law.Question.{firstNo, orElse};
 ghost use Rattle.settlement.specs.law.Records.{rowsOf, gramsOf};
 ghost use Rattle.settlement.specs.law.RecordRules.{inGrams, wholeRows, rises, timeQuestions, massQuestions, settleQuestions};
-ghost use Rattle.settlement.specs.inside.Asked.{rowQuestions};
+ghost use Rattle.settlement.specs.inside.Asked.{rowQuestions, noneRefused};
 use super::records::grams;
 use super::records::time;
 use numbers::answer::Answer;
@@ -108,7 +107,7 @@ fn row_kept(meter: &[i64], i: usize) -> bool
 
 // Does every row keep 61 and 62? One pass over a record; which "no" is the first is asked only where there is one.
 fn rows_kept(meter: &[i64]) -> bool
-    ensures { λ r. ⌜ (r ≡ true → (firstNo (timeQuestions (now (meter .entry))) ≡ Yes) × (firstNo (massQuestions (now (meter .entry))) ≡ Yes)) ⌝ }
+    ensures { λ r. ⌜ r ≡ noneRefused (orElse (firstNo (timeQuestions (now (meter .entry)))) (firstNo (massQuestions (now (meter .entry))))) ⌝ }
 {
     let rows = meter.len() / 2;
     let mut i: usize = 0;

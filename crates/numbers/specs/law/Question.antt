@@ -7,7 +7,7 @@ use Rattle.numbers.specs.law.Told.{Told, gives, refuses}
 use Rattle.numbers.specs.declared.answer.Answer.{Answer}
 use Rattle.numbers.specs.declared.answer.Answer.the-variants.{Yes, No}
 
--- A question with document 01's number, and the step and the place that a "no" has.
+-- A question with its number in the documents, and the step and the place that a "no" has.
 pub record Question : Type 0 where
   pub yes : Bool
   pub number : ℕ

@@ -1,4 +1,4 @@
--- What is told of an answer, in document 01's numbers.
+-- What is told of an answer, in the documents' numbers.
 -- Assumes nothing.
 use mathlib.Core.List.{List, [], _∷_, _++_}
 use Prim.Native.Nat.{ℕ}

@@ -3,8 +3,8 @@
 -- Assumes nothing.
 use mathlib.Core.Bool.{Bool, true, false, not}
 use mathlib.Core.List.{List}
-use mathlib.Core.Path.{_≡_, refl, ap}
-use Prim.Native.Nat.{ℕ, _+_}
+use mathlib.Core.Path.{_≡_, refl, sym, ap}
+use Prim.Native.Nat.{ℕ, _+_, _<_}
 use native.Mathlib.Omega.{arith}
 use lib.IntN.{ℤ}
 use Rattle.numbers.specs.law.Sums.{sumN, onlyN, count}
@@ -16,6 +16,7 @@ use Rattle.settlement.specs.law.LookUp.{Found, found, missing}
 use Rattle.settlement.specs.law.Settled.{agrees, isAgreed, isCut, isMissing, opposite, agreedAt, cutAt, aloneAt, settledFigures}
 use Rattle.settlement.specs.law.Settling.{settlementTold, settleOf}
 use Rattle.settlement.specs.inside.Merging.{Meter}
+use Rattle.settlement.specs.inside.LookUpLaws.{row-found}
 use Rattle.settlement.specs.inside.TimeCounts.{rowsWith, one-or-missing, among-either}
 use Rattle.settlement.specs.inside.ToldLaws.{told-figures, told-meters}
 
@@ -50,6 +51,14 @@ module _ (sender receiver : List ℤ) (agreed : ℤ) (f : Figures) (e : settleOf
   -- A receiver's row is the pair of one sender's row, or is alone.
   pub receiver-once : (j : ℕ) → rowsWith sender (timeOf receiver j) (rowsOf sender) + onlyN (aloneAt receiver sender j) 1 ≡ 1
   receiver-once = alone-or-pair receiver (told-meters sender receiver agreed f e .of-sender)
+
+  -- Two rows of one time are a pair: neither is alone, so the sender's is agreed or cut (`sender-once`) and the receiver's is counted with it.
+  pub pair-once : (i j : ℕ) → i < rowsOf sender → j < rowsOf receiver → timeOf sender i ≡ timeOf receiver j
+      → (aloneAt sender receiver i ≡ false) × (aloneAt receiver sender j ≡ false)
+  unfolding aloneAt
+  pair-once i j l h q =
+      let m = told-meters sender receiver agreed f e in
+      (ap isMissing (row-found sender (m .of-receiver) i j h q), ap isMissing (row-found receiver (m .of-sender) j i l (sym q)))
 
   pub sender-rows : f .agreed + f .cut + f .sender ≡ rowsOf sender
   unfolding settledFigures count

@@ -19,7 +19,7 @@ use Rattle.settlement.specs.law.Settled.{agrees, opposite, cutAt, aloneA
 use Rattle.settlement.specs.law.Settling.{settlementTold, settleOf}
 use Rattle.settlement.specs.inside.LookUpLaws.{row-found}
 use Rattle.settlement.specs.inside.ToldLaws.{told-figures, told-meters}
-use Rattle.settlement.specs.claims.SettleRules.{sound, complete}
+use Rattle.settlement.specs.claims.SettleRules.{InGrams, MeterRules, sound, complete}
 use Rattle.settlement.specs.claims.Counted.{sender-rows}
 use Rattle.settlement.specs.claims.Totals.{allGrams, total-of-sender}
 
@@ -61,11 +61,10 @@ module _ (meter : List ℤ) (agreed : ℤ) (f : Figures) (e : settleOf meter met
     receiver = none-alone .1;
   }
 
--- A record that is settled with any other is settled with itself.
-pub itself-settled : (meter other : List ℤ) (agreed : ℤ) (f : Figures) → settleOf meter other agreed ≡ settlementTold (Settled f)
+-- A record that keeps its rules is settled with itself, whichever of the two it was recorded for.
+pub itself-settled : (meter : List ℤ) (agreed : ℤ) → MeterRules meter → InGrams agreed
     → settleOf meter meter agreed ≡ gives (allGrams meter ∷ pos (rowsOf meter) ∷ pos 0 ∷ pos 0 ∷ pos 0 ∷ [])
-itself-settled meter other agreed f e =
-    let r = sound meter other agreed f e in
-    let s = complete meter meter agreed (record { of-sender = r .of-sender; of-receiver = r .of-sender; within = r .within }) in
+itself-settled meter agreed m g =
+    let s = complete meter meter agreed (record { of-sender = m; of-receiver = m; within = g }) in
     let o = same-records meter agreed (settledFigures meter meter agreed) s in
     s ∙ rw (o .total, o .agreed, o .cut, o .sender, o .receiver)

@@ -1,15 +1,16 @@
 -- What the answers to 60 to 62 say of the two records.
 -- Assumes nothing.
-use mathlib.Core.Bool.{true, _&&_}
+use mathlib.Core.Bool.{Bool, true, false, false≢true, _&&_}
 use mathlib.Core.List.{List, [], _∷_, _++_}
-use mathlib.Core.Path.{_≡_}
-use Prim.Native.Nat.{_≤_, _%_}
+use mathlib.Core.Path.{_≡_, refl}
+use Prim.Native.Nat.{ℕ, _≤_, _%_}
 use borrow.Author.Tests.{leb-true}
 use lib.Dec.{eqb}
 use lib.IntN.{ℤ}
 use lib.ListN.{length}
-use Rattle.numbers.specs.declared.answer.Answer.the-variants.{Yes}
-use Rattle.numbers.specs.law.Question.{Question, firstNo}
+use Rattle.numbers.specs.declared.answer.Answer.{Answer}
+use Rattle.numbers.specs.declared.answer.Answer.the-variants.{Yes, No}
+use Rattle.numbers.specs.law.Question.{Question, firstNo, orElse}
 use Rattle.numbers.specs.inside.QuestionLaws.{all-yes, first-yes, second-yes, and-first, and-second}
 use Rattle.numbers.specs.inside.ItemLaws.{item-yes}
 use Rattle.settlement.specs.law.Records.{rowsOf}
@@ -28,6 +29,23 @@ meter-of meter w t m = record {
   rising = λ i h. all-yes (timeQuestion meter i) (item-yes (timeQuestion meter) (rowsOf meter) t i h) .0;
   sized = λ i h. all-yes (massQuestion meter i) (item-yes (massQuestion meter) (rowsOf meter) m i h) .0;
 }
+
+-- is the answer a yes?
+abbrev pub noneRefused : Answer → Bool
+noneRefused Yes = true
+noneRefused (No number step place) = false
+
+pub first-refused : (a b : Answer) {n s p : ℕ} → a ≡ No n s p → noneRefused (orElse a b) ≡ false
+first-refused a b e = rw e
+
+pub second-refused : (a b : Answer) {n s p : ℕ} → b ≡ No n s p → noneRefused (orElse a b) ≡ false
+second-refused Yes b e = rw e
+second-refused (No n s p) b e = refl
+
+pub both-yes : (a b : Answer) → noneRefused (orElse a b) ≡ true → (a ≡ Yes) × (b ≡ Yes)
+both-yes Yes Yes e = (refl, refl)
+both-yes Yes (No n s p) e = absurd (false≢true e)
+both-yes (No n s p) b e = absurd (false≢true e)
 
 -- what is asked after 60
 abbrev pub rowQuestions : List ℤ → List ℤ → List Question

@@ -30,6 +30,6 @@ returns c =
 
 pub merge-spec : {M : Type 1} → statement M
 merge-spec = tie.close (tie.spec
-    Inv-loop μ-loop (λ c. omega arith) (λ c κs. c .pre) (λ c. c .merge-both .ensures)
+    Inv-loop μ-loop (λ c. omega arith) (λ c κs. c .pre) (λ c. c .merge-both .ensures .0)
     (λ c. let h = c .before .loop .inv in omega (arith, h .upto-sender, h .upto-receiver)) advance-requires
     (λ c. omega (arith, c .advance .ensures .1, c .before .if1 .taken)) loop-again returns)

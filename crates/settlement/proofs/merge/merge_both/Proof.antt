@@ -1,5 +1,6 @@
 -- `Merging` holds from turn to turn, each of which settles a row (`begun` at first).
 use Rattle.settlement.proofs.Common.{arith, _+_, _-_, now, w64, toZ, toZ-ofZ}
+use mathlib.Core.Logic.{inl, inr}
 use Rattle.settlement.specs.inside.Merging.{Merging}
 use Rattle.settlement.specs.inside.MergingLaws.{begun}
 use Rattle.settlement.proofs.merge.merge_both.Statement.{statement}
@@ -14,7 +15,7 @@ abbrev μ-loop : tie.MeasureT-loop
 returns : tie.Need-returns Inv-loop μ-loop
 returns c =
     let l = c .before .before .before .before in
-    simp (toZ-ofZ (l .before .fits .agreed)) at (l .loop .inv)
+    (simp (toZ-ofZ (l .before .fits .agreed)) at (l .loop .inv), inr (omega (arith, l .loop .inv .upto-receiver, c .if2 .taken)))
 
 advance-requires : tie.Need-advance-requires Inv-loop μ-loop
 advance-requires c κs =
@@ -32,7 +33,7 @@ loop-again c = c .advance .ensures .0
 returns-2 : tie.Need-returns-2 Inv-loop μ-loop
 returns-2 c =
     let l = c .before .before in
-    simp (toZ-ofZ (l .before .fits .agreed)) at (l .loop .inv)
+    (simp (toZ-ofZ (l .before .fits .agreed)) at (l .loop .inv), inl (omega (arith, l .loop .inv .upto-sender, c .if1 .left)))
 
 pub merge-both-spec : {M : Type 1} → statement M
 merge-both-spec = tie.close (tie.spec
