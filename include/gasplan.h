@@ -235,9 +235,9 @@ int64_t gasplan_ledger(const int64_t *case_list, size_t case_len,
  * smaller. For a time in one record alone that row's mass stands.
  *
  * 0     The five figures are in out[0] to out[4]: the settled total (g), which is the sum of what stands, and four counts of
- *       times: agreed, cut to the smaller, only in the sender's record, only in the receiver's. Each row is counted in one of
+ *       rows: agreed, cut to the smaller, only in the sender's record, only in the receiver's. Each row is counted in one of
  *       them, and the two rows of a time in both records as one. The total is at most 10^16.
- * 60    A record has a number too many for its rows, or more than GASPLAN_RECORD_MOST rows, or `agreed` is outside 0 to
+ * 60    A record has an odd count of numbers, or more than GASPLAN_RECORD_MOST rows, or `agreed` is outside 0 to
  *       GASPLAN_GRAMS_MOST. out[0] and out[1] are 0.
  * 61    The time is below 0, in row 0, or not above that of the row before. out[0] is 0 and out[1] is the row.
  * 62    The mass is outside 0 to GASPLAN_GRAMS_MOST. out[0] is 0 and out[1] is the row.

@@ -5,16 +5,20 @@ use std::hint::black_box;
 use gasplan::calls as proved;
 use harness::calls as plain;
 use inputs::Rng;
-use inputs::records::{MOST_ROWS, Row, list};
+use inputs::records::{MOST_GRAMS, MOST_ROWS, Row, list};
 
-use crate::alike::race;
+use crate::alike::race_to;
 use crate::race::Timer;
 
 /// What is agreed, in grams.
 const AGREED: i64 = 500;
 
-/// The rows of a record in the table of growth.
+/// The rows of a record in the tables of growth.
 const LENGTHS: [usize; 5] = [50, 158, 500, 1_581, 5_000];
+
+/// The answer where records settle, and where a mass is out of range.
+const SETTLED: i64 = 0;
+const MASS_REFUSED: i64 = 62;
 
 /// The sender's record and the receiver's.
 type Lists = [Vec<i64>; 2];
@@ -29,34 +33,45 @@ const INPUTS: [(&str, Make); 4] = [
     ("in any turns", in_any_turns),
 ];
 
+/// Records of no common time, and of all times common.
+const GROWING: [(&str, Make); 2] = [
+    ("in any turns", in_any_turns),
+    ("some masses apart", some_masses_apart),
+];
+
 pub fn print(timer: Timer) {
     println!("                                    microseconds per call");
     println!("records, rows of each               proved       map     ratio     merge     ratio");
     for (name, make) in INPUTS {
         let lists = make(&mut Rng::new(1), MOST_ROWS);
-        let seconds = settle_all(timer, &[lists]);
+        let seconds = settle_all(timer, SETTLED, &[lists]);
         print_row(&format!("{name}, {MOST_ROWS}"), seconds, 1e6);
     }
-    println!();
-    println!("                                    nanoseconds per row");
-    println!("records, rows of each               proved       map     ratio     merge     ratio");
-    for length in LENGTHS {
-        // As many rows in all as in the longest, so that no record's branches are learnt by heart.
-        let mut rng = Rng::new(1);
-        let records = (0..MOST_ROWS / length).map(|_| in_any_turns(&mut rng, length));
-        let all: Vec<Lists> = records.collect();
-        let rows = 2 * length * all.len();
-        let seconds = settle_all(timer, &all);
-        print_row(
-            &format!("in any turns, {length}"),
-            seconds,
-            1e9 / rows as f64,
-        );
+    let lists = wrong_at_the_end(&mut Rng::new(1), MOST_ROWS);
+    let seconds = settle_all(timer, MASS_REFUSED, &[lists]);
+    print_row(&format!("last mass refused, {MOST_ROWS}"), seconds, 1e6);
+    for (name, make) in GROWING {
+        println!();
+        print_growth(timer, name, make);
     }
 }
 
-/// Seconds to settle them all: proved, by the map and by the merge.
-fn settle_all(timer: Timer, all: &[Lists]) -> [f64; 3] {
+fn print_growth(timer: Timer, name: &str, make: Make) {
+    println!("                                    nanoseconds per row");
+    println!("records, rows of each               proved       map     ratio     merge     ratio");
+    for length in LENGTHS {
+        // About as many rows in all as in the longest, so that no record's branches are learnt by heart.
+        let mut rng = Rng::new(1);
+        let records = (0..MOST_ROWS / length).map(|_| make(&mut rng, length));
+        let all: Vec<Lists> = records.collect();
+        let rows = 2 * length * all.len();
+        let seconds = settle_all(timer, SETTLED, &all);
+        print_row(&format!("{name}, {length}"), seconds, 1e9 / rows as f64);
+    }
+}
+
+/// Seconds to settle them all, with answers that add up to this one: proved, by the map and by the merge.
+fn settle_all(timer: Timer, answer: i64, all: &[Lists]) -> [f64; 3] {
     let each = |settle: fn(&[i64], &[i64], i64, &mut [i64]) -> i64| {
         move |out: &mut [i64]| {
             let answers = all.iter().map(|[sender, receiver]| {
@@ -67,7 +82,7 @@ fn settle_all(timer: Timer, all: &[Lists]) -> [f64; 3] {
     };
     let calls = [proved::settle, plain::settle, plain::settle_merged];
     let [proved, map, merge] = calls.map(each);
-    race(timer, [&proved, &map, &merge])
+    race_to(timer, answer, [&proved, &map, &merge])
 }
 
 fn print_row(name: &str, seconds: [f64; 3], unit: f64) {
@@ -105,6 +120,13 @@ fn some_masses_apart(rng: &mut Rng, count: usize) -> Lists {
         }
     }
     [list(&sender), list(&receiver)]
+}
+
+/// The receiver's last mass is out of range, which is asked last of all.
+fn wrong_at_the_end(rng: &mut Rng, count: usize) -> Lists {
+    let [sender, mut receiver] = some_masses_apart(rng, count);
+    receiver[2 * count - 1] = MOST_GRAMS + 1;
+    [sender, receiver]
 }
 
 fn one_after_the_other(rng: &mut Rng, count: usize) -> Lists {

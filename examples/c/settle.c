@@ -3,17 +3,18 @@
  *     mkdir -p target/examples
  *     cc -std=c11 -I include examples/c/settle.c target/staticlib/libgasplan.a -o target/examples/settle-c
  *     target/examples/settle-c examples/meters 1800000 */
+#include <errno.h>
 #include <inttypes.h>
 #include <stdio.h>
 #include <stdlib.h>
 
 #include "gasplan.h"
 
-/* A row has two numbers. */
-#define NUMBERS (2 * GASPLAN_RECORD_MOST)
+/* A row has two numbers. A list has room for a row too many, so that 60 is asked of a record that is too long. */
+#define NUMBERS (2 * (GASPLAN_RECORD_MOST + 1))
 #define BYTES (NUMBERS * GASPLAN_NUMBER_BYTES)
 
-/* Lent to the library for the time of a call. Of a file that is longer than any record a byte too many is read, and refused. */
+/* Lent to the library for the time of a call. Of a file that is longer than the lists a byte too many is read. */
 static uint8_t bytes[BYTES + 1];
 static int64_t sender[NUMBERS];
 static int64_t receiver[NUMBERS];
@@ -43,10 +44,15 @@ static long load(const char *folder, const char *name, size_t room)
 /* The status is 0 for settled, 1 for refused and 2 where there is no verdict. */
 int main(int argc, char **argv)
 {
-    char *end = NULL;
-    long long agreed = argc == 3 ? strtoll(argv[2], &end, 10) : 0;
-    if (end == NULL || end == argv[2] || *end != '\0') {
+    if (argc != 3) {
         fprintf(stderr, "usage: settle-c FOLDER GRAMS\n");
+        return 2;
+    }
+    char *end = NULL;
+    errno = 0;
+    long long agreed = strtoll(argv[2], &end, 10);
+    if (errno != 0 || end == argv[2] || *end != '\0') {
+        fprintf(stderr, "%s is no whole number of 64 bits\n", argv[2]);
         return 2;
     }
     const char *names[] = {"sender.bin", "receiver.bin"};
@@ -58,9 +64,10 @@ int main(int argc, char **argv)
         if (size < 0)
             return 2;
         int64_t answer = gasplan_read(bytes, (size_t)size, lists[i], NUMBERS, out, GASPLAN_OUT);
-        if (answer != 0)
+        /* A full list has a row too many already, whatever follows. */
+        if (answer != 0 && answer != GASPLAN_LIST_FULL)
             return refused(answer, out);
-        counts[i] = (size_t)out[0];
+        counts[i] = answer == 0 ? (size_t)out[0] : NUMBERS;
     }
     int64_t answer = gasplan_settle(sender, counts[0], receiver, counts[1], agreed, out, GASPLAN_OUT);
     if (answer != 0)

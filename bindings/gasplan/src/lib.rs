@@ -81,7 +81,7 @@ pub struct Ledger {
     pub residual: i64,
 }
 
-/// What two meters settle to: the total in grams, and how many times were settled in each way.
+/// What two meters settle to: the total in grams, and how many rows were settled in each way, a matched pair as one.
 #[derive(Clone, Copy, Debug, PartialEq, Eq)]
 pub struct Settlement {
     pub total: i64,

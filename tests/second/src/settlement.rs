@@ -11,7 +11,7 @@ pub const MOST_ROWS: usize = 5_000;
 /// The most grams of a row, and of the agreed figure.
 pub const MOST_GRAMS: i64 = 1_000_000_000_000;
 
-/// The settled total in grams, and how many times were settled in each way.
+/// The settled total in grams, and how many rows were settled in each way, a matched pair as one.
 #[derive(Clone, Copy, Debug, Default, PartialEq, Eq)]
 pub struct Settlement {
     pub total: i128,

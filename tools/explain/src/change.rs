@@ -66,23 +66,23 @@ fn change_field(input: &mut Input, file: File, address: &str, text: &str) -> Res
     Ok(())
 }
 
-/// Puts another number into the field of this address; the name is the list's.
+/// Puts another number into the field of this address; the name is the list's. Gives the number that stood there, and the new one.
 pub fn put(
     list: &mut [i64],
     layout: &mut dyn Layout,
     name: &str,
     address: &str,
     text: &str,
-) -> Result<(), String> {
+) -> Result<(i64, i64), String> {
     let found = fields(layout, list);
     let is_it = |field: &Field| field.address() == address;
     let at = found.iter().position(is_it);
     let at = at.ok_or_else(|| format!("no field of the {name} is called '{address}'"))?;
-    list[at] = value(&found[at], text).map_err(|error| {
+    let new = value(&found[at], text).map_err(|error| {
         format!(
             "{address}: expected {}, found {}",
             error.expected, error.found
         )
     })?;
-    Ok(())
+    Ok((std::mem::replace(&mut list[at], new), new))
 }

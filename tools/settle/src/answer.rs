@@ -6,11 +6,13 @@ use gasplan::Settlement;
 use crate::records::Records;
 use crate::request::Request;
 use crate::rows::{add_up, rows};
-use crate::{questions, report};
+use crate::{questions, report, warnings};
 
 #[derive(Debug)]
 pub struct Answer {
     pub text: String,
+    /// Lines for standard error.
+    pub warnings: Vec<String>,
     pub settled: bool,
 }
 
@@ -21,9 +23,10 @@ pub fn answer(records: &Records, request: &Request) -> Result<Answer, String> {
         Ok(figures) => settled(records, request, &figures),
         Err(refusal) => {
             let explanation = questions::explain(records, request.agreed, refusal);
-            let words = refused(&explanation);
+            let (changes, words) = (report::changes(records), refused(&explanation));
             Ok(Answer {
-                text: format!("{refusal}\n{words}{}\n", report::NOT_PROVED),
+                text: format!("{refusal}\n{changes}{words}{}\n", report::NOT_PROVED),
+                warnings: warnings::of_files(records),
                 settled: false,
             })
         }
@@ -44,9 +47,12 @@ pub fn settled(
         }
         false => String::new(),
     };
+    let changes = report::changes(records);
     let words = report::settled(records, request.agreed, figures);
+    let of_rows = warnings::of_rows(records, figures);
     Ok(Answer {
-        text: format!("{figures}\n{words}{rows}{}\n", report::NOT_PROVED),
+        text: format!("{figures}\n{changes}{words}{rows}{}\n", report::NOT_PROVED),
+        warnings: [warnings::of_files(records), of_rows].concat(),
         settled: true,
     })
 }

@@ -9,3 +9,4 @@ pub mod records;
 pub mod report;
 pub mod request;
 pub mod rows;
+pub mod warnings;

@@ -28,7 +28,7 @@ fn run(words: &[String]) -> Result<u8, String> {
     let mut records = Records::read(&request.files)?;
     records.change(&request.changes)?;
     let answer = answer(&records, &request)?;
-    records.warnings().iter().for_each(|line| complain(line));
+    answer.warnings.iter().for_each(|line| complain(line));
     say(&answer.text)?;
     Ok(if answer.settled { SETTLED } else { REFUSED })
 }

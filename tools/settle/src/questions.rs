@@ -1,7 +1,7 @@
 //! The questions 60 to 62 asked again, in their order: the verdict's place does not say whose row it is.
 
 use explain::Explanation;
-use explain::amount::{MASS, Unit};
+use explain::amount::{Amount, MASS, Unit};
 use explain::check::{Check, at_least, at_most, check, wide, within};
 use gasplan::{GRAMS_MOST, RECORD_MOST, Refusal};
 use gasplan_text::words::grouped;
@@ -33,7 +33,7 @@ impl Part<'_> {
         let Some(record) = self.record else {
             return "agreed figure".to_string();
         };
-        let words = format!("{} ({})", record.name(), record.path.display());
+        let words = format!("{} ({})", record.name(), record.told());
         match (self.refusal.number, self.refusal.place) {
             (60, _) => words,
             (_, row) => format!("{words}, row {row}"),
@@ -71,7 +71,11 @@ fn range(name: &str, grams: i64) -> Check {
 /// Are the rows whole and at most 5,000?
 fn rule_60(record: &Record) -> [Part<'_>; 2] {
     let count = record.list.len();
-    let odd = format!("{count} numbers, and two make a row: the last row has a time and no mass");
+    let numbers = Amount {
+        count: count as i128,
+        unit: Unit::Thing("number"),
+    };
+    let odd = format!("{numbers}, and two make a row: the last row has a time and no mass");
     let rows = count / 2;
     let (side, most) = (
         format!("{} rows", grouped(rows as i128)),

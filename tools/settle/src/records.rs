@@ -22,6 +22,17 @@ pub struct Record {
     /// The file that it was read from.
     pub path: PathBuf,
     pub list: Vec<i64>,
+    /// What is not as the file has it, in the order of the changes.
+    pub changed: Vec<Changed>,
+}
+
+/// A field with another number than it had.
+#[derive(Clone, Debug, PartialEq, Eq)]
+pub struct Changed {
+    /// As `row 5 grams`.
+    pub address: String,
+    pub was: i64,
+    pub is: i64,
 }
 
 #[derive(Clone, Debug, PartialEq, Eq)]
@@ -38,6 +49,15 @@ impl Record {
         format!("{}'s record", self.meter.name())
     }
 
+    /// The file, and whether what is told of it is told of a changed copy.
+    pub fn told(&self) -> String {
+        let path = self.path.display();
+        match self.changed.is_empty() {
+            true => path.to_string(),
+            false => format!("{path}, as changed"),
+        }
+    }
+
     /// The whole rows, each a time and a mass.
     pub fn rows(&self) -> impl Iterator<Item = (i64, i64)> {
         self.list.chunks_exact(2).map(|row| (row[0], row[1]))
@@ -49,8 +69,12 @@ impl Record {
             true => read_bin(path)?,
             false => read_text(path, Some(meter))?,
         };
-        let path = path.to_path_buf();
-        Ok(Record { meter, path, list })
+        Ok(Record {
+            meter,
+            path: path.to_path_buf(),
+            list,
+            changed: Vec::new(),
+        })
     }
 
     /// A folder's record. Nobody has said which file counts, so that two have to say the same.
@@ -97,20 +121,6 @@ impl Records {
         }
     }
 
-    /// Where a file has the other's name: the order of the two decides whose mass stands.
-    pub fn warnings(&self) -> Vec<String> {
-        let is_named = |record: &Record, meter: Meter| {
-            record.path.file_stem().is_some_and(|it| it == meter.name())
-        };
-        let swapped = |(record, other): (&Record, Meter)| {
-            let taken = format!("{} is the {} here", record.path.display(), record.name());
-            is_named(record, other).then(|| format!("warning: {taken}"))
-        };
-        let others = [Meter::Receiver, Meter::Sender];
-        let pairs = self.both().into_iter().zip(others);
-        pairs.filter_map(swapped).collect()
-    }
-
     /// The sender's record first, as they are asked.
     pub fn both(&self) -> [&Record; 2] {
         [&self.sender, &self.receiver]
@@ -124,13 +134,9 @@ impl Records {
                 Meter::Receiver => &mut self.receiver,
             };
             let (name, layout) = (record.name(), &mut *layout_of(Content::Meter, &[]));
-            put(
-                &mut record.list,
-                layout,
-                &name,
-                &change.address,
-                &change.value,
-            )?;
+            let (address, list) = (change.address.clone(), &mut record.list);
+            let (was, is) = put(list, layout, &name, &address, &change.value)?;
+            record.changed.push(Changed { address, was, is });
         }
         Ok(())
     }

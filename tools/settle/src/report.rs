@@ -5,7 +5,7 @@ use explain::check::wide;
 use gasplan::Settlement;
 use gasplan_text::words::grouped;
 
-use crate::records::{Record, Records};
+use crate::records::{Changed, Record, Records};
 use crate::rows::{Row, Way};
 
 /// Below every answer.
@@ -48,8 +48,24 @@ fn of_record(record: &Record) -> (&'static str, i128, String) {
         count: record.rows().count() as i128,
         unit: Unit::Thing("row"),
     };
-    let words = format!("g in {rows} of {}", record.path.display());
+    let words = format!("g in {rows} of {}", record.told());
     (record.meter.name(), sum, words)
+}
+
+/// A line for each number that is not the file's.
+pub fn changes(records: &Records) -> String {
+    let of_record = |record: &Record| {
+        let name = record.meter.name();
+        let line = move |Changed { address, was, is }: &Changed| {
+            let [was, is] = [was, is].map(|number| match address.ends_with("time") {
+                true => number.to_string(),
+                false => grouped(wide(*number)),
+            });
+            format!("with {name} {address} = {is} in place of {was}\n")
+        };
+        record.changed.iter().map(line).collect::<String>()
+    };
+    records.both().map(of_record).concat()
 }
 
 const ABOVE_ROWS: &str =

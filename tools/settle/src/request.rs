@@ -1,6 +1,7 @@
 //! What the words after `settle` ask for.
 
 use gasplan_text::files::Meter;
+use gasplan_text::parse::decimal;
 
 use crate::records::Files;
 
@@ -12,7 +13,7 @@ usage: settle SENDER RECEIVER --agreed GRAMS [WORDS]    two records: texts, or b
   --change sender|receiver FIELD V   settle with another number in a field, as --change receiver 'row 5 grams' 1800000000
   -h, --help                         this page
 The first line is the verdict of the proved library, and the status goes with it:
-  settled TOTAL AGREED CUT ONLY-SENDER ONLY-RECEIVER    0    the total in g, and how many times were settled in each way
+  settled TOTAL AGREED CUT ONLY-SENDER ONLY-RECEIVER    0    the total in g, and how many rows were settled in each way, a matched pair as one
   refused NUMBER STEP PLACE                             1    docs/RULES.md has each number in a sentence; the place is the row
   none                                                  2    words or files are of no use, or nothing can be written";
 
@@ -74,8 +75,9 @@ fn files(paths: &[&str]) -> Result<Files, String> {
 }
 
 fn grams(word: &str) -> Result<i64, String> {
-    word.parse()
-        .map_err(|_| format!("expected a whole number of grams, found '{word}'"))
+    let wrong =
+        || format!("expected a whole number of grams, in decimal and of 64 bits, found '{word}'");
+    decimal(word).ok_or_else(wrong)
 }
 
 fn meter(word: &str) -> Result<Meter, String> {

@@ -178,6 +178,19 @@ fn other_words_get_the_usage() {
     }
 }
 
+/// As in a text.
+#[test]
+fn the_agreed_figure_is_a_decimal_of_64_bits() {
+    let with = |grams: &str| run(&["examples/meters", "--agreed", grams]);
+    for grams in ["99999999999999999999", "+5", " 5", "5.0", "1e6", ""] {
+        let expected = "expected a whole number of grams, in decimal and of 64 bits, found ";
+        no_verdict(&with(grams), &format!("{expected}'{grams}'\n"));
+    }
+    for grams in [i64::MIN, i64::MAX] {
+        assert_eq!(verdict(&with(&grams.to_string())), "refused 60 0 0");
+    }
+}
+
 #[test]
 fn a_change_leaves_the_files() {
     let files = ["sender.txt", "sender.bin"].map(|it| root().join("examples/meters").join(it));
@@ -186,8 +199,10 @@ fn a_change_leaves_the_files() {
         let change = ["--change", "sender", field, value];
         run(&[&METERS[..], &change].concat())
     };
-    let done = with("row 0 grams", "1712704921");
-    assert_eq!(verdict(&done), "settled 43168153761 22 1 1 0");
+    assert_eq!(
+        verdict(&with("row 0 grams", "1712704921")),
+        "settled 43168153761 22 1 1 0"
+    );
     no_verdict(
         &with("row 24 grams", "5"),
         "no field of the sender's record is called 'row 24 grams'",
@@ -197,6 +212,40 @@ fn a_change_leaves_the_files() {
         "row 23 grams: expected a whole number for grams of row 23",
     );
     assert_eq!(files.map(|path| fs::read(path).unwrap()), before);
+}
+
+/// What is told of a changed record is not told of its file.
+#[test]
+fn a_change_is_told() {
+    let change = |meter, field, value| ["--change", meter, field, value];
+    let words = [
+        &METERS[..],
+        &change("receiver", "row 14 grams", "1778000000"),
+        &change("receiver", "row 19 time", "75601"),
+        &change("receiver", "row 19 time", "72000"),
+    ];
+    let said = text(&run(&words.concat()).stdout);
+    let lines: Vec<&str> = said.lines().collect();
+    let expected = [
+        "settled 43152987590 22 1 1 0",
+        "with receiver row 14 grams = 1,778,000,000 in place of 1,746,554,130",
+        "with receiver row 19 time = 75601 in place of 75600",
+        "with receiver row 19 time = 72000 in place of 75601",
+    ];
+    assert_eq!(lines[..4], expected);
+    let files = [
+        "  sender         43,200,000,050 g in 24 rows of examples/meters/sender.txt",
+        "  receiver       41,377,840,610 g in 23 rows of examples/meters/receiver.txt, as changed",
+    ];
+    assert_eq!(lines[9..11], files);
+    let words = [&METERS[..], &change("sender", "row 14 grams", "-250")];
+    let said = text(&run(&words.concat()).stdout);
+    let lines: Vec<&str> = said.lines().collect();
+    let with = "with sender row 14 grams = -250 in place of 1,778,400,420";
+    assert_eq!(lines[..2], ["refused 62 0 14", with]);
+    let file = "sender's record (examples/meters/sender.txt, as changed), row 14: ";
+    assert!(lines[3].starts_with(file), "{said}");
+    assert!(!text(&run(&METERS).stdout).contains("changed"));
 }
 
 #[test]

@@ -52,6 +52,14 @@ fn rows_that_are_not_whole() {
         no,
         &format!("sender's record (sender.txt): {half}"),
     );
+    let one = half.replace("3 numbers", "1 number");
+    says(
+        &good,
+        &[60],
+        0,
+        no,
+        &format!("receiver's record (receiver.txt): {one}"),
+    );
 }
 
 #[test]

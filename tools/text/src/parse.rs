@@ -218,7 +218,7 @@ fn number(cursor: &mut Cursor, expected: &str) -> Result<i64, Error> {
 }
 
 /// Digits, after a minus sign if negative.
-fn decimal(text: &str) -> Option<i64> {
+pub fn decimal(text: &str) -> Option<i64> {
     let digits = text.strip_prefix('-').unwrap_or(text);
     let decimal = !digits.is_empty() && digits.bytes().all(|byte| byte.is_ascii_digit());
     decimal.then(|| text.parse().ok()).flatten()

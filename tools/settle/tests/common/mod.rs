@@ -53,6 +53,7 @@ pub fn records(sender: &[i64], receiver: &[i64]) -> Records {
         meter,
         path: format!("{}.txt", meter.name()).into(),
         list: list.to_vec(),
+        changed: Vec::new(),
     };
     Records {
         sender: record(Meter::Sender, sender),
