@@ -113,7 +113,8 @@ fn passed(i: usize, j: usize, figures: Figures) -> Merged
 
 // The earliest row that is left, or the pair of rows, is settled.
 fn advance(sender: &[i64], receiver: &[i64], agreed: i64, m: Merged) -> Merged
-    requires { ⌜ (Meters (now sender) (now receiver)) × (Merging (now sender) (now receiver) agreed m) × (Left (now sender) (now receiver) (m .i) (m .j)) ⌝ }
+    requires { ⌜ (Meters (now sender) (now receiver)) × (Merging (now sender) (now receiver) agreed m) ×
+        (Left (now sender) (now receiver) (m .i) (m .j)) ⌝ }
     ensures { λ r. ⌜ Merging (now (sender .entry)) (now (receiver .entry)) agreed r ⌝ }
     ensures { λ r. ⌜ m .i + m .j < r .i + r .j ⌝ }
 {

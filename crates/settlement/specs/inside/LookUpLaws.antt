@@ -45,7 +45,8 @@ later-differs h = rw (above h)
 
 -- ---- the rows of a record
 
-pub none-found : (meter : List ℤ) (time : ℤ) (n : ℕ) → ((y : ℕ) → y < n → sameTime (timeOf meter y) time ≡ false) → lookUpIn meter time n ≡ missing
+pub none-found : (meter : List ℤ) (time : ℤ) (n : ℕ) → ((y : ℕ) → y < n → sameTime (timeOf meter y) time ≡ false)
+    → lookUpIn meter time n ≡ missing
 unfolding lookUpIn
 none-found meter time zero h = refl
 none-found meter time (suc n) h = rw (h n (omega arith)) (none-found meter time n (λ y l. h y (omega (arith, l))))

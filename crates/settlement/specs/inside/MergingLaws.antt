@@ -96,8 +96,10 @@ module _ (sender receiver : List ℤ) (agreed : ℤ) (i j : ℕ) where
   sender-turn : opposite sender receiver i ≡ missing
       → figuresTo sender receiver agreed (i + 1) j ≡ senderAdded (figuresTo sender receiver agreed i j) (gramsOf sender i)
   unfolding figuresTo
-  sender-turn e = same-figures
-      (ap (λ (z : ℤ). z +ℤ sum j lone) (sum-with stood i (standing-is sender receiver agreed i e)) ∙ before (sum i stood) (sum j lone) (gramsOf sender i))
+  sender-turn e =
+      let s = sum-with stood i (standing-is sender receiver agreed i e) in
+      same-figures
+      (ap (λ (z : ℤ). z +ℤ sum j lone) s ∙ before (sum i stood) (sum j lone) (gramsOf sender i))
       (count-with (agreedAt sender receiver agreed) i (agreed-is sender receiver agreed i e) ∙ omega arith)
       (count-with (cutAt sender receiver agreed) i (cut-is sender receiver agreed i e) ∙ omega arith)
       (count-with (aloneAt sender receiver) i (alone-is sender receiver agreed i e))
@@ -106,8 +108,10 @@ module _ (sender receiver : List ℤ) (agreed : ℤ) (i j : ℕ) where
   receiver-turn : opposite receiver sender j ≡ missing
       → figuresTo sender receiver agreed i (j + 1) ≡ receiverAdded (figuresTo sender receiver agreed i j) (gramsOf receiver j)
   unfolding figuresTo
-  receiver-turn e = same-figures
-      (ap (λ (z : ℤ). sum i stood +ℤ z) (sum-with lone j (alone-grams receiver sender agreed j e)) ∙ after (sum i stood) (sum j lone) (gramsOf receiver j))
+  receiver-turn e =
+      let r = sum-with lone j (alone-grams receiver sender agreed j e) in
+      same-figures
+      (ap (λ (z : ℤ). sum i stood +ℤ z) r ∙ after (sum i stood) (sum j lone) (gramsOf receiver j))
       refl
       refl
       refl
@@ -169,7 +173,9 @@ module _ {sender receiver : List ℤ} {agreed : ℤ} (k : Meters sender receiver
         receiver-passed = pass-both receiver sender (k .of-receiver) j i (e .1) (k .of-sender) (sym (e .2));
         small = rw g (omega (arith, grown x));
         so-far =
-            g ∙ ap (λ (y : Figures). pairAdded y agreed (gramsOf sender i) (gramsOf receiver j)) (h .so-far) ∙ sym (pair-turn sender receiver agreed i j n o);
+            g
+            ∙ ap (λ (y : Figures). pairAdded y agreed (gramsOf sender i) (gramsOf receiver j)) (h .so-far)
+            ∙ sym (pair-turn sender receiver agreed i j n o);
       }
 
   pub sender-settled : Earliest sender receiver (m .i) (m .j) Sender → (f : Figures) → f ≡ senderAdded (m .figures) (gramsOf sender (m .i))

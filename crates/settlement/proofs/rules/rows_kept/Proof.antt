@@ -38,7 +38,8 @@ loop-again c =
     (asking-on (h .0) (r .before .loop-test .taken) (rw rising) refl, asking-on (h .1) (r .before .loop-test .taken) (rw sized) refl)
 
 -- a row that does not keep both: the first "no" of one of the two lists is its own
-refused : (meter : List ℤ) (i : ℕ) → Inv-loop meter (rowsOf meter) 0 i → i < rowsOf meter → (a b : Bool) → rises meter i ≡ a → inGrams (gramsOf meter i) ≡ b
+refused : (meter : List ℤ) (i : ℕ) → Inv-loop meter (rowsOf meter) 0 i → i < rowsOf meter
+    → (a b : Bool) → rises meter i ≡ a → inGrams (gramsOf meter i) ≡ b
     → (a && b) ≡ false → noneRefused (orElse (firstNo (timeQuestions meter)) (firstNo (massQuestions meter))) ≡ false
 unfolding timeQuestion massQuestion
 refused meter i h l false b p q e =
