@@ -1,37 +1,26 @@
 //! Two texts become two binary files, or neither is touched.
 
+mod common;
+
 use std::fs;
 use std::path::{Path, PathBuf};
 
+use common::{CASE, PLAN, names};
 use gasplan_text::files::{File, one_to_bin, to_bin, to_text};
 use gasplan_text::{parse, parse_as};
 
-const CASE: &str = "case\n1\n1\n0\n0\n1\n0\n0\n60\n1\n2\n3\n4\n5\n6\n7\n";
-const PLAN: &str = "plan 1 nodes 0 arcs 0 stations\n1\n1\n50\n0\n0\n0\n0\n0\n";
 const OLD: [(&str, [u8; 2]); 2] = [("case.bin", [2, 4]), ("plan.bin", [6, 8])];
 
 /// A folder with two texts and old binary files.
 fn folder(name: &str, case: &str, plan: &str) -> PathBuf {
-    let folder = Path::new(env!("CARGO_TARGET_TMPDIR"))
-        .join("all-or-nothing")
-        .join(name);
-    let _ = fs::remove_dir_all(&folder);
-    fs::create_dir_all(&folder).expect("a folder to write into");
-    fs::write(folder.join("case.txt"), case).unwrap();
-    fs::write(folder.join("plan.txt"), plan).unwrap();
-    for (name, bytes) in OLD {
-        fs::write(folder.join(name), bytes).unwrap();
-    }
-    folder
-}
-
-/// The names in a folder: nothing but the four files may be there, whatever happened.
-fn names(folder: &Path) -> Vec<String> {
-    let entries = fs::read_dir(folder).unwrap();
-    let name = |entry: fs::DirEntry| entry.file_name().into_string().unwrap();
-    let mut names: Vec<String> = entries.map(|entry| name(entry.unwrap())).collect();
-    names.sort();
-    names
+    let [old_case, old_plan] = &OLD;
+    let files: [(&str, &[u8]); 4] = [
+        ("case.txt", case.as_bytes()),
+        ("plan.txt", plan.as_bytes()),
+        (old_case.0, &old_case.1),
+        (old_plan.0, &old_plan.1),
+    ];
+    common::folder("all-or-nothing", name, &files)
 }
 
 /// Are the binary files the old ones, and is nothing left beside them?

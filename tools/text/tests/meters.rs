@@ -1,34 +1,22 @@
 //! The records of two meters in a folder: texts and binary files, beside a case or without one.
 
-use std::fs;
-use std::path::{Path, PathBuf};
+mod common;
 
+use std::fs;
+use std::path::PathBuf;
+
+use common::{CASE, PLAN, names};
 use gasplan_text::files::{check, one_to_bin, to_bin, to_text};
 
-const CASE: &str = "case\n1\n1\n0\n0\n1\n0\n0\n60\n1\n2\n3\n4\n5\n6\n7\n";
-const PLAN: &str = "plan 1 nodes 0 arcs 0 stations\n1\n1\n50\n0\n0\n0\n0\n0\n";
 const SENDER: &str = "meter\n60 5\n";
 const RECEIVER: &str = "meter\n60 5\n7 -1\n";
 
-/// A folder with these files and no other.
-fn folder(name: &str, files: &[(&str, &str)]) -> PathBuf {
-    let folder = Path::new(env!("CARGO_TARGET_TMPDIR"))
-        .join("meters")
-        .join(name);
-    let _ = fs::remove_dir_all(&folder);
-    fs::create_dir_all(&folder).expect("a folder to write into");
-    for (name, text) in files {
-        fs::write(folder.join(name), text).unwrap();
-    }
-    folder
-}
-
-fn names(folder: &Path) -> Vec<String> {
-    let entries = fs::read_dir(folder).unwrap();
-    let name = |entry: fs::DirEntry| entry.file_name().into_string().unwrap();
-    let mut names: Vec<String> = entries.map(|entry| name(entry.unwrap())).collect();
-    names.sort();
-    names
+fn folder(name: &str, texts: &[(&str, &str)]) -> PathBuf {
+    let files: Vec<(&str, &[u8])> = texts
+        .iter()
+        .map(|(name, text)| (*name, text.as_bytes()))
+        .collect();
+    common::folder("meters", name, &files)
 }
 
 #[test]
