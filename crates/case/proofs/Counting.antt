@@ -1,9 +1,9 @@
--- What the questions that have let a count pass say of it, and so where rows begin and that offsets fit.
+-- What the questions that have let a count pass say of it.
 -- Assumes nothing.
 use Rattle.case.proofs.Common.{arith, _∙_, _≡_, ap, firstNo}
 use mathlib.Core.List.{List}
-use Prim.Native.Nat.{ℕ, _+_, _*_, _<_, _≤_}
-use native.Mathlib.Nat.{add-zero, mul-le-mul}
+use Prim.Native.Nat.{ℕ, _+_, _≤_}
+use native.Mathlib.Nat.{add-zero}
 use native.Mathlib.Numerals.{add-one}
 use lib.IntN.{ℤ, pos, _+ℤ_}
 use Rattle.numbers.specs.inside.SignedParts.{ints, added, size}
@@ -27,13 +27,6 @@ time-grows case i b e =
     let r = field-yes case (timeAt i) (timeBefore case i +ℤ pos 1) (timeBefore case i +ℤ pos 86400) e in
     let t = timeBefore case i in
     rw (add-one i) (record { bound = omega (ints, r .least, r .most, added t (pos 1), added t (pos 86400), size t, size (timeOf case i), b .bound) })
-
--- the row of node v begins within the first 10,000 numbers
-pub node-row : (v k : ℕ) → v < 60 → k ≤ 48 → 7 + k + v * (6 + k) < 4000
-node-row v k h l =
-    let a : v ≤ 60 = omega arith in
-    let b : 6 + k ≤ 54 = omega arith in
-    omega (arith, mul-le-mul a b)
 
 -- a station's counts as they were read
 pub record StationRead (case : List ℤ) (offset d z m : ℕ) : Type 0 where

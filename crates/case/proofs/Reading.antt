@@ -2,31 +2,15 @@
 -- Assumes nothing.
 use Rattle.case.proofs.Common.{arith, _∙_, _≡_, ap, sym, refl, kept-is, w64, toZ, ofZ}
 use mathlib.Core.List.{List}
-use mathlib.Core.Bool.{Bool, true, false}
 use Prim.Native.Nat.{ℕ, _+_, _*_, _/_, _<_, _≤_, _^_, min}
 use native.Mathlib.Nat.{div-lt-iff-lt-mul, le-div-iff-mul-le, add-zero}
-use lib.Dec.{leb}
-use borrow.Author.Tests.{leb-true, leb-false}
 use lib.IntN.{ℤ, pos, negsuc}
 use lib.Signed.{mag}
-use lib.ListN.{length, getD, List·getD-eq-default}
+use lib.ListN.{length, getD}
 use Rattle.numbers.specs.law.Signed.{posPart}
+pub use Rattle.case.specs.inside.Near.{past}
+use Rattle.case.specs.inside.Near.{near}
 use Rattle.case.specs.inside.Counts.{Counts}
-
--- a number past the end
-pub past : (case : List ℤ) (i : ℕ) → length case ≤ i → pos 0 ≡ getD case i (pos 0)
-past case i h = sym (List·getD-eq-default case (pos 0) h)
-
--- what is read from a row on is the same from where the row begins, or from the end if that is nearer
-pub near : (case : List ℤ) (offset j : ℕ) → getD case (min offset (length case) + j) (pos 0) ≡ getD case (offset + j) (pos 0)
-near case offset j = go (leb offset (length case)) refl
-  where
-    go : (b : Bool) → leb offset (length case) ≡ b → getD case (min offset (length case) + j) (pos 0) ≡ getD case (offset + j) (pos 0)
-    go true e = let h = leb-true offset (length case) e in let m : min offset (length case) ≡ offset = omega arith in rw m
-    go false e =
-        let h = leb-false offset (length case) e in
-        let m : min offset (length case) ≡ length case = omega arith in
-        rw m (sym (past case (length case + j) (omega arith)) ∙ past case (offset + j) (omega arith))
 
 -- rows that do not fit before the end
 pub rows-past : (room count width : ℕ) → 0 < width → room / width < count → room < count * width

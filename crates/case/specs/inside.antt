@@ -4,6 +4,9 @@ pub mod CountLaws
 pub mod SaysLaws
 pub mod SetLaws
 pub mod Counts
+pub mod Places
+pub mod NodeRows
+pub mod Near
 pub mod CountsInRange
 pub mod InSet
 pub mod HoldsLaws

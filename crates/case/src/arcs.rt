@@ -1,8 +1,9 @@
 // 10 and 11 of the arc rows. The arc's kind chooses the ranges.
 ghost use mathlib.Core.Path.{_≡_};
-ghost use Prim.Native.Nat.{_<_, _≤_};
+ghost use Prim.Native.Nat.{_≤_};
 ghost use Rattle.numbers.specs.law.Question.{firstNo};
 ghost use Rattle.numbers.specs.law.Items.{over};
+ghost use Rattle.case.specs.law.Extents.{arcCapacity, arcsExtent, stationsExtent};
 ghost use Rattle.case.specs.law.Layout.{countAt, arcAt};
 ghost use Rattle.case.specs.law.ArcFields.{endFields, pipeFields, leastBothWays, memberFields, compressorFields, kindFields, arcFields};
 use super::fields::MOST_FLOW;
@@ -17,7 +18,7 @@ use numbers::answer::Answer;
 use numbers::answer::or_else;
 
 fn end_fields(case: &[i64], offset: usize) -> Answer
-    requires { ⌜ offset < 10000 ⌝ }
+    requires { ⌜ offset ≤ stationsExtent ⌝ }
     ensures { λ r. ⌜ r ≡ firstNo (endFields (now (case .entry)) offset) ⌝ }
 {
     let last_node = last(count(case, 0, 1));
@@ -31,7 +32,7 @@ fn end_fields(case: &[i64], offset: usize) -> Answer
 }
 
 fn pipe_fields(case: &[i64], offset: usize) -> Answer
-    requires { ⌜ offset < 10000 ⌝ }
+    requires { ⌜ offset ≤ stationsExtent ⌝ }
     ensures { λ r. ⌜ r ≡ firstNo (pipeFields (now (case .entry)) offset) ⌝ }
 {
     or_else(
@@ -57,7 +58,7 @@ fn least_both_ways(kind: usize) -> i64
 }
 
 fn member_fields(case: &[i64], offset: usize, kind: usize) -> Answer
-    requires { ⌜ (offset < 10000) × (kind ≡ countAt (now case) offset) ⌝ }
+    requires { ⌜ (offset ≤ stationsExtent) × (kind ≡ countAt (now case) offset) ⌝ }
     ensures { λ r. ⌜ r ≡ firstNo (memberFields (now (case .entry)) offset) ⌝ }
 {
     let last_station = last(count(case, 0, 3));
@@ -75,7 +76,7 @@ fn member_fields(case: &[i64], offset: usize, kind: usize) -> Answer
 }
 
 fn compressor_fields(case: &[i64], offset: usize) -> Answer
-    requires { ⌜ offset < 10000 ⌝ }
+    requires { ⌜ offset ≤ stationsExtent ⌝ }
     ensures { λ r. ⌜ r ≡ firstNo (compressorFields (now (case .entry)) offset) ⌝ }
 {
     or_else(
@@ -89,7 +90,7 @@ fn compressor_fields(case: &[i64], offset: usize) -> Answer
 
 // The seven fields past the first four.
 fn kind_fields(case: &[i64], offset: usize) -> Answer
-    requires { ⌜ offset < 10000 ⌝ }
+    requires { ⌜ offset ≤ stationsExtent ⌝ }
     ensures { λ r. ⌜ r ≡ firstNo (kindFields (now (case .entry)) offset) ⌝ }
 {
     let kind = count(case, offset, 0);
@@ -108,7 +109,7 @@ fn kind_fields(case: &[i64], offset: usize) -> Answer
 }
 
 pub(crate) fn arc_rows(case: &[i64], first: usize, arcs: usize) -> Answer
-    requires { ⌜ (first < 5000) × (arcs ≤ 120) × (first ≡ arcAt (now case) 0) ⌝ }
+    requires { ⌜ (first ≤ arcsExtent) × (arcs ≤ arcCapacity) × (first ≡ arcAt (now case) 0) ⌝ }
     ensures { λ r. ⌜ r ≡ firstNo (over (arcFields (now (case .entry))) 0 arcs) ⌝ }
 {
     let mut e: usize = 0;

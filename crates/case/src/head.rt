@@ -7,6 +7,9 @@ ghost use Rattle.numbers.specs.inside.SignedBounds.{Bounded};
 ghost use Rattle.case.specs.law.Records.{timeBefore};
 ghost use Rattle.case.specs.law.HeadFields.{countFields, headFields};
 ghost use Rattle.case.specs.law.TimeFields.{timeField};
+use super::extents::LAST_EDITION;
+use super::extents::most_arcs;
+use super::extents::most_nodes;
 use super::fields::field;
 use super::offsets::HEAD;
 use super::read::time_before;
@@ -18,11 +21,11 @@ fn counts(case: &[i64]) -> Answer
     ensures { λ r. ⌜ r ≡ firstNo (countFields (now (case .entry))) ⌝ }
 {
     or_else(
-        field(case, 0, 1, 1),
+        field(case, 0, 1, LAST_EDITION),
         or_else(
-            field(case, 1, 1, 60),
+            field(case, 1, 1, most_nodes(case)),
             or_else(
-                field(case, 2, 0, 120),
+                field(case, 2, 0, most_arcs(case)),
                 or_else(field(case, 3, 0, 8), field(case, 4, 1, 48)),
             ),
         ),

@@ -3,13 +3,15 @@ ghost use mathlib.Core.Path.{_≡_};
 ghost use Prim.Native.Nat.{_≤_};
 ghost use lib.IntN.{pos};
 ghost use Rattle.numbers.specs.law.Question.{firstNo, told};
-ghost use Rattle.case.specs.law.Layout.{arcsOf, stationsOf, stationAt};
+ghost use Rattle.case.specs.law.Extents.{stationsExtent};
+ghost use Rattle.case.specs.law.Layout.{arcAt, arcsOf, stationsOf, stationAt};
 ghost use Rattle.case.specs.law.StationNodes.{stationNodes};
 ghost use Rattle.case.specs.inside.Counts.{Counted, StationsCounted};
 ghost use Rattle.case.specs.law.LayoutOf.{Holds, Clear, LayoutOf};
 ghost use Rattle.case.specs.law.Judged.{rowQuestions, listQuestions, judgedCase};
 ghost use Rattle.case.specs.law.LayoutOf.{LayingOf};
 use super::arcs::arc_rows;
+use super::extents::STATIONS;
 use super::head::head;
 use super::head::times;
 use super::members::plain_nodes;
@@ -17,8 +19,8 @@ use super::members::station_nodes;
 use super::nodes::node_rows;
 use super::offsets::ARC;
 use super::offsets::HEAD;
-use super::offsets::NODE;
 use super::offsets::count;
+use super::offsets::node_width;
 use super::records::Laying;
 use super::records::Layout;
 use super::rules::rules;
@@ -26,6 +28,14 @@ use super::stations::station_end;
 use super::stations::station_rows;
 use numbers::answer::Answer;
 use numbers::answer::or_else;
+
+// Where the arcs' rows begin.
+fn first_arc(case: &[i64]) -> usize
+    requires { ⌜ Counted (now case) ⌝ }
+    ensures { λ r. ⌜ r ≡ arcAt (now (case .entry)) 0 ⌝ }
+{
+    HEAD + count(case, 0, 4) + count(case, 0, 1) * node_width(case)
+}
 
 // 10 to 12 past the head, whose counts are in range.
 fn rows(case: &[i64]) -> Answer
@@ -36,14 +46,14 @@ fn rows(case: &[i64]) -> Answer
     let arcs = count(case, 0, 2);
     let stations = count(case, 0, 3);
     let steps = count(case, 0, 4);
-    let first_arc = HEAD + steps + nodes * (NODE + steps);
+    let first = first_arc(case);
     or_else(
         times(case, steps),
         or_else(
             node_rows(case, steps, nodes),
             or_else(
-                arc_rows(case, first_arc, arcs),
-                station_rows(case, first_arc + arcs * ARC, stations),
+                arc_rows(case, first, arcs),
+                station_rows(case, first + arcs * ARC, stations),
             ),
         ),
     )
@@ -65,11 +75,11 @@ fn list_answer(case: &[i64]) -> Answer
 }
 
 // Where each station's rows begin.
-fn station_firsts(case: &[i64], first: usize, stations: usize) -> [usize; 8]
-    requires { ⌜ (first ≤ 5000) × (first ≡ stationAt (now case) 0) × (stations ≤ 8) × (stations ≡ stationsOf (now case)) × (StationsCounted (now case)) ⌝ }
+fn station_firsts(case: &[i64], first: usize, stations: usize) -> [usize; STATIONS]
+    requires { ⌜ (first ≤ stationsExtent) × (first ≡ stationAt (now case) 0) × (stations ≤ 8) × (stations ≡ stationsOf (now case)) × (StationsCounted (now case)) ⌝ }
     ensures { λ r. ⌜ (Holds 0 r (stationAt (now (case .entry))) stations) × (Clear 0 r stations) ⌝ }
 {
-    let mut offsets = [0usize; 8];
+    let mut offsets = [0usize; STATIONS];
     let mut offset = first;
     let mut s: usize = 0;
     while s < stations {
@@ -81,11 +91,11 @@ fn station_firsts(case: &[i64], first: usize, stations: usize) -> [usize; 8]
 }
 
 // Each station's nodes.
-fn insides(case: &[i64], arcs: usize, stations: usize) -> [i64; 8]
+fn insides(case: &[i64], arcs: usize, stations: usize) -> [i64; STATIONS]
     requires { ⌜ (stations ≤ 8) × (arcs ≡ arcsOf (now case)) ⌝ }
     ensures { λ r. ⌜ (Holds (pos 0) r (stationNodes (now (case .entry))) stations) × (Clear (pos 0) r stations) ⌝ }
 {
-    let mut inside = [0i64; 8];
+    let mut inside = [0i64; STATIONS];
     let mut s: usize = 0;
     while s < stations {
         inside[s] = station_nodes(case, s, arcs);
@@ -103,7 +113,7 @@ fn lay(case: &[i64]) -> Layout
     let arcs = count(case, 0, 2);
     let stations = count(case, 0, 3);
     let steps = count(case, 0, 4);
-    let first = HEAD + steps + nodes * (NODE + steps) + arcs * ARC;
+    let first = first_arc(case) + arcs * ARC;
     let offsets = station_firsts(case, first, stations);
     let inside = insides(case, arcs, stations);
     Layout {
@@ -141,8 +151,8 @@ pub fn judge_and_lay(case: &[i64]) -> Laying
                 nodes: 0,
                 arcs: 0,
                 stations: 0,
-                offsets: [0; 8],
-                inside: [0; 8],
+                offsets: [0; STATIONS],
+                inside: [0; STATIONS],
                 plain: 0,
             },
         },

@@ -6,6 +6,7 @@ ghost use Rattle.numbers.specs.law.Sums.{onlyN};
 ghost use Rattle.case.specs.law.StationArcs.{belongs, arcsBefore, arcSet};
 ghost use Rattle.case.specs.law.StationNodes.{withNode, withEnds, endsOf, plain};
 ghost use Rattle.case.specs.law.States.{activeAtStart};
+use super::extents::SET_ROOM;
 use super::offsets::arc_at;
 use super::offsets::count;
 
@@ -86,7 +87,11 @@ pub fn active(case: &[i64], e: usize) -> bool
 fn with_node(set: usize, v: usize) -> usize
     ensures { λ r. ⌜ r ≡ withNode set v ⌝ }
 {
-    if v < 60 { set | (1usize << v) } else { set }
+    if v < SET_ROOM {
+        set | (1usize << v)
+    } else {
+        set
+    }
 }
 
 // The set with both ends of arc `e` in it.

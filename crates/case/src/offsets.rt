@@ -2,25 +2,24 @@
 ghost use mathlib.Core.Path.{_≡_};
 ghost use Prim.Native.Nat.{_+_, _*_, _<_, _^_, min};
 ghost use lib.ListN.{length};
-ghost use Rattle.case.specs.law.Layout.{numberAt, nodeAt, arcAt, directionAt, stateAt, machineAt};
+ghost use Rattle.case.specs.law.Layout.{numberAt, nodeWidth, nodeAt, arcAt, directionWidth, directionAt, stateAt, machineWidth};
 ghost use Rattle.case.specs.inside.Counts.{Counts};
 ghost use Rattle.case.specs.law.Field.{lastOf};
 use numbers::compare::index;
 
-// How many numbers the rows have; a node's row has a demand for each step besides.
+// How many numbers the head and the rows have whose width is the same in every case.
 pub const HEAD: usize = 7;
-
-pub const NODE: usize = 6;
 
 pub const ARC: usize = 11;
 
 pub(crate) const STATION: usize = 5;
 
-pub(crate) const DIRECTION: usize = 3;
-
 pub(crate) const STATE: usize = 4;
 
-pub(crate) const MACHINE: usize = 2;
+// How far into a node's row its bounds begin, and its demands.
+pub const BOUNDS: usize = 2;
+
+pub const DEMANDS: usize = 6;
 
 // The number `j` places into the row that begins at `offset`.
 pub(crate) fn number(case: &[i64], offset: usize, j: usize) -> i64
@@ -54,11 +53,30 @@ pub(crate) fn along(end: usize, at: usize, count: usize, width: usize) -> usize
     at + count * width
 }
 
+// How many numbers a node's row has, a direction's, and the machine's that begins at `offset`.
+pub(crate) fn node_width(case: &[i64]) -> usize
+    ensures { λ r. ⌜ r ≡ nodeWidth (now (case .entry)) ⌝ }
+{
+    DEMANDS + count(case, 0, 4)
+}
+
+pub(crate) fn direction_width(case: &[i64]) -> usize
+    ensures { λ r. ⌜ r ≡ directionWidth (now (case .entry)) ⌝ }
+{
+    3
+}
+
+pub(crate) fn machine_width(case: &[i64], offset: usize) -> usize
+    ensures { λ r. ⌜ r ≡ machineWidth (now (case .entry)) offset ⌝ }
+{
+    2
+}
+
 pub(crate) fn node_at(case: &[i64], v: usize) -> usize
     ensures { λ r. ⌜ r ≡ min (nodeAt (now (case .entry)) v) (length (now (case .entry))) ⌝ }
 {
     let steps = count(case, 0, 4);
-    along(case.len(), HEAD + steps, v, NODE + steps)
+    along(case.len(), HEAD + steps, v, node_width(case))
 }
 
 pub(crate) fn arc_at(case: &[i64], e: usize) -> usize
@@ -69,10 +87,15 @@ pub(crate) fn arc_at(case: &[i64], e: usize) -> usize
 }
 
 pub(crate) fn direction_at(case: &[i64], offset: usize, f: usize) -> usize
-    ensures { λ r. ⌜ r ≡ min (directionAt offset f) (length (now (case .entry))) ⌝ }
+    ensures { λ r. ⌜ r ≡ min (directionAt (now (case .entry)) offset f) (length (now (case .entry))) ⌝ }
 {
     let end = case.len();
-    along(end, along(end, offset, STATION, 1), f, DIRECTION)
+    along(
+        end,
+        along(end, offset, STATION, 1),
+        f,
+        direction_width(case),
+    )
 }
 
 pub(crate) fn state_at(case: &[i64], offset: usize, z: usize) -> usize
@@ -80,13 +103,6 @@ pub(crate) fn state_at(case: &[i64], offset: usize, z: usize) -> usize
 {
     let directions = count(case, offset, 0);
     along(case.len(), direction_at(case, offset, directions), z, STATE)
-}
-
-pub(crate) fn machine_at(case: &[i64], offset: usize, m: usize) -> usize
-    ensures { λ r. ⌜ r ≡ min (machineAt (now (case .entry)) offset m) (length (now (case .entry))) ⌝ }
-{
-    let states = count(case, offset, 1);
-    along(case.len(), state_at(case, offset, states), m, MACHINE)
 }
 
 // The last index of `n` items, -1 where there are none.

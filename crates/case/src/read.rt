@@ -1,14 +1,17 @@
 // Nodes, arcs and stations read off the list. Every function is total: a number past the end reads as 0.
 ghost use mathlib.Core.Path.{_≡_};
-ghost use Prim.Native.Nat.{_+_};
-ghost use Rattle.case.specs.law.Layout.{numberAt, demandsAt};
-ghost use Rattle.case.specs.law.Records.{timeOf, timeBefore, nodeOf, arcOf, artificialOf, stationRow, directionRow, stateRow, machineRow};
+ghost use Prim.Native.Nat.{_+_, min};
+ghost use lib.ListN.{length};
+ghost use Rattle.case.specs.law.Layout.{numberAt, demandIn, machineAt, machineWidth};
+ghost use Rattle.case.specs.law.Records.{timeOf, timeBefore, nodeOf, arcOf, artificialOf, stationRow, directionRow, stateRow, machineFrom};
+use super::offsets::BOUNDS;
+use super::offsets::DEMANDS;
 use super::offsets::HEAD;
-use super::offsets::NODE;
+use super::offsets::along;
 use super::offsets::arc_at;
 use super::offsets::count;
 use super::offsets::direction_at;
-use super::offsets::machine_at;
+use super::offsets::machine_width;
 use super::offsets::node_at;
 use super::offsets::number;
 use super::offsets::state_at;
@@ -41,20 +44,20 @@ pub fn node(case: &[i64], v: usize, i: usize) -> Node
     Node {
         kind: count(case, offset, 0),
         p0: number(case, offset, 1),
-        low: number(case, offset, 2),
-        high: number(case, offset, 3),
-        actlow: number(case, offset, 4),
-        acthigh: number(case, offset, 5),
+        low: number(case, offset, BOUNDS),
+        high: number(case, offset, BOUNDS + 1),
+        actlow: number(case, offset, BOUNDS + 2),
+        acthigh: number(case, offset, BOUNDS + 3),
         demand: demand(case, offset, i),
     }
 }
 
 // The demand in the step with index `i` of the node whose row begins at `offset`.
 fn demand(case: &[i64], offset: usize, i: usize) -> i64
-    ensures { λ r. ⌜ r ≡ numberAt (now (case .entry)) (demandsAt offset + i) ⌝ }
+    ensures { λ r. ⌜ r ≡ numberAt (now (case .entry)) (offset + demandIn (now (case .entry)) i) ⌝ }
 {
     if i < case.len() {
-        number(case, offset, NODE + i)
+        number(case, offset, DEMANDS + i)
     } else {
         0
     }
@@ -123,10 +126,25 @@ pub fn state(case: &[i64], offset: usize, z: usize) -> State
     }
 }
 
-pub fn machine(case: &[i64], offset: usize, m: usize) -> Machine
-    ensures { λ r. ⌜ r ≡ machineRow (now (case .entry)) offset m ⌝ }
+// Where the rows of the station's machines begin, or the end.
+pub fn first_machine(case: &[i64], offset: usize) -> usize
+    ensures { λ r. ⌜ r ≡ min (machineAt (now (case .entry)) offset 0) (length (now (case .entry))) ⌝ }
 {
-    let at = machine_at(case, offset, m);
+    let states = count(case, offset, 1);
+    state_at(case, offset, states)
+}
+
+// Where the row of the machine ends whose row begins at `at`, or the end: the next machine's begins there.
+pub fn past_machine(case: &[i64], at: usize) -> usize
+    ensures { λ r. ⌜ r ≡ min (at + machineWidth (now (case .entry)) at) (length (now (case .entry))) ⌝ }
+{
+    along(case.len(), at, 1, machine_width(case, at))
+}
+
+// The machine whose row begins at `at`.
+pub fn machine_from(case: &[i64], at: usize) -> Machine
+    ensures { λ r. ⌜ r ≡ machineFrom (now (case .entry)) at ⌝ }
+{
     Machine {
         flow: number(case, at, 0),
         ratio: number(case, at, 1),

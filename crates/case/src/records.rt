@@ -1,4 +1,5 @@
 // Nodes, arcs and stations as records by value; read.rt reads them off the list.
+use super::extents::STATIONS;
 use numbers::answer::Answer;
 
 // A node, with its bounds and its demand in one step.
@@ -71,8 +72,8 @@ pub struct Layout {
     pub nodes: usize,
     pub arcs: usize,
     pub stations: usize,
-    pub offsets: [usize; 8], // where each station's rows begin
-    pub inside: [i64; 8], // each station's nodes, a node set
+    pub offsets: [usize; STATIONS], // where each station's rows begin
+    pub inside: [i64; STATIONS], // each station's nodes, a node set
     pub plain: i64, // the nodes that end an arc of kind 0 to 2, a node set
 }
 

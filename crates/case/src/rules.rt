@@ -4,6 +4,7 @@ ghost use Prim.Native.Nat.{_<_, _≤_, _^_};
 ghost use Rattle.numbers.specs.law.Question.{firstNo};
 ghost use Rattle.numbers.specs.law.Signed.{posPart};
 ghost use Rattle.numbers.specs.law.Sums.{count};
+ghost use Rattle.case.specs.law.Extents.{setRoom};
 ghost use Rattle.case.specs.law.Layout.{arcsOf, stationAt, directionCount, stateCount};
 ghost use Rattle.case.specs.law.Records.{directionRow};
 ghost use Rattle.case.specs.inside.Ranges.{DirectionRanges};
@@ -17,6 +18,7 @@ ghost use Rattle.case.specs.law.Directions.{onlyFence, setsKept, allDire
 ghost use Rattle.case.specs.law.States.{stateKept, machinesKept, startKept, stationKept, allStateSets};
 ghost use Rattle.case.specs.law.StationArcs.{every, stationArcs};
 ghost use Rattle.case.specs.law.Judged.{ruleQuestions};
+use super::extents::STATIONS;
 use super::members::belongs;
 use super::members::start_set;
 use super::members::station_arcs;
@@ -54,7 +56,7 @@ fn arc_ends(case: &[i64], arcs: usize) -> Answer
 }
 
 // How many of the stations have the node.
-fn stations_with(inside: [i64; 8], stations: usize, v: usize) -> usize
+fn stations_with(inside: [i64; STATIONS], stations: usize, v: usize) -> usize
     requires { ⌜ stations ≤ 8 ⌝ }
     ensures { λ r. ⌜ r ≡ count stations (inSet inside v) ⌝ }
 {
@@ -114,7 +116,7 @@ fn station_size(case: &[i64], layout: Layout) -> Answer
 
 // Does the set hold only nodes that are in both sets, those inside the station and those that end an arc of kind 0 to 2?
 fn only_fence(inside: i64, plain: i64, set: i64) -> bool
-    requires { ⌜ posPart set < 2 ^ 60 ⌝ }
+    requires { ⌜ posPart set < 2 ^ setRoom ⌝ }
     ensures { λ r. ⌜ r ≡ onlyFence (inBoth inside plain) set ⌝ }
 {
     if subset(set, inside) {

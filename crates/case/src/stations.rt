@@ -1,24 +1,26 @@
 // 10 and 11 of the station rows, and 12.
 ghost use mathlib.Core.Path.{_≡_};
 ghost use mathlib.Core.List.{_++_};
-ghost use Prim.Native.Nat.{_<_, _≤_};
+ghost use Prim.Native.Nat.{_+_, _<_, _≤_};
 ghost use Rattle.numbers.specs.law.Question.{firstNo};
 ghost use Rattle.numbers.specs.law.Items.{over};
-ghost use Rattle.case.specs.law.Layout.{directionCount, machineAt, stationEnd, stationAt, stationsOf};
+ghost use Rattle.case.specs.law.Extents.{stationExtent, stationsExtent, caseExtent};
+ghost use Rattle.case.specs.law.Layout.{directionCount, stateAt, machineAt, stationEnd, stationAt, stationsOf};
 ghost use Rattle.case.specs.inside.Counts.{StationCounted};
 ghost use Rattle.case.specs.law.StationFields.{firstItems, stationHead, directionFields, stateRowFields, stateFields, machineFields};
 ghost use Rattle.case.specs.law.StationFields.{partFields, rowFields, allStationFields};
 ghost use Rattle.case.specs.law.Leftover.{leftover};
+use super::extents::MOST_SET;
 use super::fields::MOST_FLOW;
 use super::fields::MOST_WEIGHT;
 use super::fields::field;
 use super::fields::fields;
-use super::offsets::DIRECTION;
-use super::offsets::MACHINE;
 use super::offsets::STATE;
 use super::offsets::STATION;
 use super::offsets::count;
+use super::offsets::direction_width;
 use super::offsets::last;
+use super::offsets::machine_width;
 use numbers::answer::Answer;
 use numbers::answer::ask;
 use numbers::answer::or_else;
@@ -32,7 +34,7 @@ pub(crate) fn first_items(n: usize) -> i64
 }
 
 pub(crate) fn station_head(case: &[i64], offset: usize) -> Answer
-    requires { ⌜ offset < 10000 ⌝ }
+    requires { ⌜ offset ≤ caseExtent ⌝ }
     ensures { λ r. ⌜ r ≡ firstNo (stationHead (now (case .entry)) offset) ⌝ }
 {
     let last_direction = last(count(case, offset, 0));
@@ -53,14 +55,15 @@ pub(crate) fn station_head(case: &[i64], offset: usize) -> Answer
 }
 
 fn direction_rows(case: &[i64], offset: usize, directions: usize) -> Answer
-    requires { ⌜ (offset < 10000) × (directions ≤ 8) ⌝ }
+    requires { ⌜ (offset ≤ caseExtent) × (directions ≤ 8) ⌝ }
     ensures { λ r. ⌜ r ≡ firstNo (over (directionFields (now (case .entry)) offset) 0 directions) ⌝ }
 {
+    let width = direction_width(case);
+    let mut at = offset + STATION;
     let mut f: usize = 0;
     while f < directions {
-        let at = offset + STATION + f * DIRECTION;
         let a = or_else(
-            fields(case, at, 2, 0, 1152921504606846975),
+            fields(case, at, 2, 0, MOST_SET),
             field(case, at + 2, 0, MOST_WEIGHT),
         );
         match a {
@@ -73,13 +76,14 @@ fn direction_rows(case: &[i64], offset: usize, directions: usize) -> Answer
                 return a;
             }
         }
+        at += width;
         f += 1;
     }
     Answer::Yes
 }
 
 fn state_fields(case: &[i64], at: usize, sets: i64) -> Answer
-    requires { ⌜ at < 20000 ⌝ }
+    requires { ⌜ at ≤ caseExtent + stationExtent ⌝ }
     ensures { λ r. ⌜ r ≡ firstNo (stateRowFields (now (case .entry)) at sets) ⌝ }
 {
     or_else(
@@ -91,12 +95,12 @@ fn state_fields(case: &[i64], at: usize, sets: i64) -> Answer
     )
 }
 
-fn state_rows(case: &[i64], offset: usize, directions: usize, states: usize) -> Answer
-    requires { ⌜ (offset < 10000) × (directions ≤ 8) × (directions ≡ directionCount (now case) offset) × (states ≤ 16) ⌝ }
+fn state_rows(case: &[i64], offset: usize, first: usize, directions: usize, states: usize) -> Answer
+    requires { ⌜ (first + 64 ≤ caseExtent + stationExtent) × (first ≡ stateAt (now case) offset 0) × (directions ≤ 8) ×
+        (directions ≡ directionCount (now case) offset) × (states ≤ 16) ⌝ }
     ensures { λ r. ⌜ r ≡ firstNo (over (stateFields (now (case .entry)) offset) 0 states) ⌝ }
 {
     let sets = first_items(directions);
-    let first = offset + STATION + directions * DIRECTION;
     let mut z: usize = 0;
     while z < states {
         let a = state_fields(case, first + z * STATE, sets);
@@ -116,12 +120,12 @@ fn state_rows(case: &[i64], offset: usize, directions: usize, states: usize) -> 
 }
 
 fn machine_rows(case: &[i64], offset: usize, first: usize, machines: usize) -> Answer
-    requires { ⌜ (first < 20000) × (first ≡ machineAt (now case) offset 0) × (machines ≤ 12) ⌝ }
+    requires { ⌜ (first ≤ caseExtent + stationExtent) × (first ≡ machineAt (now case) offset 0) × (machines ≤ 12) ⌝ }
     ensures { λ r. ⌜ r ≡ firstNo (over (machineFields (now (case .entry)) offset) 0 machines) ⌝ }
 {
+    let mut at = first;
     let mut m: usize = 0;
     while m < machines {
-        let at = first + m * MACHINE;
         let a = or_else(
             field(case, at, 0, MOST_FLOW),
             field(case, at + 1, 1001, 10000),
@@ -136,14 +140,30 @@ fn machine_rows(case: &[i64], offset: usize, first: usize, machines: usize) -> A
                 return a;
             }
         }
+        at += machine_width(case, at);
         m += 1;
     }
     Answer::Yes
 }
 
+// Where the rows of a station's states begin, and those of its machines.
+fn states_at(case: &[i64], offset: usize) -> usize
+    requires { ⌜ (offset ≤ caseExtent) × (StationCounted (now case) offset) ⌝ }
+    ensures { λ r. ⌜ r ≡ stateAt (now (case .entry)) offset 0 ⌝ }
+{
+    offset + STATION + count(case, offset, 0) * direction_width(case)
+}
+
+fn machines_at(case: &[i64], offset: usize) -> usize
+    requires { ⌜ (offset ≤ caseExtent) × (StationCounted (now case) offset) ⌝ }
+    ensures { λ r. ⌜ r ≡ machineAt (now (case .entry)) offset 0 ⌝ }
+{
+    states_at(case, offset) + count(case, offset, 1) * STATE
+}
+
 // The directions, states and machines of a station whose counts are in range.
 fn part_rows(case: &[i64], offset: usize) -> Answer
-    requires { ⌜ (offset < 10000) × (StationCounted (now case) offset) ⌝ }
+    requires { ⌜ (offset ≤ caseExtent) × (StationCounted (now case) offset) ⌝ }
     ensures { λ r. ⌜ r ≡ firstNo (partFields (now (case .entry)) offset) ⌝ }
 {
     let directions = count(case, offset, 0);
@@ -152,20 +172,15 @@ fn part_rows(case: &[i64], offset: usize) -> Answer
     or_else(
         direction_rows(case, offset, directions),
         or_else(
-            state_rows(case, offset, directions, states),
-            machine_rows(
-                case,
-                offset,
-                offset + STATION + directions * DIRECTION + states * STATE,
-                machines,
-            ),
+            state_rows(case, offset, states_at(case, offset), directions, states),
+            machine_rows(case, offset, machines_at(case, offset), machines),
         ),
     )
 }
 
 // All rows of the station whose rows begin at `offset`.
 fn station_fields(case: &[i64], offset: usize) -> Answer
-    requires { ⌜ offset < 10000 ⌝ }
+    requires { ⌜ offset ≤ caseExtent ⌝ }
     ensures { λ r. ⌜ r ≡ firstNo (rowFields (now (case .entry)) offset) ⌝ }
 {
     let a = station_head(case, offset);
@@ -179,20 +194,24 @@ fn station_fields(case: &[i64], offset: usize) -> Answer
     }
 }
 
-// The index past the station's last row.
+// The index past the station's last row: each machine's row begins where the one before it ends.
 pub(crate) fn station_end(case: &[i64], offset: usize) -> usize
-    requires { ⌜ (offset < 10000) × (StationCounted (now case) offset) ⌝ }
+    requires { ⌜ (offset ≤ caseExtent) × (StationCounted (now case) offset) ⌝ }
     ensures { λ r. ⌜ r ≡ stationEnd (now (case .entry)) offset ⌝ }
 {
-    let directions = count(case, offset, 0);
-    let states = count(case, offset, 1);
     let machines = count(case, offset, 2);
-    offset + STATION + directions * DIRECTION + states * STATE + machines * MACHINE
+    let mut at = machines_at(case, offset);
+    let mut m: usize = 0;
+    while m < machines {
+        at += machine_width(case, at);
+        m += 1;
+    }
+    at
 }
 
 // All stations' rows, and then 12.
 pub(crate) fn station_rows(case: &[i64], first: usize, stations: usize) -> Answer
-    requires { ⌜ (first < 5000) × (first ≡ stationAt (now case) 0) × (stations ≤ 8) × (stations ≡ stationsOf (now case)) ⌝ }
+    requires { ⌜ (first ≤ stationsExtent) × (first ≡ stationAt (now case) 0) × (stations ≤ 8) × (stations ≡ stationsOf (now case)) ⌝ }
     ensures { λ r. ⌜ r ≡ firstNo (allStationFields (now (case .entry)) ++ leftover (now (case .entry))) ⌝ }
 {
     let mut offset = first;

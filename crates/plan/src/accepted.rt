@@ -2,13 +2,15 @@
 ghost use mathlib.Core.Path.{_≡_};
 ghost use Prim.Native.Nat.{_+_, _<_, _≤_};
 ghost use lib.ListN.{length};
-ghost use Rattle.case.specs.law.Layout.{numberAt, countAt, nodesOf, arcsOf, stepsOf, nodeAt, arcAt};
+ghost use Rattle.case.specs.law.Layout.{numberAt, countAt, nodesOf, arcsOf, stepsOf, nodeWidth, nodeAt, arcAt};
 ghost use Rattle.case.specs.law.Records.{nodeOf, arcOf, pipeOf, artificialOf};
 ghost use Rattle.plan.specs.inside.StationPass.{ownStation};
 ghost use Rattle.plan.specs.inside.Preconditions.{AcceptedCase};
+use case::extents::STATIONS;
 use case::offsets::ARC;
+use case::offsets::BOUNDS;
+use case::offsets::DEMANDS;
 use case::offsets::HEAD;
-use case::offsets::NODE;
 use case::records::Arc;
 use case::records::Artificial;
 use case::records::Node;
@@ -30,12 +32,18 @@ fn count(case: &[i64], offset: usize, j: usize) -> usize
     index(number(case, offset, j))
 }
 
+fn node_width(case: &[i64]) -> usize
+    requires { ⌜ AcceptedCase (now case) ⌝ }
+    ensures { λ r. ⌜ r ≡ nodeWidth (now (case .entry)) ⌝ }
+{
+    DEMANDS + count(case, 0, 4)
+}
+
 fn node_at(case: &[i64], v: usize) -> usize
     requires { ⌜ (AcceptedCase (now case)) × (v ≤ nodesOf (now case)) ⌝ }
     ensures { λ r. ⌜ r ≡ nodeAt (now (case .entry)) v ⌝ }
 {
-    let steps = count(case, 0, 4);
-    HEAD + steps + v * (NODE + steps)
+    HEAD + count(case, 0, 4) + v * node_width(case)
 }
 
 fn arc_at(case: &[i64], e: usize) -> usize
@@ -53,11 +61,11 @@ pub(crate) fn node(case: &[i64], v: usize, i: usize) -> Node
     Node {
         kind: count(case, offset, 0),
         p0: number(case, offset, 1),
-        low: number(case, offset, 2),
-        high: number(case, offset, 3),
-        actlow: number(case, offset, 4),
-        acthigh: number(case, offset, 5),
-        demand: number(case, offset, NODE + i),
+        low: number(case, offset, BOUNDS),
+        high: number(case, offset, BOUNDS + 1),
+        actlow: number(case, offset, BOUNDS + 2),
+        acthigh: number(case, offset, BOUNDS + 3),
+        demand: number(case, offset, DEMANDS + i),
     }
 }
 
@@ -104,7 +112,7 @@ pub(crate) fn artificial(case: &[i64], e: usize) -> Artificial
 }
 
 // The number of no station: a case has at most 8, and they count from 0.
-pub(crate) const NO_STATION: usize = 8;
+pub(crate) const NO_STATION: usize = STATIONS;
 
 // The station of an artificial arc, and no station of any other arc.
 pub(crate) fn own_station(case: &[i64], e: usize) -> usize

@@ -67,7 +67,7 @@ stationNumbers case s = record {
 }
 
 abbrev pub directionWeight : List ℤ → ℕ → ℕ → ℤ
-directionWeight case s f = numberAt case (directionWeightAt (directionAt (stationAt case s) f))
+directionWeight case s f = numberAt case (directionWeightAt (directionAt case (stationAt case s) f))
 
 abbrev pub stateWeight : List ℤ → ℕ → ℕ → ℤ
 stateWeight case s z = numberAt case (stateWeightAt (stateAt case (stationAt case s) z))

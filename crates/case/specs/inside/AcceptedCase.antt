@@ -18,7 +18,7 @@ use Rattle.numbers.specs.law.Question.{firstNo, told}
 use Rattle.numbers.specs.inside.QuestionLaws.{told-same}
 use Rattle.numbers.specs.declared.answer.Answer.{Answer}
 use Rattle.numbers.specs.declared.answer.Answer.the-variants.{Yes}
-use Rattle.case.specs.law.Layout.{nodesOf, arcsOf, stationsOf, stepsOf, nodeAt, demandsAt, arcAt}
+use Rattle.case.specs.law.Layout.{nodesOf, arcsOf, stationsOf, stepsOf, nodeWidth, demandIn, demandAt, arcAt}
 use Rattle.case.specs.law.Records.{timeOf, timeBefore, artificialOf, stationOf}
 use Rattle.case.specs.law.Field.{lastOf}
 use Rattle.case.specs.law.HeadFields.{headFields}
@@ -91,8 +91,8 @@ module _ (case : List ℤ) (e : Accepted case) where
       }
 
   -- a node's row is there, up to the demand of the step with index i
-  pub node-there : (v i : ℕ) → v < nodesOf case → i < stepsOf case → demandsAt (nodeAt case v) + i < length case
-  unfolding allNodeFields
+  pub node-there : (v i : ℕ) → v < nodesOf case → i < stepsOf case → demandAt case v i < length case
+  unfolding allNodeFields nodeWidth demandIn
   node-there v i p q = omega (arith, node-read case v .0 (item-yes (nodeFields case) (nodesOf case) (nodes-yes case list-yes) v p) .0)
 
   -- an arc's last number is there, whatever the kind

@@ -19,19 +19,22 @@ use Rattle.numbers.specs.law.Items.{over}
 use Rattle.numbers.specs.declared.answer.Answer.the-variants.{Yes}
 use Rattle.case.specs.declared.records.Node.{Node}
 use Rattle.case.specs.law.Layout.{numberAt, countAt, nodesOf, arcsOf, stationsOf, stepsOf, timeAt, nodeAt, arcAt, directionCount, stateCount}
-use Rattle.case.specs.law.Layout.{machineCount, directionAt, stateAt, machineAt, stationEnd, stationAt, caseEnd}
+use Rattle.case.specs.law.Layout.{nodeKindAt, p0At, lowAt, highAt, actlowAt, acthighAt}
+use Rattle.case.specs.law.Layout.{nodeWidth, boundsIn, boundsAt, demandIn, directionWidth, machineWidth, machineCount, directionAt, stateAt, machineAt, stationEnd, stationAt, caseEnd}
+use Rattle.case.specs.law.Extents.{mostNodes, mostArcs}
 use Rattle.case.specs.law.Records.{timeBefore, nodeOf, arcOf, pipeOf, stationOf}
-use Rattle.case.specs.law.Field.{field, fields}
+use Rattle.case.specs.law.Field.{field, fields, mostPressure}
 use Rattle.case.specs.law.HeadFields.{headFields, countFields, toleranceFields}
 use Rattle.case.specs.law.TimeFields.{timeField, timeFields}
-use Rattle.case.specs.law.NodeFields.{boundFields, demandFields, nodeFields, allNodeFields, leastDemand, mostDemand}
+use Rattle.case.specs.law.NodeFields.{nodeHead, boundFields, demandField, nodeRowFields, nodeFields, allNodeFields, leastDemand, mostDemand}
 use Rattle.case.specs.law.ArcFields.{zeros, endFields, pipeFields, leastBothWays, memberFields, compressorFields, kindFields, arcFields, allArcFields}
 use Rattle.case.specs.law.StationFields.{stationHead, directionFields, stateRowFields, stateFields, machineFields, partFields, rowFields}
 use Rattle.case.specs.law.StationFields.{stationFields, allStationFields}
 use Rattle.case.specs.law.Leftover.{leftover}
 use Rattle.case.specs.law.Judged.{rowQuestions, listQuestions}
 use Rattle.case.specs.inside.Counts.{StationsRanged}
-use Rattle.case.specs.inside.CountsInRange.{end-least}
+use Rattle.case.specs.inside.NodeRows.{demands-are}
+use Rattle.case.specs.inside.Places.{end-least, machine-late}
 use Rattle.case.specs.claims.Says.{Between}
 use Rattle.case.specs.inside.SaysLaws.{leb-says}
 use Rattle.case.specs.inside.Exactly.{asks-iff, rising, Read, all-read, append-read, over-read, field-read, fields-read, row-is, row-kept, flat}
@@ -94,6 +97,13 @@ four {case} {e} r h =
     by-kind (arcOf case e .kind) (λ k. let f : ⊥ = omega arith in absurd f) (λ k. let f : ⊥ = omega arith in absurd f)
     (λ k l. r .artificial k l .0) (λ k. r .compressor k .0)
 
+-- the four bounds that begin at `offset`
+record BoundsKept (case : List ℤ) (offset : ℕ) : Type 0 where
+  pub low : Between (pos 0) (numberAt case (lowAt offset)) mostPressure
+  pub high : Between (pos 0) (numberAt case (highAt offset)) mostPressure
+  pub actlow : Between (numberAt case (lowAt offset)) (numberAt case (actlowAt offset)) mostPressure
+  pub acthigh : Between (numberAt case (actlowAt offset)) (numberAt case (acthighAt offset)) (numberAt case (highAt offset))
+
 module _ (case : List ℤ) where
   zeros-read : (e i n : ℕ) → arcAt case e + (4 + i) ≤ length case
       → Read case (zeros case (arcAt case e + (4 + i)) n) (arcAt case e + (4 + i) + n) (Zeros case e i n)
@@ -107,23 +117,53 @@ module _ (case : List ℤ) where
   -- ---- head and nodes
 
   pub head-read : Read case (headFields case) 7 (CaseHead case)
-  unfolding headFields countFields toleranceFields field
+  unfolding headFields countFields toleranceFields field mostNodes mostArcs
   head-read = all-read case (headFields case) (λ a. (omega (arith, ltb-true), search row-is), λ r. search row-kept depth 40)
 
-  bounds-read : (v : ℕ) → Read case (boundFields case (nodeAt case v)) (nodeAt case v + 6) (CaseNode case v)
+  node-head : (offset : ℕ) → Read case (nodeHead case offset) (offset + 2)
+      (Between (pos 0) (numberAt case (nodeKindAt offset)) (pos 2) × Between (pos 0) (numberAt case (p0At offset)) mostPressure)
+  unfolding nodeHead field
+  node-head offset = all-read case (nodeHead case offset) (λ a. (omega (arith, ltb-true), search row-is), λ r. search row-kept depth 40)
+
+  bounds-read : (offset : ℕ) → Read case (boundFields case offset) (offset + 4) (BoundsKept case offset)
   unfolding boundFields fields field
-  bounds-read v =
-      all-read case (boundFields case (nodeAt case v))
+  bounds-read offset =
+      all-read case (boundFields case offset)
       (λ a. let b = simp flat at a in (omega (arith, ltb-true), search row-is), λ r. simp flat (search row-kept depth 40))
 
-  pub node-read : (v : ℕ) → Read case (nodeFields case v) (nodeAt case v + 6 + stepsOf case) (NodeFacts case v)
-  unfolding nodeFields demandFields
-  node-read v =
+  demands-read : (v : ℕ) → nodeOf case v 0 .kind ≤ 2 → nodeAt case v + 6 ≤ length case
+      → Read case (over (demandField case (nodeAt case v)) 0 (stepsOf case)) (nodeAt case v + nodeWidth case)
+      ((i : ℕ) → i < stepsOf case → CaseDemand (nodeOf case v i))
+  unfolding nodeWidth demandIn
+  demands-read v k t =
       let offset = nodeAt case v in
-      append-read case (boundFields case offset) _ (omega arith) (bounds-read v) (λ t r.
-      let k : countAt case offset ≤ 2 = omega (ints, r .kind .most, size (numberAt case offset)) in
-      fields-read case (offset + 6) (stepsOf case) (leastDemand (countAt case offset)) (mostDemand (countAt case offset)) (λ i. CaseDemand (nodeOf case v i))
-      (λ i. demand-iff (nodeOf case v i) k) t)
+      rw (demands-are case offset (stepsOf case), ← add-assoc)
+      (fields-read case (offset + 6) (stepsOf case) (leastDemand (countAt case offset)) (mostDemand (countAt case offset)) (λ i. CaseDemand (nodeOf case v i))
+      (λ i. rw add-assoc (demand-iff (nodeOf case v i) k)) t)
+
+  pub node-read : (v : ℕ) → Read case (nodeFields case v) (nodeAt case v + nodeWidth case) (NodeFacts case v)
+  unfolding nodeFields nodeRowFields nodeWidth boundsIn
+  node-read v =
+      let r =
+      append-read case (nodeHead case (nodeAt case v)) _ (omega arith) (node-head (nodeAt case v)) (λ t h.
+      append-read case (boundFields case (boundsAt case v 0)) _ (omega arith) (bounds-read (boundsAt case v 0)) (λ t b.
+      demands-read v (omega (ints, h .0 .most, size (numberAt case (nodeAt case v)))) (omega arith))) in (
+        λ y. let f = r .0 y .1 in (
+          r .0 y .0,
+          (
+            record {
+              kind = f .0 .0;
+              p0 = f .0 .1;
+              low = f .1 .0 .low;
+              high = f .1 .0 .high;
+              actlow = f .1 .0 .actlow;
+              acthigh = f .1 .0 .acthigh;
+            },
+            f .1 .1,
+          ),
+        ),
+        λ f. let n = f .1 .0 in r .1 (f .0, ((n .kind, n .p0), (record { low = n .low; high = n .high; actlow = n .actlow; acthigh = n .acthigh }, f .1 .1))),
+      )
 
   -- ---- arcs
 
@@ -209,8 +249,8 @@ module _ (case : List ℤ) where
     unfolding stationHead field
     station-head = all-read case (stationHead case (stationAt case s)) (λ a. (omega (arith, ltb-true), search row-is), λ r. search row-kept depth 40)
 
-    direction-read : (f : ℕ) → Read case (directionFields case (stationAt case s) f) (directionAt (stationAt case s) f + 3) (CaseDirection case s f)
-    unfolding directionFields fields field
+    direction-read : (f : ℕ) → Read case (directionFields case (stationAt case s) f) (directionAt case (stationAt case s) f + directionWidth case) (CaseDirection case s f)
+    unfolding directionFields directionWidth fields field
     direction-read f =
         all-read case (directionFields case (stationAt case s) f)
         (λ a. let b = simp flat at a in (omega (arith, ltb-true), search row-is), λ r. simp flat (search row-kept depth 40))
@@ -221,19 +261,20 @@ module _ (case : List ℤ) where
         all-read case (stateFields case (stationAt case s) z)
         (λ a. let b = simp flat at a in (omega (arith, ltb-true), search row-is), λ r. simp flat (search row-kept depth 40))
 
-    machine-read : (m : ℕ) → Read case (machineFields case (stationAt case s) m) (machineAt case (stationAt case s) m + 2) (CaseMachine (machineOf case s m))
-    unfolding machineFields field
+    machine-read : (m : ℕ) → Read case (machineFields case (stationAt case s) m) (machineAt case (stationAt case s) (suc m)) (CaseMachine (machineOf case s m))
+    unfolding machineFields machineAt machineWidth field
     machine-read m = all-read case (machineFields case (stationAt case s) m) (λ a. (omega (arith, ltb-true), search row-is), λ r. search row-kept depth 40)
 
     station-read : Read case (stationFields case s) (stationEnd case (stationAt case s)) (StationFacts case s)
     unfolding stationFields rowFields partFields directionAt stateAt machineAt
     station-read =
         let offset = stationAt case s in
-        append-read case (stationHead case offset) _ (omega arith) station-head (λ t r.
-        append-read case (over (directionFields case offset) 0 (directionCount case offset)) _ (omega arith)
-        (over-read case (directionAt offset) (directionFields case offset) (directionCount case offset) direction-read (λ f. omega arith) (omega arith))
+        let late = machine-late case offset (machineCount case offset) in
+        append-read case (stationHead case offset) _ (omega (arith, late)) station-head (λ t r.
+        append-read case (over (directionFields case offset) 0 (directionCount case offset)) _ (omega (arith, late))
+        (over-read case (directionAt case offset) (directionFields case offset) (directionCount case offset) direction-read (λ f. omega arith) (omega arith))
         (λ t r.
-        append-read case (over (stateFields case offset) 0 (stateCount case offset)) _ (omega arith)
+        append-read case (over (stateFields case offset) 0 (stateCount case offset)) _ late
         (over-read case (stateAt case offset) (stateFields case offset) (stateCount case offset) state-read (λ z. omega arith) (omega arith)) (λ t r.
         over-read case (machineAt case offset) (machineFields case offset) (machineCount case offset) machine-read (λ m. omega arith) (omega arith))))
 

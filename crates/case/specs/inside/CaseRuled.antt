@@ -13,6 +13,7 @@ use Rattle.numbers.specs.inside.SignedParts.{ints, size, taken}
 use Rattle.numbers.specs.law.Question.{firstNo}
 use Rattle.numbers.specs.law.Sets.{memberOf}
 use Rattle.numbers.specs.declared.answer.Answer.the-variants.{Yes}
+use Rattle.case.specs.law.Extents.{setRoom}
 use Rattle.case.specs.law.Layout.{nodesOf, arcsOf, stationsOf, stationAt}
 use Rattle.case.specs.law.Records.{arcOf, artificialOf, stationOf, directionOf, stateOf}
 use Rattle.case.specs.law.StationFields.{firstItems}
@@ -57,7 +58,7 @@ RuleFacts case =
 module _ (case : List ℤ) (l : ListFacts case) where
   -- ---- nodes: a node set has room for every node that an arc ends at
 
-  room : {w : ℕ → Bool} {v : ℕ} → Ends case w (arcsOf case) v → v < 60
+  room : {w : ℕ → Bool} {v : ℕ} → Ends case w (arcsOf case) v → v < setRoom
   room {w} {v} x =
       let a = l .1 .1 .1 .0 (x .arc) (x .early) .0 in
       let n = l .0 .nodes in
@@ -93,7 +94,7 @@ module _ (case : List ℤ) (l : ListFacts case) where
   pub fence-says : (s v : ℕ) → Says (fenceNode case s v) (FenceNode case s v)
   fence-says s v = means (both (in-says s v) (plain-says v)) (λ r. record { inside = r .0; outside = r .1 }) (λ r. (r .inside, r .outside))
 
-  only-says : (s : ℕ) (set : ℤ) → Between (pos 0) set (firstItems 60)
+  only-says : (s : ℕ) (set : ℤ) → Between (pos 0) set (firstItems setRoom)
       → Says (onlyFence (fenceNode case s) set) ((v : ℕ) → memberOf set v ≡ true → FenceNode case s v)
   only-says s set r = record {
     fact = λ e v m. fence-says s v .fact (only-members (fenceNode case s) set r e v m);

@@ -13,6 +13,7 @@ use lib.IntN.{ℤ}
 use lib.Pow.{pow-lt}
 use borrow.Author.Tests.{ltb-true, ltb-false}
 use Rattle.numbers.specs.law.Sums.{sumN, onlyN, count}
+use Rattle.case.specs.law.Extents.{setRoom}
 use Rattle.case.specs.law.StationArcs.{belongs, arcsBefore, arcBit, arcSet, every}
 use Rattle.case.specs.law.StationNodes.{withNode, withEnds, endsOf}
 use Rattle.case.specs.inside.FieldLaws.{and-first, and-second}
@@ -128,12 +129,12 @@ module _ (case : List ℤ) (s : ℕ) where
 
 -- ---- node sets
 
-pub node-lt : (set v : ℕ) → set < 2 ^ 60 → withNode set v < 2 ^ 60
+pub node-lt : (set v : ℕ) → set < 2 ^ setRoom → withNode set v < 2 ^ setRoom
 unfolding withNode
-node-lt set v h = go (ltb v 60) refl
+node-lt set v h = go (ltb v setRoom) refl
   where
-    go : (b : Bool) → ltb v 60 ≡ b → withNode set v < 2 ^ 60
-    go true e = let p : 2 ^ v < 2 ^ 60 = pow-lt (ltb-true v 60 e) in rw e (or-lt 60 set (2 ^ v) h p)
+    go : (b : Bool) → ltb v setRoom ≡ b → withNode set v < 2 ^ setRoom
+    go true e = let p : 2 ^ v < 2 ^ setRoom = pow-lt (ltb-true v setRoom e) in rw e (or-lt setRoom set (2 ^ v) h p)
     go false e = rw e h
 
 module _ (case : List ℤ) (w : ℕ → Bool) where
@@ -149,12 +150,12 @@ module _ (case : List ℤ) (w : ℕ → Bool) where
   unfolding endsOf
   ends-no e h = rw (add-one e, h)
 
-  pub ends-lt : (e : ℕ) → endsOf case w e < 2 ^ 60
+  pub ends-lt : (e : ℕ) → endsOf case w e < 2 ^ setRoom
   unfolding endsOf
   ends-lt zero = omega arith
   ends-lt (suc e) = go (ends-lt e) (w e) refl
     where
-      go : endsOf case w e < 2 ^ 60 → (b : Bool) → w e ≡ b → endsOf case w (suc e) < 2 ^ 60
+      go : endsOf case w e < 2 ^ setRoom → (b : Bool) → w e ≡ b → endsOf case w (suc e) < 2 ^ setRoom
       go k true p = rw p (node-lt _ _ (node-lt _ _ k))
       go k false p = rw p k
 

@@ -4,6 +4,7 @@ use mathlib.Core.Path.{_≡_}
 use mathlib.Core.List.{List}
 use Prim.Native.Nat.{ℕ, _<_, _≤_, _^_}
 use lib.IntN.{ℤ}
+use Rattle.case.specs.law.Extents.{nodeCapacity, arcCapacity}
 use Rattle.case.specs.law.Layout.{countAt, nodesOf, arcsOf, stationsOf, stepsOf, directionCount, stateCount, machineCount, stationAt}
 use Rattle.case.specs.law.Records.{directionRow}
 use Rattle.case.specs.inside.Ranges.{DirectionRanges}
@@ -16,9 +17,9 @@ pub record Counts (case : List ℤ) (i r : ℕ) : Type 0 where
 
 -- the head's counts
 pub record Counted (case : List ℤ) : Type 0 where
-  pub nodes : nodesOf case ≤ 60
+  pub nodes : nodesOf case ≤ nodeCapacity
   pub some-node : 1 ≤ nodesOf case
-  pub arcs : arcsOf case ≤ 120
+  pub arcs : arcsOf case ≤ arcCapacity
   pub stations : stationsOf case ≤ 8
   pub steps : stepsOf case ≤ 48
   pub some-step : 1 ≤ stepsOf case

@@ -1,17 +1,16 @@
--- What the counts are known to be once their questions have let them pass, and so that rows begin early: offsets are sums and products of them.
+-- What the counts are known to be once their questions have let them pass.
 -- Assumes nothing.
 use mathlib.Core.Path.{_≡_}
 use mathlib.Core.List.{List, _++_}
-use Prim.Native.Nat.{ℕ, _+_, _<_, _≤_}
-use native.Mathlib.Nat.{mul-le-mul}
-use native.Mathlib.Numerals.{add-one}
-use native.Mathlib.Omega.{arith}
+use Prim.Native.Nat.{ℕ, _+_, _<_}
+use native.Mathlib.Nat.{le-trans}
 use borrow.Author.Tests.{leb-true}
 use lib.IntN.{ℤ, pos}
 use Rattle.numbers.specs.law.Question.{firstNo}
 use Rattle.numbers.specs.inside.QuestionLaws.{all-yes}
 use Rattle.numbers.specs.declared.answer.Answer.the-variants.{Yes}
-use Rattle.case.specs.law.Layout.{nodesOf, arcsOf, stationsOf, stepsOf, nodeAt, arcAt, directionAt, stateAt, machineAt, stationEnd, stationAt}
+use Rattle.case.specs.law.Extents.{lastEdition, mostNodes, mostArcs}
+use Rattle.case.specs.law.Layout.{stationsOf, stationAt}
 use Rattle.case.specs.law.HeadFields.{countFields, toleranceFields, headFields}
 use Rattle.case.specs.law.TimeFields.{timeFields}
 use Rattle.case.specs.law.NodeFields.{allNodeFields}
@@ -23,6 +22,7 @@ use Rattle.case.specs.law.OneStation.{allOneStation}
 use Rattle.case.specs.law.StationSize.{stationSize, allStationSizes}
 use Rattle.case.specs.law.Judged.{rowQuestions, listQuestions, earlyRules}
 use Rattle.case.specs.inside.FieldLaws.{first-yes, second-yes, item-yes, field-yes, field-then, count-most, count-least}
+use Rattle.case.specs.inside.Places.{nodes-fit, arcs-fit}
 use Rattle.case.specs.inside.Counts.{Counted, StationCounted, StationsCounted, Sized}
 
 module _ (case : List ℤ) where
@@ -31,15 +31,15 @@ module _ (case : List ℤ) where
   pub head-counted : firstNo (headFields case) ≡ Yes → Counted case
   unfolding headFields countFields
   head-counted e =
-      let r = field-then case 0 (pos 1) (pos 1) _ (first-yes (countFields case) (toleranceFields case) e) in
-      let n = field-then case 1 (pos 1) (pos 60) _ (r .1) in
-      let a = field-then case 2 (pos 0) (pos 120) _ (n .1) in
+      let r = field-then case 0 (pos 1) (pos lastEdition) _ (first-yes (countFields case) (toleranceFields case) e) in
+      let n = field-then case 1 (pos 1) (pos (mostNodes case)) _ (r .1) in
+      let a = field-then case 2 (pos 0) (pos (mostArcs case)) _ (n .1) in
       let s = field-then case 3 (pos 0) (pos 8) _ (a .1) in
       let k = field-yes case 4 (pos 1) (pos 48) (s .1) in
       record {
-        nodes = count-most (n .0);
+        nodes = le-trans (count-most (n .0)) (nodes-fit case);
         some-node = count-least (n .0);
-        arcs = count-most (a .0);
+        arcs = le-trans (count-most (a .0)) (arcs-fit case);
         stations = count-most (s .0);
         steps = count-most k;
         some-step = count-least k;
@@ -106,35 +106,3 @@ module _ (case : List ℤ) where
   rules-sized e =
       let y = first-yes (allStationSizes case) _ (second-yes (allOneStation case) _ (second-yes (allArcEnds case) _ e)) in
       record { each = λ s p. leb-true _ _ (all-yes (stationSize case s) (item-yes (stationSize case) (stationsOf case) y s p) .0) }
-
-  -- ---- offsets
-
-  pub station-next : (s : ℕ) → stationAt case (s + 1) ≡ stationEnd case (stationAt case s)
-  unfolding stationAt
-  station-next s = rw (add-one s)
-
-  -- a station has at most 117 numbers
-  pub end-most : (offset : ℕ) → StationCounted case offset → stationEnd case offset ≤ offset + 117
-  unfolding machineAt stateAt directionAt
-  end-most offset c = omega (arith, c .directions, c .states, c .machines)
-
-  pub end-least : (offset : ℕ) → offset + 5 ≤ stationEnd case offset
-  unfolding machineAt stateAt directionAt
-  end-least offset = omega arith
-
-  -- a node's row and an arc's begin early, and so the first arc's and the first station's
-  pub node-early : Counted case → (v : ℕ) → v ≤ 60 → nodeAt case v ≤ 3295
-  unfolding nodeAt
-  node-early c v h = let k : 6 + stepsOf case ≤ 54 = omega (arith, c .steps) in omega (arith, mul-le-mul h k, c .steps)
-
-  pub arc-early : Counted case → (e : ℕ) → e ≤ 120 → arcAt case e ≤ 4615
-  unfolding arcAt
-  arc-early c e h = omega (arith, node-early c (nodesOf case) (c .nodes))
-
-  pub arcs-begin : Counted case → arcAt case 0 ≤ 3295
-  unfolding arcAt
-  arcs-begin c = omega (arith, node-early c (nodesOf case) (c .nodes))
-
-  pub stations-begin : Counted case → stationAt case 0 ≤ 4615
-  unfolding stationAt
-  stations-begin c = arc-early c (arcsOf case) (c .arcs)

@@ -2,9 +2,10 @@
 -- Assumes nothing.
 use lib.IntN.{pos}
 use Rattle.case.specs.declared.records.Direction.{Direction}
+use Rattle.case.specs.law.Extents.{setRoom}
 use Rattle.case.specs.law.StationFields.{firstItems}
 use Rattle.case.specs.claims.Says.{Between}
 
 pub record DirectionRanges (d : Direction) : Type 0 where
-  pub entry : Between (pos 0) (d .entry) (firstItems 60)
-  pub exit : Between (pos 0) (d .exit) (firstItems 60)
+  pub entry : Between (pos 0) (d .entry) (firstItems setRoom)
+  pub exit : Between (pos 0) (d .exit) (firstItems setRoom)

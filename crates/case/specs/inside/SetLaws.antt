@@ -17,6 +17,7 @@ use Rattle.numbers.specs.inside.SignedParts.{ints, size}
 use Rattle.numbers.specs.law.Sets.{bit, memberOf, subsetOf}
 use Rattle.numbers.specs.inside.SetLaws.{bit-suc, bit-zero, bit-high}
 use Rattle.numbers.specs.law.Sums.{sumN, onlyN}
+use Rattle.case.specs.law.Extents.{setRoom}
 use Rattle.case.specs.law.Layout.{arcsOf}
 use Rattle.case.specs.law.Records.{arcOf}
 use Rattle.case.specs.law.StationArcs.{belongs, arcsBefore, arcBit, arcSet}
@@ -53,25 +54,25 @@ top k x i h =
 
 pub node-keeps : (set v i : ℕ) → bit set i ≤ bit (withNode set v) i
 unfolding withNode
-node-keeps set v i = go (ltb v 60) refl
+node-keeps set v i = go (ltb v setRoom) refl
   where
-    go : (b : Bool) → ltb v 60 ≡ b → bit set i ≤ bit (withNode set v) i
+    go : (b : Bool) → ltb v setRoom ≡ b → bit set i ≤ bit (withNode set v) i
     go true e = rw e (omega (arith, bit-or set (2 ^ v) i))
     go false e = rw e (omega arith)
 
-pub node-in : (set v : ℕ) → v < 60 → bit (withNode set v) v ≡ 1
+pub node-in : (set v : ℕ) → v < setRoom → bit (withNode set v) v ≡ 1
 unfolding withNode
-node-in set v h = rw (lt-ltb v 60 h) (omega (arith, bit-or set (2 ^ v) v, bit-pow v v ∙ ap (λ (b : Bool). onlyN b 1) (eq-eqb v v refl)))
+node-in set v h = rw (lt-ltb v setRoom h) (omega (arith, bit-or set (2 ^ v) v, bit-pow v v ∙ ap (λ (b : Bool). onlyN b 1) (eq-eqb v v refl)))
 
 pub node-only : (set v i : ℕ) → bit (withNode set v) i ≡ 1 → (bit set i ≡ 1) ⊎ (v ≡ i)
 unfolding withNode
-node-only set v i h = go (ltb v 60) refl
+node-only set v i h = go (ltb v setRoom) refl
   where
     by : (b : Bool) → eqb v i ≡ b → bit (bitOr set (2 ^ v)) i ≡ 1 → (bit set i ≡ 1) ⊎ (v ≡ i)
     by true e g = inr (eqb-true v i e)
     by false e g = inl (omega (arith, g, bit-or set (2 ^ v) i, bit-pow v i ∙ ap (λ (b : Bool). onlyN b 1) e))
 
-    go : (b : Bool) → ltb v 60 ≡ b → (bit set i ≡ 1) ⊎ (v ≡ i)
+    go : (b : Bool) → ltb v setRoom ≡ b → (bit set i ≡ 1) ⊎ (v ≡ i)
     go true e = by (eqb v i) refl (rw e at h)
     go false e = inl (rw e at h)
 
@@ -86,7 +87,7 @@ module _ (case : List ℤ) (w : ℕ → Bool) where
           rw e (omega (arith, node-keeps (endsOf case w n) from v, node-keeps (withNode (endsOf case w n) from) (arcOf case n .to) v))
       go false e = rw e (omega arith)
 
-  pub ends-in : (n e v : ℕ) → e < n → w e ≡ true → v < 60 → (arcOf case e .from ≡ v) ⊎ (arcOf case e .to ≡ v) → bit (endsOf case w n) v ≡ 1
+  pub ends-in : (n e v : ℕ) → e < n → w e ≡ true → v < setRoom → (arcOf case e .from ≡ v) ⊎ (arcOf case e .to ≡ v) → bit (endsOf case w n) v ≡ 1
   unfolding endsOf
   ends-in zero e v p h l d = let f : ⊥ = omega arith in absurd f
   ends-in (suc n) e v p h l d = go (λ q. ends-in n e v q h l d) (ltb e n) refl
@@ -128,7 +129,7 @@ module _ (case : List ℤ) (w : ℕ → Bool) where
 
 -- "A station's nodes are the ends of its artificial arcs."
 module _ (case : List ℤ) (v : ℕ) where
-  pub end-in-station : (s e : ℕ) → e < arcsOf case → belongs case s e ≡ true → v < 60 → (arcOf case e .from ≡ v) ⊎ (arcOf case e .to ≡ v)
+  pub end-in-station : (s e : ℕ) → e < arcsOf case → belongs case s e ≡ true → v < setRoom → (arcOf case e .from ≡ v) ⊎ (arcOf case e .to ≡ v)
       → memberOf (stationNodes case s) v ≡ true
   unfolding stationNodes
   end-in-station s e p h l d = eq-eqb _ _ (ends-in case (belongs case s) (arcsOf case) e v p h l d)
@@ -138,7 +139,7 @@ module _ (case : List ℤ) (v : ℕ) where
   station-end-of s h = in-ends case (belongs case s) (arcsOf case) v (eqb-true _ _ h)
 
   -- the same of the arcs of kind 0 to 2
-  pub end-in-plain : (e : ℕ) → e < arcsOf case → plain case e ≡ true → v < 60 → (arcOf case e .from ≡ v) ⊎ (arcOf case e .to ≡ v)
+  pub end-in-plain : (e : ℕ) → e < arcsOf case → plain case e ≡ true → v < setRoom → (arcOf case e .from ≡ v) ⊎ (arcOf case e .to ≡ v)
       → memberOf (plainNodes case) v ≡ true
   unfolding plainNodes
   end-in-plain e p h l d = eq-eqb _ _ (ends-in case (plain case) (arcsOf case) e v p h l d)
@@ -194,29 +195,29 @@ either true b f g = sym (f refl)
 either false true f g = g refl
 either false false f g = refl
 
-pub node-set : {set : ℤ} → Between (pos 0) set (firstItems 60) → posPart set < 2 ^ 60
+pub node-set : {set : ℤ} → Between (pos 0) set (firstItems setRoom) → posPart set < 2 ^ setRoom
 node-set {set} r = omega (ints, r .most, size set)
 
 module _ (fence : ℕ → Bool) (set : ℤ) where
-  pub only-at : posPart set < 2 ^ 60 → onlyFence fence set ≡ true → (v : ℕ) → memberOf set v ≡ true → fence v ≡ true
-  only-at h e v m = go (ltb v 60) refl
+  pub only-at : posPart set < 2 ^ setRoom → onlyFence fence set ≡ true → (v : ℕ) → memberOf set v ≡ true → fence v ≡ true
+  only-at h e v m = go (ltb v setRoom) refl
     where
-      go : (b : Bool) → ltb v 60 ≡ b → fence v ≡ true
-      go true l = rw m at (every-at 60 (λ i. not (memberOf set i) || fence i) e v (ltb-true v 60 l))
-      go false l = let f : ⊥ = omega (arith, bit-high 60 (posPart set) v h (ltb-false v 60 l), eqb-true (bit (posPart set) v) 1 m) in absurd f
+      go : (b : Bool) → ltb v setRoom ≡ b → fence v ≡ true
+      go true l = rw m at (every-at setRoom (λ i. not (memberOf set i) || fence i) e v (ltb-true v setRoom l))
+      go false l = let f : ⊥ = omega (arith, bit-high setRoom (posPart set) v h (ltb-false v setRoom l), eqb-true (bit (posPart set) v) 1 m) in absurd f
 
   pub at-only : ((v : ℕ) → memberOf set v ≡ true → fence v ≡ true) → onlyFence fence set ≡ true
-  at-only f = at-every 60 (λ i. not (memberOf set i) || fence i) (λ i p. go i (memberOf set i) refl)
+  at-only f = at-every setRoom (λ i. not (memberOf set i) || fence i) (λ i p. go i (memberOf set i) refl)
     where
       go : (i : ℕ) (b : Bool) → memberOf set i ≡ b → (not (memberOf set i) || fence i) ≡ true
       go i true e = rw (e, f i e)
       go i false e = rw e
 
-  pub only-members : Between (pos 0) set (firstItems 60) → onlyFence fence set ≡ true → (v : ℕ) → memberOf set v ≡ true → fence v ≡ true
+  pub only-members : Between (pos 0) set (firstItems setRoom) → onlyFence fence set ≡ true → (v : ℕ) → memberOf set v ≡ true → fence v ≡ true
   only-members r = only-at (node-set r)
 
 -- by its members, or within both of the sets of which a fence node is in both
-pub only-both : (inside plain set : ℤ) → posPart set < 2 ^ 60 → (subsetOf set inside && subsetOf set plain) ≡ onlyFence (inBoth inside plain) set
+pub only-both : (inside plain set : ℤ) → posPart set < 2 ^ setRoom → (subsetOf set inside && subsetOf set plain) ≡ onlyFence (inBoth inside plain) set
 only-both inside plain set h =
     either (subsetOf set inside && subsetOf set plain) (onlyFence (inBoth inside plain) set)
     (λ e. at-only (inBoth inside plain) set (λ v m. both _ _

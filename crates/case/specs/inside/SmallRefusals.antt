@@ -13,15 +13,18 @@ use Rattle.numbers.specs.law.Items.{over}
 use Rattle.numbers.specs.inside.SmallRefusals.{Small, AllSmall, small-append, small-over, all-small, all-append, all-over}
 use Rattle.numbers.specs.declared.answer.Answer.the-variants.{Yes}
 use Rattle.case.specs.law.Layout.{nodesOf, arcsOf, stationsOf, stepsOf, nodeAt, arcAt, stationAt, directionAt, stateAt, machineAt}
-use Rattle.case.specs.law.Layout.{countAt, directionCount, stateCount, machineCount}
+use Rattle.case.specs.law.Layout.{countAt, boundsIn, directionCount, stateCount, machineCount}
+use Rattle.case.specs.law.Extents.{mostNodes, mostArcs, stationExtent, arcsExtent, stationsExtent, caseExtent}
 use Rattle.case.specs.law.Field.{field, fields, nextField}
 use Rattle.case.specs.law.HeadFields.{headFields, countFields, toleranceFields}
 use Rattle.case.specs.law.ArcFields.{allArcFields, arcFields, endFields, kindFields, pipeFields, memberFields, compressorFields}
 use Rattle.case.specs.law.StationFields.{allStationFields, stationFields, rowFields, partFields, stationHead}
 use Rattle.case.specs.law.StationFields.{directionFields, stateFields, stateRowFields, machineFields}
 use Rattle.case.specs.inside.FieldLaws.{zero-add, item-yes}
+use Rattle.case.specs.inside.NodeRows.{demands-are}
 use Rattle.case.specs.inside.Counts.{Counted, StationCounted}
-use Rattle.case.specs.inside.CountsInRange.{head-counted, station-counted, row-counted, list-counted, node-early, arc-early, end-most}
+use Rattle.case.specs.inside.CountsInRange.{head-counted, station-counted, row-counted, list-counted}
+use Rattle.case.specs.inside.Places.{node-early, arc-early, direction-early, state-early, machine-early, end-most}
 use Rattle.case.specs.law.Leftover.{leftover}
 use Rattle.case.specs.law.ArcEnds.{allArcEnds, arcEnds}
 use Rattle.case.specs.law.OneStation.{allOneStation, oneStation}
@@ -30,7 +33,7 @@ use Rattle.case.specs.law.Directions.{allDirectionSets, directionSets}
 use Rattle.case.specs.law.States.{allStateSets, stateSets}
 use Rattle.case.specs.law.Judged.{caseQuestions, listQuestions, rowQuestions, earlyRules, ruleQuestions}
 use Rattle.case.specs.law.TimeFields.{timeFields, timeField}
-use Rattle.case.specs.law.NodeFields.{allNodeFields, nodeFields, boundFields, demandFields}
+use Rattle.case.specs.law.NodeFields.{allNodeFields, nodeFields, nodeRowFields, nodeHead, boundFields}
 
 -- far above every index of a case
 abbrev pub limit : ℕ
@@ -43,15 +46,19 @@ module _ (case : List ℤ) where
   unfolding fields field
   demands-small i n low high h = all-over limit (nextField case i low high) 0 n (λ j l. search needs)
 
-  bounds-small : (offset : ℕ) → offset < 10000 → AllSmall limit (boundFields case offset)
-  unfolding boundFields fields field
+  head-small : (offset : ℕ) → offset ≤ arcsExtent → AllSmall limit (nodeHead case offset)
+  unfolding nodeHead field
+  head-small offset h = search needs
+
+  bounds-small : (offset : ℕ) → offset ≤ arcsExtent → AllSmall limit (boundFields case (offset + boundsIn case 0))
+  unfolding boundFields boundsIn fields field
   bounds-small offset h = search needs
 
-  ends-small : (offset : ℕ) → offset < 10000 → AllSmall limit (endFields case offset)
+  ends-small : (offset : ℕ) → offset ≤ stationsExtent → AllSmall limit (endFields case offset)
   unfolding endFields fields field
   ends-small offset h = search needs
 
-  kind-small : (offset : ℕ) → offset < 10000 → AllSmall limit (kindFields case offset)
+  kind-small : (offset : ℕ) → offset ≤ stationsExtent → AllSmall limit (kindFields case offset)
   unfolding kindFields pipeFields memberFields compressorFields fields field
   kind-small offset h = go (leb (countAt case offset) 1) (eqb (countAt case offset) 2) (leb (countAt case offset) 4)
     where
@@ -63,14 +70,14 @@ module _ (case : List ℤ) where
       go false false false = search needs
 
   -- a station's parts, each of few rows
-  parts-small : (offset : ℕ) → offset < 10000 → StationCounted case offset → AllSmall limit (partFields case offset)
-  unfolding partFields directionFields stateFields stateRowFields machineFields fields field machineAt stateAt directionAt
+  parts-small : (offset : ℕ) → offset ≤ caseExtent → StationCounted case offset → AllSmall limit (partFields case offset)
+  unfolding partFields directionFields stateFields stateRowFields machineFields fields field
   parts-small offset h d =
       all-append limit (over (directionFields case offset) 0 (directionCount case offset)) _
-      (all-over limit (directionFields case offset) 0 (directionCount case offset) (λ f l. search needs))
+      (all-over limit (directionFields case offset) 0 (directionCount case offset) (λ f l. let e = direction-early case offset (0 + f) (omega (arith, l, d .directions)) in search needs))
       (all-append limit (over (stateFields case offset) 0 (stateCount case offset)) _
-      (all-over limit (stateFields case offset) 0 (stateCount case offset) (λ z l. search needs))
-      (all-over limit (machineFields case offset) 0 (machineCount case offset) (λ m l. search needs)))
+      (all-over limit (stateFields case offset) 0 (stateCount case offset) (λ z l. let e = state-early case offset d (0 + z) (omega (arith, l, d .states)) in search needs))
+      (all-over limit (machineFields case offset) 0 (machineCount case offset) (λ m l. let e = machine-early case offset d (0 + m) in let w = d .machines in search needs)))
 
   -- ---- all rows, once the counts before have passed
 
@@ -80,10 +87,13 @@ module _ (case : List ℤ) where
     times-small = all-over limit (timeField case) 0 (stepsOf case) (λ i l. search needs)
 
     nodes-small : AllSmall limit (allNodeFields case)
-    unfolding allNodeFields nodeFields demandFields
+    unfolding allNodeFields nodeFields nodeRowFields
     nodes-small = all-over limit (nodeFields case) 0 (nodesOf case) (λ v l.
+        let offset = nodeAt case (0 + v) in
         let r = node-early case c (0 + v) (omega (arith, c .nodes)) in
-        all-append limit (boundFields case (nodeAt case (0 + v))) _ (bounds-small _ (omega arith)) (demands-small _ _ _ _ (omega (arith, c .steps))))
+        all-append limit (nodeHead case offset) _ (head-small offset r)
+        (all-append limit (boundFields case (offset + boundsIn case 0)) _ (bounds-small offset r)
+        (rw (demands-are case offset (stepsOf case)) (demands-small _ _ _ _ (omega (arith, c .steps))))))
 
     arcs-small : AllSmall limit (allArcFields case)
     unfolding allArcFields arcFields
@@ -92,7 +102,7 @@ module _ (case : List ℤ) where
         all-append limit (endFields case (arcAt case (0 + e))) _ (ends-small _ (omega arith)) (kind-small _ (omega arith)))
 
     -- where every station before s has its counts in range
-    station-early : (s : ℕ) → ((m : ℕ) → m < s → StationCounted case (stationAt case m)) → stationAt case s ≤ 4615 + s * 117
+    station-early : (s : ℕ) → ((m : ℕ) → m < s → StationCounted case (stationAt case m)) → stationAt case s ≤ stationsExtent + s * stationExtent
     unfolding stationAt
     station-early zero h = omega (arith, arc-early case c (arcsOf case) (c .arcs))
     station-early (suc s) h = omega (arith, end-most case (stationAt case s) (h s (omega arith)), station-early s (λ m l. h m (omega arith)))
@@ -103,7 +113,7 @@ module _ (case : List ℤ) where
     station-small s h before =
         let offset = stationAt case s in
         let r = station-early s (λ m l. row-counted case (stationAt case m) (before m l)) in
-        let low : offset < 10000 = omega (arith, r, h, c .stations) in
+        let low : offset ≤ caseExtent = omega (arith, r, h, c .stations) in
         small-append limit (stationHead case offset) (partFields case offset) (all-small limit (stationHead case offset) (search needs))
         (λ e. all-small limit (partFields case offset) (parts-small offset low (station-counted case offset e)))
 

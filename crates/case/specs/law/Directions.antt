@@ -8,6 +8,7 @@ use Rattle.numbers.specs.law.Question.{Question}
 use Rattle.numbers.specs.law.Items.{over}
 use Rattle.numbers.specs.law.Sets.{memberOf, disjointOf}
 use Rattle.case.specs.declared.records.Direction.{Direction}
+use Rattle.case.specs.law.Extents.{setRoom}
 use Rattle.case.specs.law.Layout.{stationsOf}
 use Rattle.case.specs.law.Records.{stationOf, directionOf}
 use Rattle.case.specs.law.StationArcs.{every}
@@ -16,7 +17,7 @@ use Rattle.case.specs.law.Field.{asks}
 
 -- Each node of the set is a fence node, where `fence` says which nodes are. By 11 a node set has the range 0..2^60-1, so its items are among the first 60.
 abbrev pub onlyFence : (ℕ → Bool) → ℤ → Bool
-onlyFence fence set = every 60 (λ v. not (memberOf set v) || fence v)
+onlyFence fence set = every setRoom (λ v. not (memberOf set v) || fence v)
 
 -- a direction's two sets share no node and hold only fence nodes
 unfoldable pub setsKept : (ℕ → Bool) → Direction → Bool

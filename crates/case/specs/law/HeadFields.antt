@@ -4,14 +4,15 @@ use mathlib.Core.List.{List, _++_}
 use lib.IntN.{ℤ, pos}
 use Rattle.numbers.specs.law.Question.{Question}
 use Rattle.case.specs.law.Layout.{editionAt, nodeCountAt, arcCountAt, stationCountAt, stepCountAt, massToleranceAt, pressureToleranceAt}
+use Rattle.case.specs.law.Extents.{lastEdition, mostNodes, mostArcs}
 use Rattle.case.specs.law.Field.{field}
 
 -- edition, N, A, S, k
 unfoldable pub countFields : List ℤ → List Question
 countFields case =
-    field case editionAt (pos 1) (pos 1)
-    ++ (field case nodeCountAt (pos 1) (pos 60)
-    ++ (field case arcCountAt (pos 0) (pos 120)
+    field case editionAt (pos 1) (pos lastEdition)
+    ++ (field case nodeCountAt (pos 1) (pos (mostNodes case))
+    ++ (field case arcCountAt (pos 0) (pos (mostArcs case))
     ++ (field case stationCountAt (pos 0) (pos 8)
     ++ field case stepCountAt (pos 1) (pos 48))))
 

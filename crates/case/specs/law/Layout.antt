@@ -41,6 +41,9 @@ massToleranceAt = 5
 abbrev pub pressureToleranceAt : ℕ
 pressureToleranceAt = 6
 
+abbrev pub editionOf : List ℤ → ℕ
+editionOf case = countAt case editionAt
+
 abbrev pub nodesOf : List ℤ → ℕ
 nodesOf case = countAt case nodeCountAt
 
@@ -64,34 +67,47 @@ pressureTolerance case = numberAt case pressureToleranceAt
 abbrev pub timeAt : ℕ → ℕ
 timeAt i = headWidth + i
 
--- ---- node rows: kind, p0, low, high, actlow, acthigh, and a demand for each step. The fields of the row that begins at `offset`:
+-- ---- node rows: kind, p0, low, high, actlow, acthigh, and a demand for each step
 
-abbrev pub nodeHeadWidth : ℕ
-nodeHeadWidth = 6
+-- how many numbers a node's row has
+unfoldable pub nodeWidth : List ℤ → ℕ
+nodeWidth case = 6 + stepsOf case
 
+unfoldable pub nodeAt : List ℤ → ℕ → ℕ
+nodeAt case v = headWidth + stepsOf case + v * nodeWidth case
+
+-- of the row that begins at `offset`
 abbrev pub nodeKindAt : ℕ → ℕ
 nodeKindAt offset = offset
 
 abbrev pub p0At : ℕ → ℕ
 p0At offset = offset + 1
 
+-- how far into a row the bounds that hold in the step with index i begin, the same in every step, and how far into it the step's demand stands
+unfoldable pub boundsIn : List ℤ → ℕ → ℕ
+boundsIn case i = 2
+
+unfoldable pub demandIn : List ℤ → ℕ → ℕ
+demandIn case i = 6 + i
+
+abbrev pub boundsAt : List ℤ → ℕ → ℕ → ℕ
+boundsAt case v i = nodeAt case v + boundsIn case i
+
+abbrev pub demandAt : List ℤ → ℕ → ℕ → ℕ
+demandAt case v i = nodeAt case v + demandIn case i
+
+-- of the four bounds that begin at `offset`
 abbrev pub lowAt : ℕ → ℕ
-lowAt offset = offset + 2
+lowAt offset = offset
 
 abbrev pub highAt : ℕ → ℕ
-highAt offset = offset + 3
+highAt offset = offset + 1
 
 abbrev pub actlowAt : ℕ → ℕ
-actlowAt offset = offset + 4
+actlowAt offset = offset + 2
 
 abbrev pub acthighAt : ℕ → ℕ
-acthighAt offset = offset + 5
-
-abbrev pub demandsAt : ℕ → ℕ
-demandsAt offset = offset + nodeHeadWidth
-
-unfoldable pub nodeAt : List ℤ → ℕ → ℕ
-nodeAt case v = headWidth + stepsOf case + v * (nodeHeadWidth + stepsOf case)
+acthighAt offset = offset + 3
 
 -- ---- arc rows: kind, from, to, qmax, and seven that go by the kind
 
@@ -184,8 +200,8 @@ abbrev pub machineCount : List ℤ → ℕ → ℕ
 machineCount case offset = countAt case (machineCountAt offset)
 
 -- a direction's row, which begins at `offset`: entry set, exit set, weight
-abbrev pub directionWidth : ℕ
-directionWidth = 3
+unfoldable pub directionWidth : List ℤ → ℕ
+directionWidth case = 3
 
 abbrev pub entryAt : ℕ → ℕ
 entryAt offset = offset
@@ -213,8 +229,8 @@ abbrev pub stateWeightAt : ℕ → ℕ
 stateWeightAt offset = offset + 3
 
 -- a machine's: flow Q, ratio R
-abbrev pub machineWidth : ℕ
-machineWidth = 2
+unfoldable pub machineWidth : List ℤ → ℕ → ℕ
+machineWidth case offset = 2
 
 abbrev pub machineFlowAt : ℕ → ℕ
 machineFlowAt offset = offset
@@ -224,14 +240,16 @@ ratioAt offset = offset + 1
 
 -- where the rows of directions, states and machines begin, by the index `offset` of the station's first number
 
-unfoldable pub directionAt : ℕ → ℕ → ℕ
-directionAt offset f = offset + stationHeadWidth + f * directionWidth
+unfoldable pub directionAt : List ℤ → ℕ → ℕ → ℕ
+directionAt case offset f = offset + stationHeadWidth + f * directionWidth case
 
 unfoldable pub stateAt : List ℤ → ℕ → ℕ → ℕ
-stateAt case offset z = directionAt offset (directionCount case offset) + z * stateWidth
+stateAt case offset z = directionAt case offset (directionCount case offset) + z * stateWidth
 
+-- a machine's row begins where the one before it ends
 unfoldable pub machineAt : List ℤ → ℕ → ℕ → ℕ
-machineAt case offset m = stateAt case offset (stateCount case offset) + m * machineWidth
+machineAt case offset zero = stateAt case offset (stateCount case offset)
+machineAt case offset (suc m) = machineAt case offset m + machineWidth case (machineAt case offset m)
 
 -- the index past the station's last row
 abbrev pub stationEnd : List ℤ → ℕ → ℕ

@@ -12,7 +12,7 @@ use Rattle.case.specs.declared.records.Direction.{Direction}
 use Rattle.case.specs.declared.records.State.{State}
 use Rattle.case.specs.declared.records.Machine.{Machine}
 use Rattle.case.specs.law.Layout.{numberAt, countAt, timeAt, nodeAt, arcAt, directionAt, stateAt, machineAt, stationAt, nodeKindAt, p0At}
-use Rattle.case.specs.law.Layout.{lowAt, highAt, actlowAt, acthighAt, demandsAt, arcKindAt, fromAt, toAt, qmaxAt, cAt, fAt, gAt, hAt}
+use Rattle.case.specs.law.Layout.{boundsAt, demandAt, lowAt, highAt, actlowAt, acthighAt, arcKindAt, fromAt, toAt, qmaxAt, cAt, fAt, gAt, hAt}
 use Rattle.case.specs.law.Layout.{arcStationAt, bothwaysAt, arcWeightAt, startActivityAt, machineSetAt, mostMachinesAt, outboundAt}
 use Rattle.case.specs.law.Layout.{directionCountAt, stateCountAt, machineCountAt, startDirectionAt, startStateAt, entryAt, exitAt}
 use Rattle.case.specs.law.Layout.{directionWeightAt, directionSetAt, onAt, offAt, stateWeightAt, machineFlowAt, ratioAt}
@@ -31,11 +31,11 @@ abbrev pub nodeOf : List ℤ → ℕ → ℕ → Node
 nodeOf case v i = record {
   kind = countAt case (nodeKindAt (nodeAt case v));
   p0 = numberAt case (p0At (nodeAt case v));
-  low = numberAt case (lowAt (nodeAt case v));
-  high = numberAt case (highAt (nodeAt case v));
-  actlow = numberAt case (actlowAt (nodeAt case v));
-  acthigh = numberAt case (acthighAt (nodeAt case v));
-  demand = numberAt case (demandsAt (nodeAt case v) + i);
+  low = numberAt case (lowAt (boundsAt case v i));
+  high = numberAt case (highAt (boundsAt case v i));
+  actlow = numberAt case (actlowAt (boundsAt case v i));
+  acthigh = numberAt case (acthighAt (boundsAt case v i));
+  demand = numberAt case (demandAt case v i);
 }
 
 -- an arc: the fields of every kind
@@ -81,9 +81,9 @@ stationRow case offset = record {
 
 abbrev pub directionRow : List ℤ → ℕ → ℕ → Direction
 directionRow case offset f = record {
-  entry = numberAt case (entryAt (directionAt offset f));
-  exit = numberAt case (exitAt (directionAt offset f));
-  weight = countAt case (directionWeightAt (directionAt offset f));
+  entry = numberAt case (entryAt (directionAt case offset f));
+  exit = numberAt case (exitAt (directionAt case offset f));
+  weight = countAt case (directionWeightAt (directionAt case offset f));
 }
 
 abbrev pub stateRow : List ℤ → ℕ → ℕ → State
@@ -94,11 +94,15 @@ stateRow case offset z = record {
   weight = countAt case (stateWeightAt (stateAt case offset z));
 }
 
-abbrev pub machineRow : List ℤ → ℕ → ℕ → Machine
-machineRow case offset m = record {
-  flow = numberAt case (machineFlowAt (machineAt case offset m));
-  ratio = numberAt case (ratioAt (machineAt case offset m));
+-- the machine whose row begins at `at`
+abbrev pub machineFrom : List ℤ → ℕ → Machine
+machineFrom case at = record {
+  flow = numberAt case (machineFlowAt at);
+  ratio = numberAt case (ratioAt at);
 }
+
+abbrev pub machineRow : List ℤ → ℕ → ℕ → Machine
+machineRow case offset m = machineFrom case (machineAt case offset m)
 
 abbrev pub stationOf : List ℤ → ℕ → Station
 stationOf case s = stationRow case (stationAt case s)

@@ -10,6 +10,7 @@ use Rattle.numbers.specs.law.Items.{over}
 use Rattle.case.specs.law.Layout.{directionCount, stateCount, machineCount, directionAt, stateAt, machineAt, stationAt, stationsOf}
 use Rattle.case.specs.law.Layout.{directionCountAt, stateCountAt, machineCountAt, startDirectionAt, startStateAt, entryAt, directionWeightAt}
 use Rattle.case.specs.law.Layout.{directionSetAt, onAt, stateWeightAt, machineFlowAt, ratioAt}
+use Rattle.case.specs.law.Extents.{setRoom}
 use Rattle.case.specs.law.Field.{field, fields, lastOf, mostFlow, mostWeight}
 
 -- the set of the first n items
@@ -27,8 +28,8 @@ stationHead case offset =
 -- entry set, exit set, weight
 unfoldable pub directionFields : List ℤ → ℕ → ℕ → List Question
 directionFields case offset f =
-    fields case (entryAt (directionAt offset f)) 2 (pos 0) (firstItems 60)
-    ++ field case (directionWeightAt (directionAt offset f)) (pos 0) mostWeight
+    fields case (entryAt (directionAt case offset f)) 2 (pos 0) (firstItems setRoom)
+    ++ field case (directionWeightAt (directionAt case offset f)) (pos 0) mostWeight
 
 -- direction set, on set, off set, weight of the row that begins at `offset`; `most` is the largest direction set
 unfoldable pub stateRowFields : List ℤ → ℕ → ℤ → List Question

@@ -7,13 +7,14 @@ use lib.Bits.{bitOr}
 use lib.Dec.{ltb, leb}
 use lib.IntN.{ℤ, pos}
 use Rattle.numbers.specs.law.Sets.{memberOf}
+use Rattle.case.specs.law.Extents.{setRoom}
 use Rattle.case.specs.law.Layout.{arcsOf}
 use Rattle.case.specs.law.Records.{arcOf}
 use Rattle.case.specs.law.StationArcs.{belongs}
 
 -- a node set with the node v in it. A node set has room for 60 nodes, as many as a case may have.
 unfoldable pub withNode : ℕ → ℕ → ℕ
-withNode set v = cond (ltb v 60) (bitOr set (2 ^ v)) set
+withNode set v = cond (ltb v setRoom) (bitOr set (2 ^ v)) set
 
 -- a node set with both ends of arc e in it
 abbrev pub withEnds : List ℤ → ℕ → ℕ → ℕ

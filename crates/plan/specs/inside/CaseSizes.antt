@@ -12,7 +12,7 @@ use Rattle.numbers.specs.inside.SignedBounds.{Bounded}
 use Rattle.numbers.specs.law.Question.{firstNo}
 use Rattle.numbers.specs.law.Sets.{subsetOf}
 use Rattle.numbers.specs.declared.answer.Answer.the-variants.{Yes}
-use Rattle.case.specs.law.Layout.{nodesOf, arcsOf, stationsOf, stepsOf, massTolerance, pressureTolerance, nodeAt, demandsAt, arcAt, stationAt}
+use Rattle.case.specs.law.Layout.{nodesOf, arcsOf, stationsOf, stepsOf, massTolerance, pressureTolerance, boundsIn, demandAt, arcAt, stationAt}
 use Rattle.case.specs.law.Records.{nodeOf, arcOf, pipeOf, artificialOf, stationOf, directionOf, stateOf}
 use Rattle.case.specs.law.Field.{mostFlow}
 use Rattle.case.specs.law.StationFields.{firstItems}
@@ -66,6 +66,7 @@ module _ {case : List ℤ} (c : AcceptedCase case) where
 
   module _ (v : ℕ) (p : v < nodesOf case) where
     pub node-sized : (i : ℕ) → i < stepsOf case → NodeSized (nodeOf case v i)
+    unfolding boundsIn
     node-sized i q =
         let r = facts .nodes v p in
         let d = demand-iff (nodeOf case v i) (laws.at-most (r .kind)) .1 (facts .demands v i p q) in
@@ -81,7 +82,7 @@ module _ {case : List ℤ} (c : AcceptedCase case) where
               sized 10000000 d least (cond-sized (eqb k 1) mostFlow (pos 0) (omega arith) (omega arith));
         }
 
-    pub node-there : (i : ℕ) → i < stepsOf case → demandsAt (nodeAt case v) + i < length case
+    pub node-there : (i : ℕ) → i < stepsOf case → demandAt case v i < length case
     node-there i q = laws.node-there case (c .yes) v i p q
 
   -- ---- arcs

@@ -3,11 +3,12 @@ use lib.Count.{ones}
 use Rattle.numbers.specs.law.Sums.{sum, sumN, count}
 use Rattle.numbers.specs.law.Groups.{groups}
 use Rattle.numbers.specs.law.Reading.{readOf, readTold, numberOf}
-use Rattle.case.specs.law.Layout.{nodeAt, arcAt, stationAt, directionAt, stateAt, machineAt}
+use Rattle.case.specs.law.Extents.{mostNodes, mostArcs}
+use Rattle.case.specs.law.Layout.{nodeWidth, nodeAt, boundsIn, demandIn, arcAt, stationAt, directionWidth, directionAt, stateAt, machineWidth, machineAt}
 use Rattle.case.specs.law.Field.{field, fields}
 use Rattle.case.specs.law.HeadFields.{countFields, toleranceFields, headFields}
 use Rattle.case.specs.law.TimeFields.{timeField, timeFields}
-use Rattle.case.specs.law.NodeFields.{boundFields, demandFields, nodeFields, allNodeFields}
+use Rattle.case.specs.law.NodeFields.{nodeHead, boundFields, demandField, nodeRowFields, nodeFields, allNodeFields}
 use Rattle.case.specs.law.ArcFields.{endFields, pipeFields, memberFields, compressorFields, kindFields, arcFields, allArcFields}
 use Rattle.case.specs.law.StationFields.{stationHead, directionFields, stateRowFields, stateFields, machineFields}
 use Rattle.case.specs.law.StationFields.{partFields, rowFields, stationFields, allStationFields}
@@ -53,12 +54,13 @@ codec = tt
 
 -- sums, and where rows stand
 unfoldable pub layout : Unit {0}
-unfolding sum sumN count ones nodeAt arcAt stationAt directionAt stateAt machineAt stepWidth stepAt stepRows
+unfolding sum sumN count ones nodeWidth nodeAt boundsIn demandIn arcAt stationAt directionWidth directionAt stateAt machineWidth machineAt stepWidth stepAt stepRows
 layout = tt
 
 -- 10 to 12
 unfoldable pub caseFields : Unit {0}
-unfolding field fields countFields toleranceFields headFields timeField timeFields boundFields demandFields nodeFields allNodeFields
+unfolding field fields mostNodes mostArcs countFields toleranceFields headFields timeField timeFields
+    nodeHead boundFields demandField nodeRowFields nodeFields allNodeFields
     endFields pipeFields memberFields compressorFields kindFields arcFields allArcFields
     stationHead directionFields stateRowFields stateFields machineFields partFields rowFields stationFields allStationFields leftover
 caseFields = tt

@@ -6,16 +6,19 @@ use Rattle.case.proofs.judge.lay.Statement.{statement}
 use Rattle.case.proofs.judge.lay.Tie as tie
 
 -- the head's counts, and where rows begin
-begun : (c : tie.After-count4) → let n = c .before .before .before in
+begun : (d : tie.After-first-arc) → let c = d .before in let n = c .before .before .before in
     Begins (now (n .before .args .case)) (n .count .result) (c .before .before .count2 .result) (c .before .count3 .result) (c .count4 .result)
-begun c =
+    (d .first-arc .result)
+begun d =
+    let c = d .before in
     let n = c .before .before .before in
     begins (n .before .pre .0) (n .count .ensures) (c .before .before .count2 .ensures) (c .before .count3 .ensures) (c .count4 .ensures)
+    (d .first-arc .ensures)
 
 station-firsts-requires : tie.Need-station-firsts-requires
 station-firsts-requires c κs =
     let b = begun c in
-    let p = c .before .before .before .before .pre in
+    let p = c .before .before .before .before .before .pre in
     (omega arith, b .station, omega (arith, p .0 .stations), b .stations, p .1)
 
 returns : tie.Need-returns
@@ -24,7 +27,7 @@ returns c =
     let f = c .before .before in
     let b = begun (f .before) in
     let t = b .stations in
-    let l = now (f .before .before .before .before .before .args .case) in
+    let l = now (f .before .before .before .before .before .before .args .case) in
     record {
       steps = b .steps;
       nodes = b .nodes;
@@ -39,7 +42,6 @@ returns c =
 
 pub lay-spec : {M : Type 1} → statement M
 lay-spec = tie.close (tie.spec
-    (λ c κs. search needs) (λ c κs. search needs) (λ c κs. search needs) (λ c κs. search needs) (λ c. search needs)
-    (λ c. search needs) (λ c. omega (arith, begun c)) (λ c. omega (arith, begun c)) (λ c. search needs)
-    (λ c. omega (arith, begun c)) station-firsts-requires
+    (λ c κs. search needs) (λ c κs. search needs) (λ c κs. search needs) (λ c κs. search needs) (λ c κs. search needs)
+    (λ c. search needs) (λ c. omega (arith, begun c)) station-firsts-requires
     (λ c κs. search needs) (λ c κs. search needs) returns)

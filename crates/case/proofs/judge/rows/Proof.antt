@@ -10,22 +10,25 @@ use Rattle.case.proofs.judge.rows.Statement.{statement}
 use Rattle.case.proofs.judge.rows.Tie as tie
 
 -- the head's counts, and where rows begin
-begun : (c : tie.After-count4) → let n = c .before .before .before in
+begun : (d : tie.After-first-arc) → let c = d .before in let n = c .before .before .before in
     Begins (now (n .before .args .case)) (n .count .result) (c .before .before .count2 .result) (c .before .count3 .result) (c .count4 .result)
-begun c =
+    (d .first-arc .result)
+begun d =
+    let c = d .before in
     let n = c .before .before .before in
     begins (n .before .pre) (n .count .ensures) (c .before .before .count2 .ensures) (c .before .count3 .ensures) (c .count4 .ensures)
+    (d .first-arc .ensures)
 
 arc-rows-requires : tie.Need-arc-rows-requires
 arc-rows-requires c κs =
     let b = begun (c .before .before) in
-    (omega arith, omega (arith, c .before .before .before .before .before .before .pre .arcs), b .arc)
+    (omega arith, omega (arith, c .before .before .before .before .before .before .before .pre .arcs), b .arc)
 
 station-rows-requires : tie.Need-station-rows-requires
 station-rows-requires c κs =
     let k = c .before .before .before in
     let b = begun k in
-    (omega arith, b .station, omega (arith, k .before .before .before .before .pre .stations), b .stations)
+    (omega arith, b .station, omega (arith, k .before .before .before .before .before .pre .stations), b .stations)
 
 returns : tie.Need-returns
 unfolding rowQuestions timeFields allNodeFields allArcFields
@@ -42,8 +45,7 @@ returns c =
 
 pub rows-spec : {M : Type 1} → statement M
 rows-spec = tie.close (tie.spec
-    (λ c κs. search needs) (λ c κs. search needs) (λ c κs. search needs) (λ c κs. search needs) (λ c. search needs)
-    (λ c. search needs) (λ c. omega (arith, begun c)) (λ c. omega (arith, begun c)) (λ c κs. search needs)
-    (λ c κs. search needs) arc-rows-requires (λ c. search needs)
+    (λ c κs. search needs) (λ c κs. search needs) (λ c κs. search needs) (λ c κs. search needs) (λ c κs. search needs)
+    (λ c κs. search needs) (λ c κs. search needs) arc-rows-requires (λ c. search needs)
     (λ c. omega (arith, begun (c .before .before .before))) station-rows-requires (λ c κs. search needs) (λ c κs. search needs)
     (λ c κs. search needs) returns)

@@ -4,14 +4,15 @@ use Prim.Native.Nat.{_≤_, _<_, _-_, _+_, _*_}
 use lib.ListN.{length, length-set}
 use Rattle.case.specs.law.LayoutOf.{Holds, Clear}
 use Rattle.case.specs.inside.HoldsLaws.{holds-none, holds-more, holds-to, clear-new, clear-more}
+use Rattle.case.specs.law.Extents.{stationExtent, stationsExtent}
 use Rattle.case.specs.law.Layout.{stationsOf, stationAt, stationEnd}
-use Rattle.case.specs.inside.CountsInRange.{station-next, end-most}
+use Rattle.case.specs.inside.Places.{station-next, end-most}
 use Rattle.case.proofs.judge.station_firsts.Statement.{statement}
 use Rattle.case.proofs.judge.station_firsts.Tie as tie
 
 abbrev Inv-loop : tie.InvT-loop
 Inv-loop case first stations rows₀ row₀ s₀ offsets offset s =
-    (s ≤ stations) × (offset ≡ stationAt case s) × (offset ≤ 5000 + 117 * s) × (length offsets ≡ 8)
+    (s ≤ stations) × (offset ≡ stationAt case s) × (offset ≤ stationsExtent + stationExtent * s) × (length offsets ≡ 8)
     × Holds 0 offsets (stationAt case) s × Clear 0 offsets s
 
 abbrev μ-loop : tie.MeasureT-loop

@@ -1,8 +1,8 @@
--- The kind that was read picks the range of the demands.
+-- The kind that was read picks the range of the demands, which stand one after the other (`demands-are`).
 use Rattle.case.proofs.Common.{needs, _∙_, _≡_, sym, now}
 use borrow.Author.Tests.{ne-eqb}
 use Rattle.case.specs.law.Layout.{countAt}
-use Rattle.case.specs.law.NodeFields.{demandFields}
+use Rattle.case.specs.inside.NodeRows.{demands-are}
 use Rattle.case.proofs.Counting.{first-is}
 use Rattle.case.proofs.nodes.demand_fields.Statement.{statement}
 use Rattle.case.proofs.nodes.demand_fields.Tie as tie
@@ -12,19 +12,16 @@ kind-is : (c : tie.After-count) → c .count .result ≡ countAt (now (c .before
 kind-is c = first-is (c .before .args .offset) (c .count .ensures)
 
 returns : tie.Need-returns
-unfolding demandFields
-returns c = let k = c .before .before in rw (sym (kind-is k) ∙ c .before .match .keys1, ← k .before .pre .2) (c .fields .ensures)
+returns c = let k = c .before .before in rw (demands-are _ (k .before .args .offset) (k .before .args .steps), sym (kind-is k) ∙ c .before .match .keys1) (c .fields .ensures)
 
 returns-2 : tie.Need-returns-2
-unfolding demandFields
-returns-2 c = let k = c .before .before in rw (sym (kind-is k) ∙ c .before .match .keys2, ← k .before .pre .2) (c .fields2 .ensures)
+returns-2 c = let k = c .before .before in rw (demands-are _ (k .before .args .offset) (k .before .args .steps), sym (kind-is k) ∙ c .before .match .keys2) (c .fields2 .ensures)
 
 returns-3 : tie.Need-returns-3
-unfolding demandFields
 returns-3 c =
     let k = c .before .before in
     let r = c .before .match .rest in
-    rw (← kind-is k, ne-eqb _ 1 (r .0 .1), ne-eqb _ 2 (r .1), ← k .before .pre .2) (c .fields3 .ensures)
+    rw (demands-are _ (k .before .args .offset) (k .before .args .steps), ← kind-is k, ne-eqb _ 1 (r .0 .1), ne-eqb _ 2 (r .1)) (c .fields3 .ensures)
 
 pub demand-fields-spec : {M : Type 1} → statement M
 demand-fields-spec = tie.close (tie.spec

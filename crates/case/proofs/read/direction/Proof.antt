@@ -9,7 +9,7 @@ returns : tie.Need-returns
 returns c =
     let u = c .before .before .before in
     let l = now (u .before .args .case) in
-    let offset = directionAt (u .before .args .offset) (u .before .args .f) in
+    let offset = directionAt l (u .before .args .offset) (u .before .args .f) in
     let r = u .direction-at .ensures in
     let e0 = first-number l offset r (c .before .before .number .ok) (c .before .before .number .ensures) in
     let e1 = number-in l offset r 1 (c .before .number2 .ok) (c .before .number2 .ensures) in

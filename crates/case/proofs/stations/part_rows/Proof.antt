@@ -1,6 +1,6 @@
 -- The counts that were read are the station's and in range (`StationRead`); the answers of the three groups are put together.
 use Rattle.case.proofs.Common.{needs, arith, now, firstNo-append}
-use Rattle.case.specs.law.Layout.{directionAt, stateAt, machineAt}
+use Rattle.case.specs.inside.Places.{state-early, machine-early}
 use Rattle.case.specs.law.StationFields.{partFields}
 use Rattle.case.proofs.Asked.{chain}
 use Rattle.case.proofs.Counting.{StationRead, station-read}
@@ -17,19 +17,26 @@ direction-rows-requires c κs = (c .before .before .before .pre .0, omega (arith
 
 state-rows-requires : tie.Need-state-rows-requires
 state-rows-requires c κs =
-    let r = read (c .before) in
-    (c .before .before .before .before .pre .0, omega arith, r .directions, omega arith)
+    let r = read (c .before .before) in
+    let s = c .before .before .before .before .before in
+    let e = c .states-at .ensures in
+    let early = state-early (now (s .args .case)) (s .args .offset) (s .pre .1) 0 (omega arith) in
+    (omega (arith, e, early, s .pre .0), e, omega arith, r .directions, omega arith)
 
 machine-rows-requires : tie.Need-machine-rows-requires
-unfolding machineAt stateAt directionAt
-machine-rows-requires c κs = let r = read (c .before .before) in (omega arith, omega arith, omega arith)
+machine-rows-requires c κs =
+    let d = c .before .before .before .before in
+    let s = d .before .before .before in
+    let e = c .machines-at .ensures in
+    let early = machine-early (now (s .args .case)) (s .args .offset) (s .pre .1) 0 in
+    (omega (arith, e, early, s .pre .0), e, omega (arith, read d))
 
 returns : tie.Need-returns
 unfolding partFields
 returns c =
     let m = c .before .before in
-    let z = m .before in
-    let d = z .before in
+    let z = m .before .before in
+    let d = z .before .before in
     let r = read (d .before) in
     simp firstNo-append
     (chain (c .or-else2 .ensures) (simp (r .directions) at (d .direction-rows .ensures))
@@ -37,7 +44,6 @@ returns c =
 
 pub part-rows-spec : {M : Type 1} → statement M
 part-rows-spec = tie.close (tie.spec
-    (λ c κs. search needs) (λ c κs. search needs) (λ c κs. search needs) direction-rows-requires state-rows-requires
-    (λ c. search needs) (λ c. omega (arith, read (c .before .before))) (λ c. omega (arith, read (c .before .before)))
-    (λ c. search needs) (λ c. omega (arith, read (c .before .before))) machine-rows-requires
+    (λ c κs. search needs) (λ c κs. search needs) (λ c κs. search needs) direction-rows-requires (λ c κs. search needs) state-rows-requires
+    (λ c κs. search needs) machine-rows-requires
     (λ c κs. search needs) (λ c κs. search needs) returns)

@@ -7,10 +7,10 @@ use Rattle.case.proofs.stations.state_rows.Statement.{statement}
 use Rattle.case.proofs.stations.state_rows.Tie as tie
 
 abbrev Inv-loop : tie.InvT-loop
-Inv-loop case offset directions states sets first z₀ z = Asking (stateFields case offset) (firstNo (over (stateFields case offset) 0 states)) z states
+Inv-loop case offset first directions states sets z₀ z = Asking (stateFields case offset) (firstNo (over (stateFields case offset) 0 states)) z states
 
 abbrev μ-loop : tie.MeasureT-loop
-μ-loop case offset directions states sets first z₀ z = states - z
+μ-loop case offset first directions states sets z₀ z = states - z
 
 asked : (b : tie.After-state-fields Inv-loop μ-loop) → let h = b .before .before in
     b .state-fields .result ≡ firstNo (stateFields (now (h .before .before .args .case)) (h .before .before .args .offset) (h .loop .z))
@@ -19,8 +19,8 @@ asked b =
     let h = b .before .before in
     let s = h .before .before in
     let i = h .before .first-items in
-    let y = kept-is (i .ok) (i .ensures) ∙ ap firstItems (s .pre .2) in
-    rw (← state-row _ (s .args .offset) (h .loop .z) (s .pre .2), ← y) (b .state-fields .ensures)
+    let y = kept-is (i .ok) (i .ensures) ∙ ap firstItems (s .pre .3) in
+    rw (← state-row _ (s .args .offset) (h .loop .z) (s .pre .1), ← y) (b .state-fields .ensures)
 
 loop-holds : tie.Need-loop-holds Inv-loop μ-loop
 loop-holds c = asking refl
@@ -40,6 +40,6 @@ returns-2 c = asking-end (c .before .loop .inv) (c .loop-test .left)
 
 pub state-rows-spec : {M : Type 1} → statement M
 state-rows-spec = tie.close (tie.spec
-    Inv-loop μ-loop (λ c κs. omega arith) (λ c. omega arith) (λ c. omega arith) (λ c. omega arith) loop-holds
+    Inv-loop μ-loop (λ c κs. omega arith) loop-holds
     (λ c. omega arith) (λ c. omega arith) (λ c κs. omega arith) (λ c. search needs) (λ c. search needs) returns (λ c. omega arith)
     (λ c. omega arith) loop-again returns-2)

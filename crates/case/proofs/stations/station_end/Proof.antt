@@ -1,21 +1,50 @@
--- The counts that were read are the station's and in range (`StationRead`), so the sum fits and is where its rows end.
-use Rattle.case.proofs.Common.{needs, arith, now}
-use Rattle.case.specs.law.Layout.{directionAt, stateAt, machineAt}
-use Rattle.case.proofs.Counting.{StationRead, station-read}
+-- `at` is where the row of machine `m` begins, each where the one before it ends; a station has few machines, so the sum fits.
+use Rattle.case.proofs.Common.{needs, arith, _∙_, _≡_, ap, now, _+_, _-_, _≤_}
+use Prim.Native.Nat.{_*_}
+use Rattle.case.specs.law.Extents.{machineExtent}
+use Rattle.case.specs.law.Layout.{machineAt, machineWidth}
+use Rattle.case.specs.inside.Places.{machine-width, machine-next, machine-early}
 use Rattle.case.proofs.stations.station_end.Statement.{statement}
 use Rattle.case.proofs.stations.station_end.Tie as tie
 
--- the counts that were read
-read : (c : tie.After-count3) → let d = c .before .before in
-    StationRead (now (d .before .args .case)) (d .before .args .offset) (d .count .result) (c .before .count2 .result) (c .count3 .result)
-read c = let d = c .before .before in station-read (d .before .pre .1) (d .count .ensures) (c .before .count2 .ensures) (c .count3 .ensures)
+abbrev Inv-loop : tie.InvT-loop
+Inv-loop case offset machines at₀ m₀ at m = (m ≤ machines) × (at ≡ machineAt case offset m)
 
-returns : tie.Need-returns
-unfolding machineAt stateAt directionAt
-returns c = omega (arith, read c)
+abbrev μ-loop : tie.MeasureT-loop
+μ-loop case offset machines at₀ m₀ at m = machines - m
+
+loop-holds : tie.Need-loop-holds Inv-loop μ-loop
+loop-holds c = (omega arith, c .machines-at .ensures)
+
+add-at : tie.Need-add-at Inv-loop μ-loop
+add-at c =
+    let h = c .before .before in
+    let n = h .before .before in
+    let s = n .before in
+    let l = now (s .args .case) in
+    let few = machine-early l (s .args .offset) (s .pre .1) (h .loop .m) in
+    omega (arith, h .loop .inv, few, n .count .ensures .value, s .pre .1 .machines, s .pre .0, c .machine-width .ensures, machine-width l (h .loop .at))
+
+loop-again : tie.Need-loop-again Inv-loop μ-loop
+loop-again c =
+    let h = c .before .before in
+    let s = h .before .before .before in
+    let l = now (s .args .case) in
+    let i = h .loop .inv in (
+      omega (arith, c .before .loop-test .taken),
+      omega (arith, i .1, c .machine-width .ensures ∙ ap (machineWidth l) (i .1), machine-next l (s .args .offset) (h .loop .m)),
+    )
+
+returns : tie.Need-returns Inv-loop μ-loop
+returns c =
+    let h = c .before in
+    let n = h .before .before in
+    let s = n .before in
+    let i = h .loop .inv in
+    let e : h .loop .m ≡ n .count .result = omega (arith, i .0, c .loop-test .left) in
+    i .1 ∙ ap (machineAt (now (s .args .case)) (s .args .offset)) (e ∙ n .count .ensures .value)
 
 pub station-end-spec : {M : Type 1} → statement M
 station-end-spec = tie.close (tie.spec
-    (λ c κs. search needs) (λ c κs. search needs) (λ c κs. search needs) (λ c. search needs) (λ c. omega (arith, read c))
-    (λ c. omega (arith, read c)) (λ c. search needs) (λ c. omega (arith, read c)) (λ c. search needs)
-    (λ c. omega (arith, read c)) returns)
+    Inv-loop μ-loop (λ c κs. search needs) (λ c κs. search needs) loop-holds (λ c κs. search needs) add-at (λ c. omega arith) (λ c. omega arith)
+    loop-again returns)

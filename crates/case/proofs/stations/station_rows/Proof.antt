@@ -2,9 +2,11 @@
 use Rattle.case.proofs.Common.{needs, arith, _∙_, _≡_, ap, sym, refl, now, firstNo, Asking, asking, asking-on, asking-no, asking-end}
 use Prim.Native.Nat.{ℕ, _≤_, _-_, _+_, _*_}
 use Rattle.numbers.specs.inside.QuestionLaws.{orElse-yes}
+use Rattle.case.specs.law.Extents.{stationExtent, stationsExtent}
 use Rattle.case.specs.law.Layout.{stationsOf, stationEnd, stationAt}
 use Rattle.case.specs.law.Leftover.{leftover}
-use Rattle.case.specs.inside.CountsInRange.{row-counted, station-next, end-most}
+use Rattle.case.specs.inside.CountsInRange.{row-counted}
+use Rattle.case.specs.inside.Places.{station-next, end-most}
 use Rattle.case.specs.law.StationFields.{rowFields, stationFields, allStationFields}
 use Rattle.case.proofs.Asked.{stopped, went}
 use Rattle.case.specs.inside.Counts.{StationCounted}
@@ -13,7 +15,7 @@ use Rattle.case.proofs.stations.station_rows.Tie as tie
 
 abbrev Inv-loop : tie.InvT-loop
 Inv-loop case first stations row₀ s₀ offset s =
-    (offset ≡ stationAt case s) × (offset ≤ 5000 + 117 * s) × Asking (stationFields case) (firstNo (allStationFields case)) s stations
+    (offset ≡ stationAt case s) × (offset ≤ stationsExtent + stationExtent * s) × Asking (stationFields case) (firstNo (allStationFields case)) s stations
 
 abbrev μ-loop : tie.MeasureT-loop
 μ-loop case first stations row₀ s₀ offset s = stations - s

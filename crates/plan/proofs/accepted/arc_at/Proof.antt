@@ -1,7 +1,7 @@
 -- The arcs begin where the nodes end, and a case is too small for any offset to overflow.
 use Rattle.plan.proofs.Common.{_≡_, ap, _∙_, arith, now, counted}
 use Rattle.case.specs.law.Layout.{nodesOf, nodeAt, arcAt}
-use Rattle.case.specs.inside.CountsInRange.{arcs-begin}
+use Rattle.case.specs.inside.Places.{arcs-begin}
 use Rattle.plan.specs.inside.CaseSizes.{head-there}
 use Rattle.plan.proofs.accepted.arc_at.Statement.{statement}
 use Rattle.plan.proofs.accepted.arc_at.Tie as tie

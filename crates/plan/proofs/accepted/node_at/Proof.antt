@@ -1,27 +1,31 @@
--- A case has at most 48 steps and 60 nodes, so no offset overflows.
-use Rattle.plan.proofs.Common.{_≡_, _+_, _*_, _≤_, arith, now, counted}
+-- The nodes' rows follow head and times, and do not reach past the extents, so that no sum overflows.
+use Rattle.plan.proofs.Common.{_≡_, _∙_, ap, _+_, _*_, _≤_, arith, now, counted}
 use native.Mathlib.Nat.{mul-le-mul}
+use Rattle.case.specs.law.Extents.{nodeCapacity, nodeExtent}
 use Rattle.case.specs.law.Layout.{nodeAt, stepsOf}
+use Rattle.case.specs.inside.Places.{node-width}
 use Rattle.plan.specs.inside.CaseSizes.{head-there}
 use Rattle.plan.proofs.accepted.node_at.Statement.{statement}
 use Rattle.plan.proofs.accepted.node_at.Tie as tie
 
+steps-are : (c : tie.After-count) → c .count .result ≡ stepsOf (now (c .before .args .case))
+steps-are c = c .count .ensures
+
 few : (c : tie.After-count) → c .count .result ≤ 48
-few c =
-    let k : c .count .result ≡ stepsOf (now (c .before .args .case)) = c .count .ensures in
-    omega (arith, k, counted (c .before .pre .0) .steps)
+few c = omega (arith, steps-are c, counted (c .before .pre .0) .steps)
 
 -- how long the rows before the node's are
-offsets : (c : tie.After-count) → c .before .args .v * (6 + c .count .result) ≤ 60 * 54
+offsets : (c : tie.After-node-width) → c .before .before .args .v * c .node-width .result ≤ nodeCapacity * nodeExtent
 offsets c =
-    let p = c .before .pre in
-    mul-le-mul {n₂ = 60} {m₂ = 54} (omega (arith, p .1, counted (p .0) .nodes)) (omega (arith, few c))
+    let s = c .before .before in
+    let k = counted (s .pre .0) in
+    rw (c .node-width .ensures) (mul-le-mul {n₂ = nodeCapacity} {m₂ = nodeExtent} (omega (arith, s .pre .1, k .nodes)) (node-width (now (s .args .case)) (k .steps)))
 
 returns : tie.Need-returns
 unfolding nodeAt
-returns c = rw (c .count .ensures)
+returns c = rw (steps-are (c .before), c .node-width .ensures)
 
 pub node-at-spec : {M : Type 1} → statement M
 node-at-spec = tie.close (tie.spec
-    (λ c κs. omega (arith, head-there (c .pre .0))) (λ c. omega (arith, few c)) (λ c. omega (arith, few c)) (λ c. omega (arith, offsets c))
-    (λ c. omega (arith, few c, offsets c)) returns)
+    (λ c κs. omega (arith, head-there (c .pre .0))) (λ c. omega (arith, few c)) (λ c κs. c .before .pre .0) (λ c. omega (arith, offsets c))
+    (λ c. omega (arith, few (c .before), offsets c)) returns)

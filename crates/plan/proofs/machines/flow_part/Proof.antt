@@ -3,6 +3,7 @@ use Rattle.plan.proofs.Common.{_≡_, sym, ap, _∙_, needs, now, ℤ, 
 use Rattle.numbers.specs.law.Sets.{memberOf}
 use Rattle.case.specs.declared.records.Machine.{Machine}
 use Rattle.case.specs.law.Records.{machineRow}
+use Rattle.case.specs.inside.Near.{machine-here}
 use Rattle.plan.proofs.Adding.{taken-part, left-part}
 use Rattle.plan.specs.law.Machines.{flowPart}
 use Rattle.plan.proofs.SignedReads.{as-told}
@@ -18,7 +19,7 @@ returns c =
     let m = c .before in
     let d = m .before .before in
     let a = d .before .args in
-    as-told (c .struct-told .given .0 .1) (ap (λ (y : Machine). y .flow) (m .machine .ensures))
+    as-told (c .struct-told .given .0 .1) (ap (λ (y : Machine). y .flow) (m .machine-from .ensures ∙ machine-here (d .before .pre)))
     ∙ taken-part (machineRow (now (a .case)) (a .offset) (a .m) .flow) (member-is d) (m .before .if1 .taken)
 
 returns-2 : tie.Need-returns-2

@@ -3,6 +3,7 @@ use Rattle.plan.proofs.Common.{_≡_, sym, ap, _∙_, needs, now, ℤ, 
 use Rattle.numbers.specs.law.Sets.{memberOf}
 use Rattle.case.specs.declared.records.Machine.{Machine}
 use Rattle.case.specs.law.Records.{machineRow}
+use Rattle.case.specs.inside.Near.{machine-here}
 use Rattle.plan.proofs.Adding.{taken-part, left-part}
 use Rattle.plan.specs.law.Machines.{gainPart}
 use Rattle.plan.proofs.SignedReads.{read}
@@ -12,11 +13,11 @@ use Rattle.plan.proofs.machines.gain_part.Tie as tie
 member-is : (c : tie.After-member) → c .member .result ≡ memberOf (c .before .args .set) (c .before .args .m)
 member-is c = let s = c .before in c .member .ensures ∙ ap (λ (z : ℤ). memberOf z (s .args .m)) (toZ-ofZ (s .fits .set))
 
-gain-is : (c : tie.After-machine) → let a = c .before .before .before .args in
-    Held (toZ w64 (ofZ w64 (c .machine .result .ratio)) -ℤ pos 1000) (machineRow (now (a .case)) (a .offset) (a .m) .ratio -ℤ pos 1000) 11000
+gain-is : (c : tie.After-machine-from) → let a = c .before .before .before .args in
+    Held (toZ w64 (ofZ w64 (c .machine-from .result .ratio)) -ℤ pos 1000) (machineRow (now (a .case)) (a .offset) (a .m) .ratio -ℤ pos 1000) 11000
 gain-is c =
     let s = c .before .before .before in
-    read (ap (λ (y : Machine). y .ratio) (c .machine .ensures)) (s .pre .0 .ratio (s .args .m) (s .pre .1)) tt -ʳ literal (pos 1000)
+    read (ap (λ (y : Machine). y .ratio) (c .machine-from .ensures ∙ machine-here (s .pre .2))) (s .pre .0 .ratio (s .args .m) (s .pre .1)) tt -ʳ literal (pos 1000)
 
 returns : tie.Need-returns
 unfolding gainPart

@@ -5,6 +5,7 @@ use Rattle.numbers.specs.inside.SumLaws.{abs-only-le}
 use Rattle.numbers.specs.law.Sets.{memberOf}
 use Rattle.case.specs.declared.records.Station.{Station}
 use Rattle.case.specs.law.Layout.{machineCount}
+use Rattle.case.specs.inside.Near.{MachineHere, machine-on}
 use Rattle.plan.proofs.Adding.{Adding, start, fits, turn, end}
 use Rattle.plan.specs.law.Machines.{gainPart, machineGain}
 use Rattle.plan.proofs.SignedReads.{read, sized, as-told}
@@ -12,22 +13,25 @@ use Rattle.plan.proofs.machines.machine_gain.Statement.{statement}
 use Rattle.plan.proofs.machines.machine_gain.Tie as tie
 
 abbrev Inv-loop : tie.InvT-loop
-Inv-loop case offset set machines sum₀ m₀ sum m = (machines ≤ 12) × Adding (sum .value) (gainPart case offset (toZ w64 set)) 11000 machines m
+Inv-loop case offset set machines at₀ sum₀ m₀ at sum m =
+    (machines ≤ 12) × MachineHere case offset m at × Adding (sum .value) (gainPart case offset (toZ w64 set)) 11000 machines m
 
 abbrev μ-loop : tie.MeasureT-loop
-μ-loop case offset set machines sum₀ m₀ sum m = machines - m
+μ-loop case offset set machines at₀ sum₀ m₀ at sum m = machines - m
 
 loop-holds : tie.Need-loop-holds Inv-loop μ-loop
-loop-holds c = (omega (arith, c .before .pre .count, ap (λ (y : Station). y .machines) (c .station .ensures)), start)
+loop-holds c =
+    let t = c .before in
+    (omega (arith, t .before .pre .count, ap (λ (y : Station). y .machines) (t .station .ensures)), record { is = c .first-machine .ensures }, start)
 
-machine-in : (c : tie.In-loop Inv-loop μ-loop) → let a = c .before .before .before .args in c .before .loop .m < machineCount (now (a .case)) (a .offset)
-machine-in c = omega (arith, c .loop-test .taken, ap (λ (y : Station). y .machines) (c .before .before .station .ensures))
+machine-in : (c : tie.In-loop Inv-loop μ-loop) → let a = c .before .before .before .before .args in c .before .loop .m < machineCount (now (a .case)) (a .offset)
+machine-in c = omega (arith, c .loop-test .taken, ap (λ (y : Station). y .machines) (c .before .before .before .station .ensures))
 
-part-is : (c : tie.After-gain-part Inv-loop μ-loop) → let h = c .before .before in let a = h .before .before .args in
+part-is : (c : tie.After-gain-part Inv-loop μ-loop) → let h = c .before .before in let a = h .before .before .before .args in
     Held (toZ w64 (ofZ w64 (c .gain-part .result))) (gainPart (now (a .case)) (a .offset) (toZ w64 (ofZ w64 (a .set))) (h .loop .m)) 11000
 unfolding gainPart
 part-is c =
-    let s = c .before .before .before .before in
+    let s = c .before .before .before .before .before in
     let i = c .before .before .loop .m in
     let q = machine-in (c .before) in
     let ratio = sized (s .pre .ratio i q) -ʳ literal (pos 1000) in
@@ -37,25 +41,26 @@ add-sum : tie.Need-add-sum Inv-loop μ-loop
 add-sum c =
     let g = c .before .before in
     let v = g .before .before .loop .inv in
-    fits (v .1) (part-is g) (g .before .loop-test .taken) (omega (arith, v .0))
+    fits (v .2) (part-is g) (g .before .loop-test .taken) (omega (arith, v .0))
 
 loop-again : tie.Need-loop-again Inv-loop μ-loop
 loop-again c =
-    let g = c .before .before in
+    let g = c .before .before .before in
     let v = g .before .before .loop .inv in
-    (v .0, turn (v .1) refl (part-is g) (g .before .loop-test .taken) (omega (arith, v .0)))
+    (v .0, machine-on (v .1) (c .past-machine .ensures), turn (v .2) refl (part-is g) (g .before .loop-test .taken) (omega (arith, v .0)))
 
 returns : tie.Need-returns Inv-loop μ-loop
 unfolding machineGain
 returns c =
     let h = c .before .before in
-    let s = h .before .before in
+    let s = h .before .before .before in
     let part = gainPart (now (s .args .case)) (s .args .offset) in
-    as-told (c .struct-told2 .given .0 .1) (end (h .loop .inv .1) (c .before .loop-test .left))
-    ∙ ap (λ (n : ℕ). sum n (part (toZ w64 (ofZ w64 (s .args .set))))) (ap (λ (y : Station). y .machines) (h .before .station .ensures))
+    as-told (c .struct-told2 .given .0 .1) (end (h .loop .inv .2) (c .before .loop-test .left))
+    ∙ ap (λ (n : ℕ). sum n (part (toZ w64 (ofZ w64 (s .args .set))))) (ap (λ (y : Station). y .machines) (h .before .before .station .ensures))
     ∙ ap (λ (y : ℤ). sum (machineCount (now (s .args .case)) (s .args .offset)) (part y)) (toZ-ofZ (s .fits .set))
 
 pub machine-gain-spec : {M : Type 1} → statement M
 machine-gain-spec = tie.close (tie.spec
-    Inv-loop μ-loop (λ c κs. search needs) loop-holds (λ c κs. (c .before .before .before .pre, machine-in c)) add-sum (λ c. omega arith)
+    Inv-loop μ-loop (λ c κs. search needs) (λ c κs. search needs) loop-holds
+    (λ c κs. (c .before .before .before .before .pre, machine-in c, c .before .loop .inv .1)) add-sum (λ c κs. search needs) (λ c. omega arith)
     (λ c. omega arith) loop-again returns)
