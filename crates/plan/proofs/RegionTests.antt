@@ -26,5 +26,6 @@ pub lowest-none : (set : ℤ) (v : ℕ) → 60 ≤ v → 0 ≡ lowestOf set v (6
 lowest-none set v l = let e : 60 - v ≡ 0 = omega arith in rw e
 
 -- the same figures, by what is read back
-pub same-figures : (case plan : List ℤ) {x y : ℤ} {a b u w : ℕ} → x ≡ y → a ≡ b → u ≡ w → figuresOf case plan x a u ≡ figuresOf case plan y b w
+pub same-figures : (case plan : List ℤ) {x y : ℕ → Bool} {a b u w : ℕ} → x ≡ y → a ≡ b → u ≡ w
+    → figuresOf case plan x a u ≡ figuresOf case plan y b w
 same-figures case plan p q r = rw (p, q, r)

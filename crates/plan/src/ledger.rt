@@ -1,8 +1,9 @@
 // The ledger of a region: after case and plan are judged, 40 and 41, then the six figures.
 ghost use mathlib.Core.Path.{_≡_};
+ghost use mathlib.Core.Bool.{true};
 ghost use Prim.Native.Nat.{_-_, _≤_};
 ghost use lib.IntN.{pos};
-ghost use Rattle.numbers.specs.law.Signed.{posPart};
+ghost use Rattle.numbers.specs.law.Sets.{memberOf};
 ghost use Rattle.numbers.specs.law.Question.{firstNo};
 ghost use Rattle.case.specs.law.Layout.{nodesOf, stepsOf};
 ghost use Rattle.case.specs.law.LayoutOf.{Holds};
@@ -14,7 +15,7 @@ ghost use Rattle.plan.specs.law.RegionFigures.{figuresOf};
 ghost use Rattle.plan.specs.inside.RegionPreconditions.{RegionLaid, RegionTimes};
 ghost use Rattle.plan.specs.inside.RegionLoop.{Gathering};
 ghost use Rattle.plan.specs.law.Vouched.{Vouched};
-ghost use Rattle.plan.specs.law.Ledger.{lowestOf, namesNodes, foreignNode, timesOrdered, regionQuestions, ledgerBy, ledgerTold, ledgerOf};
+ghost use Rattle.plan.specs.law.Ledger.{lowestOf, namesNodes, foreignNode, timesOrdered, regionQuestions, ledgerBy, ledgerTold, figuresFor, ledgerOf};
 use super::figures::Figures;
 use super::figures::Ledger;
 use super::judge::judge;
@@ -137,7 +138,7 @@ fn gather(
     t: usize,
 ) -> Gathered
     requires { ⌜ RegionTimes (now case) (now plan) nodes arcs width s t ⌝ }
-    ensures { λ r. ⌜ Gathering (now (case .entry)) (now (plan .entry)) set s t r ⌝ }
+    ensures { λ r. ⌜ Gathering (now (case .entry)) (now (plan .entry)) (memberOf set) s t r ⌝ }
 {
     let opening = pressures_at(case, plan, nodes, width, s);
     let mut g = Gathered {
@@ -165,8 +166,8 @@ fn figures(
     s: usize,
     t: usize,
 ) -> Figures
-    requires { ⌜ RegionTimes (now case) (now plan) nodes arcs width s t ⌝ }
-    ensures { λ r. ⌜ r ≡ figuresOf (now (case .entry)) (now (plan .entry)) set s t ⌝ }
+    requires { ⌜ (RegionTimes (now case) (now plan) nodes arcs width s t) × (namesNodes (now case) set ≡ true) ⌝ }
+    ensures { λ r. ⌜ r ≡ figuresOf (now (case .entry)) (now (plan .entry)) (memberOf set) s t ⌝ }
 {
     let old = pressures_at(case, plan, nodes, width, s);
     let opening = region_gas(case, set, &old, arcs);
@@ -187,7 +188,7 @@ fn figures(
 fn region_ledger(case: &[i64], plan: &[i64], set: i64, s: i64, t: i64) -> Ledger
     requires { ⌜ PlanRules (now case) (now plan) ⌝ }
     ensures { λ r. ⌜ r ≡ ledgerBy (firstNo (regionQuestions (now (case .entry)) set s t))
-        (figuresOf (now (case .entry)) (now (plan .entry)) set (posPart s) (posPart t)) ⌝ }
+        (figuresFor (now (case .entry)) (now (plan .entry)) set s t) ⌝ }
 {
     let a = region_answer(case, set, s, t);
     match a {

@@ -2,6 +2,7 @@
 ghost use mathlib.Core.Path.{_≡_};
 ghost use Prim.Native.Nat.{_+_, _<_, _≤_};
 ghost use Rattle.numbers.specs.inside.SignedBounds.{Bounded};
+ghost use Rattle.numbers.specs.law.Sets.{memberOf};
 ghost use Rattle.numbers.specs.law.Sums.{onlyN};
 ghost use Rattle.case.specs.law.Layout.{numberAt, nodesOf, arcsOf};
 ghost use Rattle.plan.specs.inside.Sizes.{NodesSized};
@@ -24,7 +25,7 @@ use numbers::sets::member;
 // Is the arc a pipe with both ends in the set?
 pub(crate) fn inner_pipe(case: &[i64], set: i64, e: usize) -> bool
     requires { ⌜ (AcceptedCase (now case)) × (e < arcsOf (now case)) ⌝ }
-    ensures { λ r. ⌜ r ≡ innerPipe (now (case .entry)) set e ⌝ }
+    ensures { λ r. ⌜ r ≡ innerPipe (now (case .entry)) (memberOf set) e ⌝ }
 {
     let c = arc(case, e);
     if c.kind == 2 {
@@ -43,7 +44,7 @@ fn one_if(yes: bool) -> usize
 
 pub(crate) fn inner_pipes(case: &[i64], set: i64, arcs: usize) -> usize
     requires { ⌜ (AcceptedCase (now case)) × (arcs ≡ arcsOf (now case)) ⌝ }
-    ensures { λ r. ⌜ r ≡ innerPipes (now (case .entry)) set ⌝ }
+    ensures { λ r. ⌜ r ≡ innerPipes (now (case .entry)) (memberOf set) ⌝ }
 {
     let mut n: usize = 0;
     let mut e: usize = 0;
@@ -57,7 +58,7 @@ pub(crate) fn inner_pipes(case: &[i64], set: i64, arcs: usize) -> usize
 // An inner pipe's gas. That of a pipe of the edge is not counted.
 fn inner_gas(case: &[i64], set: i64, pressures: &[i64], e: usize) -> i64
     requires { ⌜ (RegionPressures (now case) (now pressures)) × (e < arcsOf (now case)) ⌝ }
-    ensures { λ r. ⌜ r ≡ innerGas (now (case .entry)) set (numberAt (now (pressures .entry))) e ⌝ }
+    ensures { λ r. ⌜ r ≡ innerGas (now (case .entry)) (memberOf set) (numberAt (now (pressures .entry))) e ⌝ }
 {
     if inner_pipe(case, set, e) {
         pipe_gas(case, pressures, e)
@@ -68,7 +69,7 @@ fn inner_gas(case: &[i64], set: i64, pressures: &[i64], e: usize) -> i64
 
 pub(crate) fn region_gas(case: &[i64], set: i64, pressures: &[i64], arcs: usize) -> i64
     requires { ⌜ (RegionPressures (now case) (now pressures)) × (arcs ≡ arcsOf (now case)) ⌝ }
-    ensures { λ r. ⌜ r ≡ regionGas (now (case .entry)) set (numberAt (now (pressures .entry))) ⌝ }
+    ensures { λ r. ⌜ r ≡ regionGas (now (case .entry)) (memberOf set) (numberAt (now (pressures .entry))) ⌝ }
 {
     let mut sum = Sum { value: 0 };
     let mut e: usize = 0;
@@ -93,7 +94,7 @@ fn inward(begins: bool, ends: bool, from: i64, to: i64) -> i64
 
 fn edge_flow(case: &[i64], set: i64, rows: &[i64], e: usize) -> i64
     requires { ⌜ (RegionFlows (now case) (now rows)) × (e < arcsOf (now case)) ⌝ }
-    ensures { λ r. ⌜ r ≡ edgeFlow (now (case .entry)) set (now (rows .entry)) e ⌝ }
+    ensures { λ r. ⌜ r ≡ edgeFlow (now (case .entry)) (memberOf set) (now (rows .entry)) e ⌝ }
 {
     let c = arc(case, e);
     let flow = end_flows(case, rows, e);
@@ -104,7 +105,7 @@ fn edge_flow(case: &[i64], set: i64, rows: &[i64], e: usize) -> i64
 
 fn edge_flows(case: &[i64], set: i64, rows: &[i64], arcs: usize) -> i64
     requires { ⌜ (RegionFlows (now case) (now rows)) × (arcs ≡ arcsOf (now case)) ⌝ }
-    ensures { λ r. ⌜ r ≡ edgeFlows (now (case .entry)) set (now (rows .entry)) ⌝ }
+    ensures { λ r. ⌜ r ≡ edgeFlows (now (case .entry)) (memberOf set) (now (rows .entry)) ⌝ }
 {
     let mut sum = Sum { value: 0 };
     let mut e: usize = 0;
@@ -118,7 +119,7 @@ fn edge_flows(case: &[i64], set: i64, rows: &[i64], arcs: usize) -> i64
 // d at a node, if the set has it.
 fn supply(set: i64, rows: &[i64], v: usize) -> i64
     requires { ⌜ v < 60 ⌝ }
-    ensures { λ r. ⌜ r ≡ regionSupply set (now (rows .entry)) v ⌝ }
+    ensures { λ r. ⌜ r ≡ regionSupply (memberOf set) (now (rows .entry)) v ⌝ }
 {
     if member(set, v) {
         node_row(rows, v).d
@@ -129,7 +130,7 @@ fn supply(set: i64, rows: &[i64], v: usize) -> i64
 
 fn supplies(case: &[i64], set: i64, rows: &[i64], nodes: usize) -> i64
     requires { ⌜ (nodes ≡ nodesOf (now case)) × (nodes ≤ 60) × (NodesSized (now case) (now rows)) ⌝ }
-    ensures { λ r. ⌜ r ≡ suppliesIn (now (case .entry)) set (now (rows .entry)) ⌝ }
+    ensures { λ r. ⌜ r ≡ suppliesIn (now (case .entry)) (memberOf set) (now (rows .entry)) ⌝ }
 {
     let mut sum = Sum { value: 0 };
     let mut v: usize = 0;
@@ -150,7 +151,7 @@ fn brought_in(
     i: usize,
 ) -> i64
     requires { ⌜ (nodes ≡ nodesOf (now case)) × (arcs ≡ arcsOf (now case)) × (RegionStep (now case) (now old) (now rows) i) ⌝ }
-    ensures { λ r. ⌜ r ≡ broughtIn (now (case .entry)) set (now (rows .entry)) i ⌝ }
+    ensures { λ r. ⌜ r ≡ broughtIn (now (case .entry)) (memberOf set) (now (rows .entry)) i ⌝ }
 {
     let supplied = supplies(case, set, rows, nodes);
     let flowed = edge_flows(case, set, rows, arcs);
@@ -160,7 +161,7 @@ fn brought_in(
 // The left side of 33 at a node with the net flow `net`, if the set has the node.
 fn own_node(case: &[i64], set: i64, rows: &[i64], i: usize, v: usize, net: i64) -> usize
     requires { ⌜ AtBalance (now case) (now rows) i v net ⌝ }
-    ensures { λ r. ⌜ r ≡ ownNode (now (case .entry)) set (now (rows .entry)) i v ⌝ }
+    ensures { λ r. ⌜ r ≡ ownNode (now (case .entry)) (memberOf set) (now (rows .entry)) i v ⌝ }
 {
     if member(set, v) {
         node_residual(case, rows, i, v, net)
@@ -179,7 +180,7 @@ fn own_nodes(
     i: usize,
 ) -> usize
     requires { ⌜ (nodes ≡ nodesOf (now case)) × (arcs ≡ arcsOf (now case)) × (RegionStep (now case) (now old) (now rows) i) ⌝ }
-    ensures { λ r. ⌜ r ≡ ownNodes (now (case .entry)) set (now (rows .entry)) i ⌝ }
+    ensures { λ r. ⌜ r ≡ ownNodes (now (case .entry)) (memberOf set) (now (rows .entry)) i ⌝ }
 {
     let net = net_flows(case, rows, arcs);
     let mut sum: usize = 0;
@@ -194,7 +195,7 @@ fn own_nodes(
 // The left side of 28 at an inner pipe.
 fn own_pipe(case: &[i64], set: i64, old: &[i64], rows: &[i64], i: usize, e: usize) -> usize
     requires { ⌜ (RegionStep (now case) (now old) (now rows) i) × (e < arcsOf (now case)) ⌝ }
-    ensures { λ r. ⌜ r ≡ ownPipe (now (case .entry)) set (numberAt (now (old .entry))) (now (rows .entry)) i e ⌝ }
+    ensures { λ r. ⌜ r ≡ ownPipe (now (case .entry)) (memberOf set) (numberAt (now (old .entry))) (now (rows .entry)) i e ⌝ }
 {
     if inner_pipe(case, set, e) {
         pipe_residual(case, old, rows, i, e)
@@ -205,7 +206,7 @@ fn own_pipe(case: &[i64], set: i64, old: &[i64], rows: &[i64], i: usize, e: usiz
 
 fn own_pipes(case: &[i64], set: i64, old: &[i64], rows: &[i64], arcs: usize, i: usize) -> usize
     requires { ⌜ (arcs ≡ arcsOf (now case)) × (RegionStep (now case) (now old) (now rows) i) ⌝ }
-    ensures { λ r. ⌜ r ≡ ownPipes (now (case .entry)) set (numberAt (now (old .entry))) (now (rows .entry)) i ⌝ }
+    ensures { λ r. ⌜ r ≡ ownPipes (now (case .entry)) (memberOf set) (numberAt (now (old .entry))) (now (rows .entry)) i ⌝ }
 {
     let mut sum: usize = 0;
     let mut e: usize = 0;
@@ -242,7 +243,7 @@ pub(crate) fn with_step(
     i: usize,
 ) -> Gathered
     requires { ⌜ (nodes ≡ nodesOf (now case)) × (arcs ≡ arcsOf (now case)) × (RegionStep (now case) (g .pressures) (now rows) i) × (RegionRoom g) ⌝ }
-    ensures { λ r. ⌜ RegionAdded (now (case .entry)) set (now (rows .entry)) i g r ⌝ }
+    ensures { λ r. ⌜ RegionAdded (now (case .entry)) (memberOf set) (now (rows .entry)) i g r ⌝ }
 {
     let old = g.pressures;
     let brought = brought_in(case, set, &old, rows, nodes, arcs, i);

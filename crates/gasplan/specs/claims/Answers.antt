@@ -22,8 +22,7 @@ use Rattle.plan.specs.declared.figures.Figures.{Figures}
 use Rattle.plan.specs.declared.figures.Ledger.the-variants.{Given}
 use Rattle.plan.specs.law.Totals.{totalsOf}
 use Rattle.plan.specs.law.Judged.{verdictTold, judgeOf}
-use Rattle.plan.specs.law.Ledger.{ledgerQuestions, ledgerBy, ledgerTold, ledgerOf}
-use Rattle.plan.specs.law.Vouched.{figuresFor}
+use Rattle.plan.specs.law.Ledger.{ledgerQuestions, ledgerBy, ledgerTold, figuresFor, ledgerOf}
 use Rattle.plan.specs.inside.SmallRefusals.{ledger-small}
 use Rattle.plan.specs.claims.BytesAccepted.{zero-accepted}
 use Rattle.settlement.specs.declared.figures.Figures as settled

@@ -8,8 +8,8 @@ use Rattle.plan.specs.declared.figures.Ledger.the-variants.{Given}
 use Rattle.plan.specs.declared.totals.Totals.{Totals}
 use Rattle.plan.specs.declared.verdict.Verdict.the-variants.{Accepted}
 use Rattle.plan.specs.law.Judged.{verdictTold, judgeOf}
-use Rattle.plan.specs.law.Ledger.{ledgerTold, ledgerOf}
-use Rattle.plan.specs.law.Vouched.{RegionOf, Balanced, figuresFor}
+use Rattle.plan.specs.law.Ledger.{ledgerTold, figuresFor, ledgerOf}
+use Rattle.plan.specs.law.Vouched.{RegionOf, Balanced}
 use Rattle.plan.specs.inside.RegionVouched.{region-vouched}
 
 -- For every case list and plan list that are accepted, every set that names only nodes and 0 ≤ s ≤ t ≤ k: the ledger tells its figures and no

@@ -9,7 +9,6 @@ use lib.IntN.{ℤ}
 use lib.Signed.{leZ}
 use Rattle.numbers.specs.law.Told.{Told}
 use Rattle.numbers.specs.law.Question.{Question, firstNo}
-use Rattle.numbers.specs.law.Signed.{posPart}
 use Rattle.case.specs.law.Records.{nodeOf, arcOf, artificialOf}
 use Rattle.case.specs.law.Judged.{caseQuestions}
 use Rattle.plan.specs.declared.setting.Mode.the-variants.{Open, Regulating, Compressing}
@@ -22,8 +21,7 @@ use Rattle.plan.specs.law.Setting.{settingIn, inEnd, outEnd}
 use Rattle.plan.specs.law.ArcPressures.{reachKept, pressuresKept}
 use Rattle.plan.specs.law.Totals.{totalsOf}
 use Rattle.plan.specs.law.Judged.{planQuestions, verdictOf, verdictTold}
-use Rattle.plan.specs.law.RegionFigures.{figuresOf}
-use Rattle.plan.specs.law.Ledger.{regionQuestions, ledgerBy, ledgerTold}
+use Rattle.plan.specs.law.Ledger.{regionQuestions, ledgerBy, ledgerTold, figuresFor}
 
 -- a test of an arc e that compresses from the node u to the node w, in the step with index i whose numbers are `rows`
 abbrev pub CompressionTest : Type 0
@@ -86,4 +84,4 @@ judgedUnder test case plan = verdictTold (verdictOf (firstNo (questionsUnder tes
 
 abbrev pub ledgerUnder : CompressionTest → List ℤ → List ℤ → ℤ → ℤ → ℤ → Told
 ledgerUnder test case plan set s t =
-    ledgerTold (ledgerBy (firstNo (questionsUnder test case plan ++ regionQuestions case set s t)) (figuresOf case plan set (posPart s) (posPart t)))
+    ledgerTold (ledgerBy (firstNo (questionsUnder test case plan ++ regionQuestions case set s t)) (figuresFor case plan set s t))

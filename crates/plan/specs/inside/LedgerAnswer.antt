@@ -1,13 +1,13 @@
 -- The ledger's answer, put together: times in their order, the six figures, and what the answer vouches for.
 use mathlib.Core.Path.{_≡_, sym, ap, _∙_, subst}
-use mathlib.Core.Bool.{true}
+use mathlib.Core.Bool.{Bool, true}
 use mathlib.Core.List.{List}
 use Prim.Native.Nat.{ℕ, _≤_}
 use lib.IntN.{ℤ}
 use Rattle.numbers.specs.law.Signed.{posPart}
 use Rattle.numbers.specs.inside.SignedParts.{size, ints}
-use Rattle.numbers.specs.law.Sets.{countOf}
-use Rattle.case.specs.law.Layout.{stepsOf}
+use Rattle.numbers.specs.law.Sums.{count}
+use Rattle.case.specs.law.Layout.{nodesOf, stepsOf}
 use Rattle.plan.specs.declared.figures.Figures.{Figures}
 use Rattle.plan.specs.declared.figures.Ledger.{Ledger}
 use Rattle.plan.specs.declared.region.Gathered.{Gathered}
@@ -27,11 +27,12 @@ in-order case s t h =
     let k = times-of case s t h in
     record { order = omega (ints, k .first, k .order, size s, size t); last = omega (ints, k .last, size t) }
 
-pub figures-are : (case plan : List ℤ) (set : ℤ) (s t : ℕ) {a b : ℕ} {x y z : ℤ} {g : Gathered}
-    → a ≡ countOf set → b ≡ innerPipes case set → x ≡ gasInside case plan set s → y ≡ gasInside case plan set t → Gathering case plan set s t g → z ≡ g .brought
-    → _≡_ {A = Figures} (record { nodes = a; pipes = b; opening = x; closing = y; brought = z; residual = g .residual }) (figuresOf case plan set s t)
+pub figures-are : (case plan : List ℤ) (inside : ℕ → Bool) (s t : ℕ) {a b : ℕ} {x y z : ℤ} {g : Gathered}
+    → a ≡ count (nodesOf case) inside → b ≡ innerPipes case inside → x ≡ gasInside case plan inside s → y ≡ gasInside case plan inside t
+    → Gathering case plan inside s t g → z ≡ g .brought
+    → _≡_ {A = Figures} (record { nodes = a; pipes = b; opening = x; closing = y; brought = z; residual = g .residual }) (figuresOf case plan inside s t)
 unfolding figuresOf broughtOver residualOver
-figures-are case plan set s t p q o c g e = rw (p, q, o, c, e ∙ g .brought, g .residual)
+figures-are case plan inside s t p q o c g e = rw (p, q, o, c, e ∙ g .brought, g .residual)
 
 pub answers : (case plan : List ℤ) (set s t : ℤ) {r : Ledger} → r ≡ ledgerIs case plan set s t
     → (ledgerTold r ≡ ledgerOf case plan set s t) × Vouched case plan set s t r

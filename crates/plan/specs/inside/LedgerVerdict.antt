@@ -7,7 +7,6 @@ use native.Mathlib.Omega.{arith}
 use lib.IntN.{ℤ}
 use lib.ListN.{length}
 use Rattle.numbers.specs.law.Told.{Told}
-use Rattle.numbers.specs.law.Signed.{posPart}
 use Rattle.numbers.specs.law.Question.{firstNo, orElse}
 use Rattle.numbers.specs.inside.QuestionLaws.{firstNo-append, all-yes}
 use Rattle.numbers.specs.declared.answer.Answer.{Answer}
@@ -18,8 +17,7 @@ use Rattle.plan.specs.declared.figures.Ledger.the-variants.{Refused as R
 use Rattle.plan.specs.declared.verdict.Verdict.the-variants.{Accepted, Refused}
 use Rattle.plan.specs.law.Totals.{totalsOf}
 use Rattle.plan.specs.law.Judged.{questions, verdictOf, verdictTold, judgeOf}
-use Rattle.plan.specs.law.RegionFigures.{figuresOf}
-use Rattle.plan.specs.law.Ledger.{timesOrdered, regionQuestions, ledgerQuestions, ledgerBy, ledgerIs}
+use Rattle.plan.specs.law.Ledger.{namesNodes, timesOrdered, regionQuestions, ledgerQuestions, ledgerBy, figuresFor, ledgerIs}
 
 module _ (case plan : List ℤ) where
   -- an accepted verdict has six values and a refusal two, so that neither passes for the other
@@ -51,17 +49,21 @@ module _ (case plan : List ℤ) where
 module _ (case plan : List ℤ) (set s t : ℤ) where
   -- a plan that is accepted leaves 40 and 41 to decide, and one that is refused decides
   pub ledger-after : (x : Totals) {r : Ledger} → judgeOf case plan ≡ verdictTold (Accepted x)
-      → r ≡ ledgerBy (firstNo (regionQuestions case set s t)) (figuresOf case plan set (posPart s) (posPart t)) → r ≡ ledgerIs case plan set s t
+      → r ≡ ledgerBy (firstNo (regionQuestions case set s t)) (figuresFor case plan set s t) → r ≡ ledgerIs case plan set s t
   ledger-after x e h =
-      h ∙ ap (λ (a : Answer). ledgerBy a (figuresOf case plan set (posPart s) (posPart t)))
+      h ∙ ap (λ (a : Answer). ledgerBy a (figuresFor case plan set s t))
       (sym (ledger-asks case plan set s t ∙ ap (λ (a : Answer). orElse a (firstNo (regionQuestions case set s t))) (judged-yes case plan x e)))
 
   pub ledger-refused : (n i p : ℕ) → judgeOf case plan ≡ verdictTold (Refused n i p) → Refusal n i p ≡ ledgerIs case plan set s t
   ledger-refused n i p e =
-      ap (λ (a : Answer). ledgerBy a (figuresOf case plan set (posPart s) (posPart t)))
+      ap (λ (a : Answer). ledgerBy a (figuresFor case plan set s t))
       (sym (ledger-asks case plan set s t ∙ ap (λ (a : Answer). orElse a (firstNo (regionQuestions case set s t))) (judged-no case plan n i p e)))
 
-  -- the times, once 40 and 41 are answered yes
+  -- the set and the times, once 40 and 41 are answered yes
+  pub nodes-kept : firstNo (regionQuestions case set s t) ≡ Yes → namesNodes case set ≡ true
+  unfolding regionQuestions
+  nodes-kept y = all-yes (regionQuestions case set s t) y .0
+
   pub times-kept : firstNo (regionQuestions case set s t) ≡ Yes → timesOrdered case s t ≡ true
   unfolding regionQuestions
   times-kept y = all-yes (regionQuestions case set s t) y .1 .0

@@ -7,7 +7,6 @@ use native.Mathlib.Omega.{arith}
 use native.Mathlib.Nat.{le-trans, le-of-eq}
 use lib.Dec.{T}
 use lib.IntN.{ℤ}
-use Rattle.numbers.specs.law.Sets.{memberOf}
 use Rattle.numbers.specs.law.Sums.{count}
 use Rattle.numbers.specs.inside.SumLaws.{sumN-le, sumN-const, sumN-count}
 use Rattle.case.specs.law.Layout.{nodesOf, arcsOf}
@@ -23,26 +22,26 @@ first-of : (a b : Bool) → T (a && b) → a ≡ true
 first-of true b h = refl
 first-of false b h = absurd h
 
-module _ (case plan : List ℤ) (set : ℤ) (m s t : ℕ)
+module _ (case plan : List ℤ) (inside : ℕ → Bool) (m s t : ℕ)
     (nodes : (u i : ℕ) → u < nodesOf case → s ≤ i → i < t → nodeResidual case (stepRows case plan i) i u ≤ m)
     (pipes : (e i : ℕ) → e < arcsOf case → isPipe case e ≡ true → s ≤ i → i < t
     → pipeResidual case (pressureAt case plan i) (stepRows case plan i) i e ≤ m) where
-  step-bound : (j : ℕ) → j < t - s → residualAt case plan set s j ≤ (count (nodesOf case) (memberOf set) + innerPipes case set) * m
+  step-bound : (j : ℕ) → j < t - s → residualAt case plan inside s j ≤ (count (nodesOf case) inside + innerPipes case inside) * m
   unfolding residualAt regionResidual ownNodes ownPipes ownNode ownPipe innerPipes
   step-bound j l =
       let i = s + j in
       omega (
         arith,
-        sumN-count (nodesOf case) m (memberOf set) (λ u. nodeResidual case (stepRows case plan i) i u) (λ u b w. nodes u i b (omega arith) (omega arith)),
-        sumN-count (arcsOf case) m (innerPipe case set) (λ e. pipeResidual case (pressureAt case plan i) (stepRows case plan i) i e)
-            (λ e b w. pipes e i b (first-of (isPipe case e) (beginsIn case set e && endsIn case set e) w) (omega arith) (omega arith)),
+        sumN-count (nodesOf case) m inside (λ u. nodeResidual case (stepRows case plan i) i u) (λ u b w. nodes u i b (omega arith) (omega arith)),
+        sumN-count (arcsOf case) m (innerPipe case inside) (λ e. pipeResidual case (pressureAt case plan i) (stepRows case plan i) i e)
+            (λ e b w. pipes e i b (first-of (isPipe case e) (beginsIn case inside e && endsIn case inside e) w) (omega arith) (omega arith)),
       )
 
-  pub residual-bound : residualOver case plan set s t ≤ (count (nodesOf case) (memberOf set) + innerPipes case set) * (t - s) * m
+  pub residual-bound : residualOver case plan inside s t ≤ (count (nodesOf case) inside + innerPipes case inside) * (t - s) * m
   unfolding residualOver
   residual-bound =
-      le-trans (sumN-le (t - s) (residualAt case plan set s) (λ j. (count (nodesOf case) (memberOf set) + innerPipes case set) * m) step-bound)
-      (le-of-eq (sumN-const (t - s) _ ∙ regroup (count (nodesOf case) (memberOf set) + innerPipes case set) (t - s)))
+      le-trans (sumN-le (t - s) (residualAt case plan inside s) (λ j. (count (nodesOf case) inside + innerPipes case inside) * m) step-bound)
+      (le-of-eq (sumN-const (t - s) _ ∙ regroup (count (nodesOf case) inside + innerPipes case inside) (t - s)))
     where
       regroup : (c k : ℕ) → k * (c * m) ≡ c * k * m
       regroup c k = omega arith

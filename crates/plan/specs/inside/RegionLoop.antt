@@ -1,5 +1,6 @@
 -- The loop over the steps: what is gathered before the step with index i, and one turn.
 use mathlib.Core.Path.{_≡_, sym, ap, ap₂, _∙_, subst}
+use mathlib.Core.Bool.{Bool}
 use mathlib.Core.List.{List}
 use Prim.Native.Nat.{ℕ, zero, suc, _+_, _*_, _-_, _<_, _≤_}
 use native.Mathlib.Nat.{mul-le-mul, mul-le-mul-right, add-sub-cancel-left}
@@ -32,11 +33,11 @@ use Rattle.plan.specs.inside.RegionSizes.{ends-nodes, brought-small, res
 use Rattle.plan.specs.inside.RegionSame.{gas-same, residual-same}
 
 -- before the step with index i: the pressures, and the sums over the steps from index s on
-pub record Gathering (case plan : List ℤ) (set : ℤ) (s i : ℕ) (g : Gathered) : Type 0 where
+pub record Gathering (case plan : List ℤ) (inside : ℕ → Bool) (s i : ℕ) (g : Gathered) : Type 0 where
   pub from : s ≤ i
   pub held : Holds (pos 0) (g .pressures) (pressureAt case plan i) (nodesOf case)
-  pub brought : g .brought ≡ sum (i - s) (broughtAt case plan set s)
-  pub residual : g .residual ≡ sumN (i - s) (residualAt case plan set s)
+  pub brought : g .brought ≡ sum (i - s) (broughtAt case plan inside s)
+  pub residual : g .residual ≡ sumN (i - s) (residualAt case plan inside s)
   pub brought-few : natAbs (g .brought) ≤ i * 259200000000000
   pub residual-few : g .residual ≤ i * 180000000
 
@@ -66,10 +67,10 @@ module _ {case plan : List ℤ} (r : PlanRules case plan) where
   }
 
   -- the gas, by pressures that an array holds
-  pub gas-held : {p : List ℤ} (set : ℤ) (t : ℕ) → Holds (pos 0) p (pressureAt case plan t) (nodesOf case)
-      → regionGas case set (numberAt p) ≡ gasInside case plan set t
+  pub gas-held : {p : List ℤ} (inside : ℕ → Bool) (t : ℕ) → Holds (pos 0) p (pressureAt case plan t) (nodesOf case)
+      → regionGas case inside (numberAt p) ≡ gasInside case plan inside t
   unfolding gasInside
-  gas-held {p} set t k = gas-same case (numberAt p) (pressureAt case plan t) ends-of (k .each) set
+  gas-held {p} inside t k = gas-same case (numberAt p) (pressureAt case plan t) ends-of (k .each) inside
 
   -- a step, by pressures that an array holds
   pub step-handed : {old : List ℤ} (i : ℕ) → i < stepsOf case → Holds (pos 0) old (pressureAt case plan i) (nodesOf case)
@@ -79,7 +80,7 @@ module _ {case plan : List ℤ} (r : PlanRules case plan) where
       let y = step-alike accepted-case (numberAt old) (pressureAt case plan i) (k .each) rows i ∙ step-yes i l in
       record { accepted = accepted-case; step = l; kept = step-kept case old rows i accepted-case l (pressures-held i (omega arith) k .sized) y }
 
-  pub room : {set : ℤ} {s i : ℕ} {g : Gathered} → Gathering case plan set s i g → i < stepsOf case → RegionRoom g
+  pub room : {inside : ℕ → Bool} {s i : ℕ} {g : Gathered} → Gathering case plan inside s i g → i < stepsOf case → RegionRoom g
   room h l =
       let n = counted accepted-case in
       record {
@@ -88,28 +89,28 @@ module _ {case plan : List ℤ} (r : PlanRules case plan) where
       }
 
   -- a turn
-  pub turn : {set : ℤ} {s i : ℕ} {g h : Gathered} {rows : List ℤ} → Gathering case plan set s i g → i < stepsOf case → rows ≡ stepRows case plan i
-      → RegionAdded case set rows i g h → Gathering case plan set s (i + 1) h
+  pub turn : {inside : ℕ → Bool} {s i : ℕ} {g h : Gathered} {rows : List ℤ} → Gathering case plan inside s i g → i < stepsOf case
+      → rows ≡ stepRows case plan i → RegionAdded case inside rows i g h → Gathering case plan inside s (i + 1) h
   unfolding sum sumN broughtAt residualAt pressureAt
-  turn {set} {s} {i} {g} {h} {rows} k l e added =
-      let d : RegionAdded case set (stepRows case plan i) i g h = rw e at added in
+  turn {inside} {s} {i} {g} {h} {rows} k l e added =
+      let d : RegionAdded case inside (stepRows case plan i) i g h = rw e at added in
       let step = step-handed {old = g .pressures} i l (k .held) in
       let count : i + 1 - s ≡ suc (i - s) = omega (arith, k .from) in
       let here : s + (i - s) ≡ i = omega (arith, k .from) in
       let next : i + 1 ≡ suc i = omega arith in
-      let in-step = broughtIn case set (stepRows case plan i) i in
-      let same = residual-same case (numberAt (g .pressures)) (pressureAt case plan i) ends-of (k .held .each) (stepRows case plan i) i set in
+      let in-step = broughtIn case inside (stepRows case plan i) i in
+      let same = residual-same case (numberAt (g .pressures)) (pressureAt case plan i) ends-of (k .held .each) (stepRows case plan i) i inside in
       record {
         from = omega (arith, k .from);
         held = rw next (d .pressures);
         brought = rw (count, here) (d .brought ∙ ap (λ (z : ℤ). z +ℤ in-step) (k .brought));
         residual = rw (count, here) (d .residual ∙ ap₂ _+_ (k .residual) same);
-        brought-few = omega (arith, ap natAbs (d .brought), abs-add (g .brought) in-step, brought-small step set, k .brought-few);
-        residual-few = omega (arith, d .residual, residual-small step set, k .residual-few);
+        brought-few = omega (arith, ap natAbs (d .brought), abs-add (g .brought) in-step, brought-small step inside, k .brought-few);
+        residual-few = omega (arith, d .residual, residual-small step inside, k .residual-few);
       }
 
-pub gathering : {case plan : List ℤ} {set : ℤ} {s : ℕ} {p : List ℤ} → Holds (pos 0) p (pressureAt case plan s) (nodesOf case)
-    → Gathering case plan set s s (record { pressures = p; brought = pos 0; residual = 0 })
+pub gathering : {case plan : List ℤ} {inside : ℕ → Bool} {s : ℕ} {p : List ℤ} → Holds (pos 0) p (pressureAt case plan s) (nodesOf case)
+    → Gathering case plan inside s s (record { pressures = p; brought = pos 0; residual = 0 })
 unfolding sum sumN
 gathering {s = s} h =
     let e : s - s ≡ 0 = omega arith in

@@ -1,5 +1,6 @@
 -- What the functions of the ledger are handed, and what they hand on.
 use mathlib.Core.Path.{_≡_}
+use mathlib.Core.Bool.{Bool}
 use mathlib.Core.List.{List}
 use Prim.Native.Nat.{ℕ, _+_, _<_, _≤_}
 use lib.IntN.{ℤ, pos, _+ℤ_}
@@ -50,7 +51,7 @@ pub record RegionRoom (g : Gathered) : Type 0 where
   pub residual : g .residual ≤ 1000000000000000000
 
 -- `h` is `g` with the step added whose part of the plan is `rows`
-pub record RegionAdded (case : List ℤ) (set : ℤ) (rows : List ℤ) (i : ℕ) (g h : Gathered) : Type 0 where
+pub record RegionAdded (case : List ℤ) (inside : ℕ → Bool) (rows : List ℤ) (i : ℕ) (g h : Gathered) : Type 0 where
   pub pressures : Holds (pos 0) (h .pressures) (pressureIn rows) (nodesOf case)
-  pub brought : h .brought ≡ g .brought +ℤ broughtIn case set rows i
-  pub residual : h .residual ≡ g .residual + regionResidual case set (numberAt (g .pressures)) rows i
+  pub brought : h .brought ≡ g .brought +ℤ broughtIn case inside rows i
+  pub residual : h .residual ≡ g .residual + regionResidual case inside (numberAt (g .pressures)) rows i

@@ -22,9 +22,9 @@ module _ (case : List ℤ) (p q : ℕ → ℤ) (ends : EndsAreNodes case) (same 
       sum-cong (arcsOf case) _ _ (λ e l.
       rw (same (arcOf case e .from) (ends .from-node e l), same (arcOf case e .to) (ends .to-node e l)))
 
-  pub gas-same : (set : ℤ) → regionGas case set p ≡ regionGas case set q
+  pub gas-same : (inside : ℕ → Bool) → regionGas case inside p ≡ regionGas case inside q
   unfolding regionGas innerGas
-  gas-same set = pipes-gas (innerPipe case set)
+  gas-same inside = pipes-gas (innerPipe case inside)
 
   module _ (rows : List ℤ) (i : ℕ) where
     pub pipe-same : (e : ℕ) → e < arcsOf case → pipeResidual case p rows i e ≡ pipeResidual case q rows i e
@@ -35,6 +35,7 @@ module _ (case : List ℤ) (p q : ℕ → ℤ) (ends : EndsAreNodes case) (same 
     unfolding pipePart
     part-same e l = ap (onlyN (isPipe case e)) (pipe-same e l)
 
-    pub residual-same : (set : ℤ) → regionResidual case set p rows i ≡ regionResidual case set q rows i
+    pub residual-same : (inside : ℕ → Bool) → regionResidual case inside p rows i ≡ regionResidual case inside q rows i
     unfolding regionResidual ownPipes ownPipe
-    residual-same set = ap (λ (n : ℕ). ownNodes case set rows i + n) (sumN-cong (arcsOf case) _ _ (λ e l. ap (onlyN (innerPipe case set e)) (pipe-same e l)))
+    residual-same inside =
+        ap (λ (n : ℕ). ownNodes case inside rows i + n) (sumN-cong (arcsOf case) _ _ (λ e l. ap (onlyN (innerPipe case inside e)) (pipe-same e l)))

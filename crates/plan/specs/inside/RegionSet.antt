@@ -25,11 +25,7 @@ module _ (case : List ℤ) (set : ℤ) (kept : namesNodes case set ≡ true) whe
   unfolding namesNodes
   within = and-second (isNodeSet set) (subsetOf set (firstItems (nodesOf case))) kept
 
-  -- every item is a node
-  pub only-nodes : (u : ℕ) → memberOf set u ≡ true → u < nodesOf case
-  only-nodes = first-says set (nodesOf case) .fact within
-
-  -- so the count of its items is that of the nodes in it
+  -- the count of its items is that of the nodes in it
   pub nodes-counted : countOf set ≡ count (nodesOf case) (memberOf set)
   unfolding count
   nodes-counted =

@@ -7,7 +7,6 @@ use native.Mathlib.Omega.{arith}
 use native.Mathlib.Nat.{mul-le-mul, mul-le-mul-right}
 use lib.IntN.{ℤ, negℤ, natAbs, _+ℤ_, _-ℤ_}
 use Rattle.numbers.specs.inside.SignedBounds.{abs-add, abs-neg, abs-mul}
-use Rattle.numbers.specs.law.Sets.{memberOf}
 use Rattle.numbers.specs.law.Sums.{onlyN}
 use Rattle.numbers.specs.inside.SumLaws.{abs-sum-le, abs-only-le, sumN-bound}
 use Rattle.case.specs.law.Layout.{numberAt, nodesOf, arcsOf}
@@ -33,10 +32,10 @@ both-true true b h = refl
 both-true false b h = h
 
 module _ {case p : List ℤ} (h : RegionPressures case p) where
-  pub inner-gas-small : (set : ℤ) (e : ℕ) → e < arcsOf case → natAbs (innerGas case set (numberAt p) e) ≤ 40000000000000
+  pub inner-gas-small : (inside : ℕ → Bool) (e : ℕ) → e < arcsOf case → natAbs (innerGas case inside (numberAt p) e) ≤ 40000000000000
   unfolding innerGas
-  inner-gas-small set e l =
-      only-small (innerPipe case set e) _ 40000000000000 (λ k. pipe-gas (h .accepted) (h .sized) e l (both-true (isPipe case e) _ k))
+  inner-gas-small inside e l =
+      only-small (innerPipe case inside e) _ 40000000000000 (λ k. pipe-gas (h .accepted) (h .sized) e l (both-true (isPipe case e) _ k))
 
 -- the flow at one end of an arc: of a pipe the flow there, of any other arc the difference
 end-small : (k : Bool) (x a b : ℤ) → natAbs x ≤ 10000000 → natAbs a ≤ 10000000 → natAbs b ≤ 10000000 → natAbs (cond k x (a -ℤ b)) ≤ 20000000
@@ -57,9 +56,9 @@ module _ {case rows : List ℤ} (h : RegionFlows case rows) where
       let r = arcRow case rows e in
       end-small (isPipe case e) (r .b) (r .a) (r .b) (s .b .bound) (s .a .bound) (s .b .bound)
 
-  pub edge-small : (set : ℤ) (e : ℕ) → e < arcsOf case → natAbs (edgeFlow case set rows e) ≤ 20000000
+  pub edge-small : (inside : ℕ → Bool) (e : ℕ) → e < arcsOf case → natAbs (edgeFlow case inside rows e) ≤ 20000000
   unfolding edgeFlow
-  edge-small set e l = go (beginsIn case set e) (endsIn case set e) (flowAtFrom case rows e) (flowAtTo case rows e) (from-small e l) (to-small e l)
+  edge-small inside e l = go (beginsIn case inside e) (endsIn case inside e) (flowAtFrom case rows e) (flowAtTo case rows e) (from-small e l) (to-small e l)
     where
       go : (f g : Bool) (x y : ℤ) → natAbs x ≤ 20000000 → natAbs y ≤ 20000000 → natAbs (inward f g x y) ≤ 20000000
       go true true x y m n = omega arith
@@ -67,54 +66,57 @@ module _ {case rows : List ℤ} (h : RegionFlows case rows) where
       go false true x y m n = n
       go false false x y m n = omega arith
 
-  pub edges-small : (set : ℤ) → natAbs (edgeFlows case set rows) ≤ 2400000000
+  pub edges-small : (inside : ℕ → Bool) → natAbs (edgeFlows case inside rows) ≤ 2400000000
   unfolding edgeFlows
-  edges-small set =
+  edges-small inside =
       let r = counted (h .accepted) in
-      omega (arith, abs-sum-le (arcsOf case) 20000000 (edgeFlow case set rows) (edge-small set), mul-le-mul-right 20000000 (r .arcs))
+      omega (arith, abs-sum-le (arcsOf case) 20000000 (edgeFlow case inside rows) (edge-small inside), mul-le-mul-right 20000000 (r .arcs))
 
-pub supply-small : {case rows : List ℤ} → NodesSized case rows → (set : ℤ) (u : ℕ) → u < nodesOf case → natAbs (regionSupply set rows u) ≤ 10000000
+pub supply-small : {case rows : List ℤ} → NodesSized case rows → (inside : ℕ → Bool) (u : ℕ) → u < nodesOf case
+    → natAbs (regionSupply inside rows u) ≤ 10000000
 unfolding regionSupply
-supply-small h set u l = abs-only-le (memberOf set u) _ (h .each u l .d .bound)
+supply-small h inside u l = abs-only-le (inside u) _ (h .each u l .d .bound)
 
-pub supplies-small : {case rows : List ℤ} → NodesSized case rows → nodesOf case ≤ 60 → (set : ℤ) → natAbs (suppliesIn case set rows) ≤ 600000000
+pub supplies-small : {case rows : List ℤ} → NodesSized case rows → nodesOf case ≤ 60 → (inside : ℕ → Bool)
+    → natAbs (suppliesIn case inside rows) ≤ 600000000
 unfolding suppliesIn
-supplies-small {case} {rows} h few set =
-    omega (arith, abs-sum-le (nodesOf case) 10000000 (regionSupply set rows) (supply-small h set), mul-le-mul-right 10000000 few)
+supplies-small {case} {rows} h few inside =
+    omega (arith, abs-sum-le (nodesOf case) 10000000 (regionSupply inside rows) (supply-small h inside), mul-le-mul-right 10000000 few)
 
 module _ {case old rows : List ℤ} {i : ℕ} (h : RegionStep case old rows i) where
   pub step-flows : RegionFlows case rows
   step-flows = record { accepted = h .accepted; flows = h .kept .flows }
 
-  pub brought-small : (set : ℤ) → natAbs (broughtIn case set rows i) ≤ 259200000000000
+  pub brought-small : (inside : ℕ → Bool) → natAbs (broughtIn case inside rows i) ≤ 259200000000000
   unfolding broughtIn
-  brought-small set =
+  brought-small inside =
       let r = counted (h .accepted) in
-      let a = suppliesIn case set rows in
-      let b = edgeFlows case set rows in
-      let w : natAbs (a +ℤ b) ≤ 3000000000 = omega (arith, abs-add a b, supplies-small (h .kept .node-rows) (r .nodes) set, edges-small step-flows set) in
+      let a = suppliesIn case inside rows in
+      let b = edgeFlows case inside rows in
+      let d = supplies-small (h .kept .node-rows) (r .nodes) inside in
+      let w : natAbs (a +ℤ b) ≤ 3000000000 = omega (arith, abs-add a b, d, edges-small step-flows inside) in
       omega (arith, abs-mul (duration case i) (a +ℤ b), mul-le-mul (duration-sized (h .accepted) i (h .step) .bound) w)
 
-  pub own-node-small : (set : ℤ) (u : ℕ) → u < nodesOf case → ownNode case set rows i u ≤ 1000000
+  pub own-node-small : (inside : ℕ → Bool) (u : ℕ) → u < nodesOf case → ownNode case inside rows i u ≤ 1000000
   unfolding ownNode
-  own-node-small set u l = only-le (memberOf set u) _ (h .kept .nodes u l)
+  own-node-small inside u l = only-le (inside u) _ (h .kept .nodes u l)
 
-  pub own-pipe-small : (set : ℤ) (e : ℕ) → e < arcsOf case → ownPipe case set (numberAt old) rows i e ≤ 1000000
+  pub own-pipe-small : (inside : ℕ → Bool) (e : ℕ) → e < arcsOf case → ownPipe case inside (numberAt old) rows i e ≤ 1000000
   unfolding ownPipe pipePart
-  own-pipe-small set e l = go (isPipe case e) (beginsIn case set e && endsIn case set e) _ (h .kept .pipes e l)
+  own-pipe-small inside e l = go (isPipe case e) (beginsIn case inside e && endsIn case inside e) _ (h .kept .pipes e l)
     where
       go : (b w : Bool) (n : ℕ) → onlyN b n ≤ 1000000 → onlyN (b && w) n ≤ 1000000
       go true w n q = only-le w n q
       go false w n q = q
 
-  pub residual-small : (set : ℤ) → regionResidual case set (numberAt old) rows i ≤ 180000000
+  pub residual-small : (inside : ℕ → Bool) → regionResidual case inside (numberAt old) rows i ≤ 180000000
   unfolding regionResidual ownNodes ownPipes
-  residual-small set =
+  residual-small inside =
       let r = counted (h .accepted) in
       omega (
         arith,
-        sumN-bound (nodesOf case) 1000000 (ownNode case set rows i) (own-node-small set),
-        sumN-bound (arcsOf case) 1000000 (ownPipe case set (numberAt old) rows i) (own-pipe-small set),
+        sumN-bound (nodesOf case) 1000000 (ownNode case inside rows i) (own-node-small inside),
+        sumN-bound (arcsOf case) 1000000 (ownPipe case inside (numberAt old) rows i) (own-pipe-small inside),
         mul-le-mul-right 1000000 (r .nodes),
         mul-le-mul-right 1000000 (r .arcs),
       )

@@ -28,17 +28,17 @@ use Rattle.plan.specs.law.Balance.{nodeResidual, balanceKept}
 use Rattle.plan.specs.law.Judged.{verdictTold, judgeOf}
 use Rattle.plan.specs.law.Region.{innerPipes}
 use Rattle.plan.specs.law.RegionFigures.{residualOver, figuresOf}
-use Rattle.plan.specs.law.Ledger.{namesNodes, timesOrdered, regionQuestions, ledgerQuestions, ledgerBy, ledgerIs}
+use Rattle.plan.specs.law.Ledger.{namesNodes, timesOrdered, regionQuestions, ledgerQuestions, ledgerBy, figuresFor, ledgerIs}
 use Rattle.plan.specs.inside.Preconditions.{AcceptedCase}
 use Rattle.plan.specs.inside.CaseSizes.{counted}
 use Rattle.plan.specs.claims.Acceptance.{PlanRules, sound}
 use Rattle.plan.specs.inside.LedgerVerdict.{judged-yes, ledger-asks}
 use Rattle.plan.specs.inside.RegionBalance.{EndsAreNodes}
 use Rattle.plan.specs.inside.RegionSizes.{ends-nodes}
-use Rattle.plan.specs.inside.RegionSet.{nodes-counted, nodes-pass}
+use Rattle.plan.specs.inside.RegionSet.{nodes-pass}
 use Rattle.plan.specs.inside.RegionBalanceSteps.{region-balance}
 use Rattle.plan.specs.inside.RegionBalanceBound.{residual-bound}
-use Rattle.plan.specs.law.Vouched.{RegionOf, Balanced, figuresFor, Vouched}
+use Rattle.plan.specs.law.Vouched.{RegionOf, Balanced, Vouched}
 
 -- the times that 41 lets pass
 pub record Times (case : List ℤ) (s t : ℤ) : Type 0 where
@@ -92,6 +92,26 @@ sound-of {case} {plan} r =
       nodes = λ i u p q. let y = r .steps i p .rule33 u q in omega (ints, y, size m);
     }
 
+-- whatever nodes are inside
+module _ (case plan : List ℤ) (inside : ℕ → Bool) (s t : ℤ) (totals : Totals) (accepted : judgeOf case plan ≡ verdictTold (Accepted totals))
+    (times : timesOrdered case s t ≡ true) where
+  pub region-balanced : Balanced case s t (figuresOf case plan inside (posPart s) (posPart t))
+  unfolding figuresOf
+  region-balanced =
+      let k = times-of case s t times in
+      let r = sound-of (sound case plan totals accepted) in
+      let a = posPart s in
+      let b = posPart t in
+      let e = posPart (massTolerance case) in
+      let upto : b ≤ stepsOf case = omega (ints, k .last, size t) in
+      record {
+        balance = let h = region-balance case plan inside (r .ends) a b (omega (ints, k .order, k .first, size s, size t)) in omega ints;
+        bound =
+            let n = count (nodesOf case) inside + innerPipes case inside in
+            let h = residual-bound case plan inside e a b (λ u i p l q. r .nodes i u (omega arith) p) (λ x i p k l q. r .pipes i x (omega arith) p k) in
+            product (residualOver case plan inside a b) n s t (massTolerance case) (k .first) (k .order) (r .tolerance) h;
+      }
+
 module _ (case plan : List ℤ) (set s t : ℤ) (totals : Totals) (accepted : judgeOf case plan ≡ verdictTold (Accepted totals))
     (nodes : namesNodes case set ≡ true) (times : timesOrdered case s t ≡ true) where
   all-yes : firstNo (ledgerQuestions case plan set s t) ≡ Yes
@@ -102,23 +122,6 @@ module _ (case plan : List ℤ) (set s t : ℤ) (totals : Totals) (accepted : ju
 
   pub region-given : ledgerIs case plan set s t ≡ Given (figuresFor case plan set s t)
   region-given = ap (λ (x : Answer). ledgerBy x (figuresFor case plan set s t)) all-yes
-
-  pub region-balanced : Balanced case s t (figuresFor case plan set s t)
-  unfolding figuresOf
-  region-balanced =
-      let k = times-of case s t times in
-      let r = sound-of (sound case plan totals accepted) in
-      let a = posPart s in
-      let b = posPart t in
-      let e = posPart (massTolerance case) in
-      let upto : b ≤ stepsOf case = omega (ints, k .last, size t) in
-      record {
-        balance = let h = region-balance case plan set (r .ends) a b (omega (ints, k .order, k .first, size s, size t)) in omega ints;
-        bound =
-            let n = count (nodesOf case) (memberOf set) + innerPipes case set in
-            let h = residual-bound case plan set e a b (λ u i p l q. r .nodes i u (omega arith) p) (λ x i p k l q. r .pipes i x (omega arith) p k) in
-            rw (nodes-counted case set nodes) (product (residualOver case plan set a b) n s t (massTolerance case) (k .first) (k .order) (r .tolerance) h);
-      }
 
 -- ---- the same where the hypotheses are plain
 
@@ -140,5 +143,5 @@ module _ (case plan : List ℤ) (set s t : ℤ) (totals : Totals) (accepted : ju
 pub region-vouched : (case plan : List ℤ) (set s t : ℤ) → Vouched case plan set s t (ledgerIs case plan set s t)
 region-vouched case plan set s t = record {
   answers = λ totals a r. region-given case plan set s t totals a (region-nodes case plan set s t totals a r) (region-times case plan set s t totals a r);
-  balances = λ totals a r. region-balanced case plan set s t totals a (region-nodes case plan set s t totals a r) (region-times case plan set s t totals a r);
+  balances = λ totals a r. region-balanced case plan (memberOf set) s t totals a (region-times case plan set s t totals a r);
 }

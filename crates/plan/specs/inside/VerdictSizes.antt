@@ -11,11 +11,11 @@ use lib.ListN.{length, getD}
 use Rattle.numbers.specs.law.Told.{Told, refuses}
 use Rattle.numbers.specs.law.Question.{firstNo}
 use Rattle.numbers.specs.inside.QuestionLaws.{all-yes}
-use Rattle.numbers.specs.law.Sets.{memberOf, countOf}
-use Rattle.numbers.specs.law.Signed.{posPart}
+use Rattle.numbers.specs.law.Sets.{memberOf}
 use Rattle.numbers.specs.inside.SignedParts.{ints, taken, size}
 use Rattle.numbers.specs.inside.SignedBounds.{abs-mul}
 use Rattle.numbers.specs.law.Items.{over}
+use Rattle.numbers.specs.law.Sums.{count}
 use Rattle.numbers.specs.inside.SmallRefusals.{Between, Small}
 use Rattle.numbers.specs.law.Reading.{Ending, all, no, readOf, readTold}
 use Rattle.numbers.specs.inside.ReadingBounds.{refusal-within}
@@ -39,9 +39,8 @@ use Rattle.plan.specs.law.Judged.{planStep, planQuestions, questions, ve
 use Rattle.plan.specs.law.JudgedBytes.{readAnswer, planNumber, onPlanBytes, refusedOr, bytesJudged}
 use Rattle.plan.specs.law.Region.{innerPipe, innerPipes}
 use Rattle.plan.specs.law.RegionFigures.{figuresOf}
-use Rattle.plan.specs.inside.RegionSet.{nodes-counted}
 use Rattle.plan.specs.inside.RegionVouched.{times-of, region-balanced}
-use Rattle.plan.specs.law.Ledger.{regionQuestions, ledgerQuestions, ledgerBy, ledgerTold, ledgerOf}
+use Rattle.plan.specs.law.Ledger.{regionQuestions, ledgerQuestions, ledgerBy, ledgerTold, figuresFor, ledgerOf}
 use Rattle.plan.specs.inside.SmallRefusals.{judge-small, ledger-small}
 use Rattle.plan.specs.declared.verdict.Verdict.{Verdict}
 use Rattle.plan.specs.declared.verdict.Verdict.the-variants.{Accepted, Refused}
@@ -179,21 +178,22 @@ FitLedger b (stopped.Refused n s p) = (n < b) × (s < b) × (p < b)
 
 module _ (case plan : List ℤ) (set s t : ℤ) where
   -- the figures of a region of an accepted plan
-  figures-fit : firstNo (ledgerQuestions case plan set s t) ≡ Yes → FitLedger (2 ^ 63) (Given (figuresOf case plan set (posPart s) (posPart t)))
+  figures-fit : firstNo (ledgerQuestions case plan set s t) ≡ Yes → FitLedger (2 ^ 63) (Given (figuresFor case plan set s t))
   unfolding ledgerQuestions regionQuestions judgeOf innerPipes figuresOf
   figures-fit y =
       let j = first-yes (questions case plan) (regionQuestions case set s t) y in
       let r = all-yes (regionQuestions case set s t) (second-yes (questions case plan) (regionQuestions case set s t) y) in
       let c = counted (accepted case plan j) in
+      let inside = memberOf set in
       let told : judgeOf case plan ≡ verdictTold (Accepted (totalsOf case plan)) = rw j in
       let k = times-of case s t (r .1 .0) in
-      let b = region-balanced case plan set s t (totalsOf case plan) told (r .0) (r .1 .0) in
+      let b = region-balanced case plan (memberOf set) s t (totalsOf case plan) told (r .1 .0) in
       let h = b .bound in
-      let n : countOf set ≤ 60 = omega (arith, nodes-counted case set (r .0), count-most (nodesOf case) (memberOf set), c .nodes) in
-      let p : innerPipes case set ≤ 120 = omega (arith, count-most (arcsOf case) (innerPipe case set), c .arcs) in
+      let n : count (nodesOf case) inside ≤ 60 = omega (arith, count-most (nodesOf case) inside, c .nodes) in
+      let p : innerPipes case inside ≤ 120 = omega (arith, count-most (arcsOf case) (innerPipe case inside), c .arcs) in
       let m = mass-sized (accepted case plan j) .bound in
       let d : natAbs (t -ℤ s) ≤ 48 = omega (ints, k .first, k .order, k .last, size s, size t, taken t s, size (t -ℤ s), c .steps) in
-      let x = pos (countOf set + innerPipes case set) in
+      let x = pos (count (nodesOf case) inside + innerPipes case inside) in
       let a : natAbs (x *ℤ (t -ℤ s) *ℤ massTolerance case) ≤ 180 * 48 * 1000000 =
       rw (abs-mul (x *ℤ (t -ℤ s)) (massTolerance case), abs-mul x (t -ℤ s)) (mul-le-mul (mul-le-mul (sum-le n p) d) m) in
       (omega (arith, n), omega (arith, p), omega (ints, h, a, size (x *ℤ (t -ℤ s) *ℤ massTolerance case)))
@@ -206,7 +206,7 @@ module _ (case plan : List ℤ) (set s t : ℤ) where
   ledger-fits v e = go (firstNo (ledgerQuestions case plan set s t)) refl (ledger-small case plan set s t) v e
     where
       go : (a : Answer) → firstNo (ledgerQuestions case plan set s t) ≡ a → Small limit a → (v : Ledger)
-          → ledgerTold v ≡ ledgerTold (ledgerBy a (figuresOf case plan set (posPart s) (posPart t))) → FitLedger (2 ^ 63) v
+          → ledgerTold v ≡ ledgerTold (ledgerBy a (figuresFor case plan set s t)) → FitLedger (2 ^ 63) v
       go Yes y w (Given f) e =
           let k = figures-fit y in
           (omega (arith, ap (λ (x : Told). at x 0) e, k .0), omega (arith, ap (λ (x : Told). at x 1) e, k .1), omega (arith, ap (λ (x : Told). at x 5) e, k .2))

@@ -69,9 +69,12 @@ abbrev pub ledgerTold : Ledger → Told
 ledgerTold (Given f) = gives (pos (f .nodes) ∷ pos (f .pipes) ∷ f .opening ∷ f .closing ∷ f .brought ∷ pos (f .residual) ∷ [])
 ledgerTold (Refused number step place) = refuses number step place
 
--- what the ledger gives: times that 41 has let pass are not negative
+-- the ledger's figures for a set and times that are not negative, as those that 41 has let pass are
+abbrev pub figuresFor : List ℤ → List ℤ → ℤ → ℤ → ℤ → Figures
+figuresFor case plan set s t = figuresOf case plan (memberOf set) (posPart s) (posPart t)
+
 abbrev pub ledgerIs : List ℤ → List ℤ → ℤ → ℤ → ℤ → Ledger
-ledgerIs case plan set s t = ledgerBy (firstNo (ledgerQuestions case plan set s t)) (figuresOf case plan set (posPart s) (posPart t))
+ledgerIs case plan set s t = ledgerBy (firstNo (ledgerQuestions case plan set s t)) (figuresFor case plan set s t)
 
 unfoldable pub ledgerOf : List ℤ → List ℤ → ℤ → ℤ → ℤ → Told
 ledgerOf case plan set s t = ledgerTold (ledgerIs case plan set s t)

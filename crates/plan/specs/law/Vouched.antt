@@ -7,7 +7,6 @@ use mathlib.Core.List.{List}
 use Prim.Native.Nat.{ℕ, _+_, _<_}
 use lib.IntN.{ℤ, pos, natAbs, _-ℤ_, _*ℤ_}
 use lib.Signed.{_≤ℤ_}
-use Rattle.numbers.specs.law.Signed.{posPart}
 use Rattle.numbers.specs.law.Sets.{memberOf}
 use Rattle.case.specs.law.Layout.{nodesOf, stepsOf, massTolerance}
 use Rattle.plan.specs.declared.figures.Figures.{Figures}
@@ -16,7 +15,7 @@ use Rattle.plan.specs.declared.figures.Ledger.the-variants.{Given}
 use Rattle.plan.specs.declared.totals.Totals.{Totals}
 use Rattle.plan.specs.declared.verdict.Verdict.the-variants.{Accepted}
 use Rattle.plan.specs.law.Judged.{verdictTold, judgeOf}
-use Rattle.plan.specs.law.RegionFigures.{figuresOf}
+use Rattle.plan.specs.law.Ledger.{figuresFor}
 
 -- a set that names only nodes of the case ("A negative number is no set"), and times 0 ≤ s ≤ t ≤ k
 pub record RegionOf (case : List ℤ) (set s t : ℤ) : Type 0 where
@@ -30,10 +29,6 @@ pub record RegionOf (case : List ℤ) (set s t : ℤ) : Type 0 where
 pub record Balanced (case : List ℤ) (s t : ℤ) (f : Figures) : Type 0 where
   pub balance : pos (natAbs (f .closing -ℤ f .opening -ℤ f .brought)) ≤ℤ pos (f .residual)
   pub bound : pos (f .residual) ≤ℤ (pos (f .nodes + f .pipes) *ℤ (t -ℤ s) *ℤ massTolerance case)
-
--- the ledger's figures for a set and times that are not negative
-abbrev pub figuresFor : List ℤ → List ℤ → ℤ → ℤ → ℤ → Figures
-figuresFor case plan set s t = figuresOf case plan set (posPart s) (posPart t)
 
 -- what an answer `r` of the ledger vouches for: of an accepted plan and a region of it, that it is the ledger's figures and that they balance
 pub record Vouched (case plan : List ℤ) (set s t : ℤ) (r : Ledger) : Type 0 where

@@ -1,13 +1,14 @@
 -- What is gathered before step i is that of the steps from s on; each turn adds the step's rows, which lie in the plan's list.
 use mathlib.Core.Path.{_≡_, subst}
 use Rattle.plan.proofs.Common.{ℕ, _-_, _<_, _≤_, arith, now, w64, toZ, toZ-ofZ}
+use Rattle.numbers.specs.law.Sets.{memberOf}
 use Rattle.case.specs.law.Layout.{stepsOf}
 use Rattle.plan.specs.inside.RegionLoop.{Gathering, StepWithin, gathering, step-handed, room, turn, step-within, row-is}
 use Rattle.plan.proofs.ledger.gather.Statement.{statement}
 use Rattle.plan.proofs.ledger.gather.Tie as tie
 
 abbrev Inv-loop : tie.InvT-loop
-Inv-loop case plan set nodes arcs width s t g₀ i₀ g i = (i ≤ t) × Gathering case plan (toZ w64 set) s i g
+Inv-loop case plan set nodes arcs width s t g₀ i₀ g i = (i ≤ t) × Gathering case plan (memberOf (toZ w64 set)) s i g
 
 abbrev μ-loop : tie.MeasureT-loop
 μ-loop case plan set nodes arcs width s t g₀ i₀ g i = t - i
@@ -48,7 +49,7 @@ returns c =
     let l = c .before in
     let s = l .before .before in
     let e : l .loop .i ≡ s .args .t = omega arith in
-    subst (λ (i : ℕ). Gathering (now (s .args .case)) (now (s .args .plan)) (s .args .set) (s .args .s) i (l .loop .g)) e
+    subst (λ (i : ℕ). Gathering (now (s .args .case)) (now (s .args .plan)) (memberOf (s .args .set)) (s .args .s) i (l .loop .g)) e
     (rw (toZ-ofZ (s .fits .set)) at (l .loop .inv .1))
 
 pub gather-spec : {M : Type 1} → statement M

@@ -1,13 +1,14 @@
 -- Once 40 and 41 are answered yes the times are in order, and so the figures may be computed; a no is the answer itself.
 use Rattle.plan.proofs.Common.{_≡_, sym, ap, _∙_, _≤_, arith, needs, now, toZ-ofZ, counted}
 use Rattle.numbers.specs.law.Signed.{posPart}
+use Rattle.numbers.specs.law.Sets.{memberOf}
 use Rattle.numbers.specs.law.Question.{firstNo}
 use Rattle.numbers.specs.declared.answer.Answer.the-variants.{Yes}
 use Rattle.case.specs.law.Layout.{nodesOf, arcsOf, stationsOf}
 use Rattle.plan.specs.declared.figures.Ledger.the-variants.{Given}
 use Rattle.plan.specs.law.PlanLayout.{stepWidth}
 use Rattle.plan.specs.law.Ledger.{regionQuestions}
-use Rattle.plan.specs.inside.LedgerVerdict.{times-kept}
+use Rattle.plan.specs.inside.LedgerVerdict.{nodes-kept, times-kept}
 use Rattle.plan.specs.inside.LedgerAnswer.{in-order}
 use Rattle.plan.proofs.RegionTests.{same-figures}
 use Rattle.plan.proofs.Adding.{count-read}
@@ -62,18 +63,21 @@ figures-requires c κs =
     let a = s .args in
     let n = nodes-is (c .before .before .before .before .before .before) in
     let m = arcs-is (c .before .before .before .before) in
-    let o = in-order (now (a .case)) (a .s) (a .t) (times-kept (now (a .case)) (now (a .plan)) (a .set) (a .s) (a .t) (asked-yes (told c))) in
-    record {
-      laid = record { rules = s .pre; counted = n; wide = omega (arith, n, m, stations-is (c .before .before)) };
-      counted = m;
-      order = omega (arith, first-is c, last-is c, o .order);
-      last = omega (arith, last-is c, o .last);
-    }
+    let y = asked-yes (told c) in
+    let o = in-order (now (a .case)) (a .s) (a .t) (times-kept (now (a .case)) (now (a .plan)) (a .set) (a .s) (a .t) y) in (
+      record {
+        laid = record { rules = s .pre; counted = n; wide = omega (arith, n, m, stations-is (c .before .before)) };
+        counted = m;
+        order = omega (arith, first-is c, last-is c, o .order);
+        last = omega (arith, last-is c, o .last);
+      },
+      rw (toZ-ofZ (s .fits .set)) (nodes-kept (now (a .case)) (now (a .plan)) (a .set) (a .s) (a .t) y),
+    )
 
 returns : tie.Need-returns
 returns c =
     let t = told (c .before) in
-    let f = same-figures _ _ (toZ-ofZ (begin t .fits .set)) (first-is (c .before)) (last-is (c .before)) in
+    let f = same-figures _ _ (ap memberOf (toZ-ofZ (begin t .fits .set))) (first-is (c .before)) (last-is (c .before)) in
     rw (asked-yes t) (ap Given (c .figures .ensures ∙ f))
 
 returns-2 : tie.Need-returns-2

@@ -1,5 +1,6 @@
 -- The sum so far is that of the arcs passed, and no arc brings more than a bound by which the whole sum fits.
 use Rattle.plan.proofs.Common.{ap, _∙_, _-_, arith, now, ℤ, w64, toZ, toZ-ofZ, counted}
+use Rattle.numbers.specs.law.Sets.{memberOf}
 use Rattle.case.specs.law.Layout.{arcsOf}
 use Rattle.plan.specs.law.Region.{edgeFlow, edgeFlows}
 use Rattle.plan.specs.inside.RegionSizes.{edge-small}
@@ -8,7 +9,7 @@ use Rattle.plan.proofs.region.edge_flows.Statement.{statement}
 use Rattle.plan.proofs.region.edge_flows.Tie as tie
 
 abbrev Inv-loop : tie.InvT-loop
-Inv-loop case set rows arcs sum₀ e₀ sum e = Summing (sum .value) (edgeFlow case (toZ w64 set) rows) 20000000 (arcsOf case) e
+Inv-loop case set rows arcs sum₀ e₀ sum e = Summing (sum .value) (edgeFlow case (memberOf (toZ w64 set)) rows) 20000000 (arcsOf case) e
 
 abbrev μ-loop : tie.MeasureT-loop
 μ-loop case set rows arcs sum₀ e₀ sum e = arcs - e
@@ -30,7 +31,7 @@ unfolding edgeFlows
 returns c =
     let l = c .before .before in
     let a = l .before .args in
-    whole (l .loop .inv) (omega arith) ∙ ap (λ (y : ℤ). edgeFlows (now (a .case)) y (now (a .rows))) (toZ-ofZ (l .before .fits .set))
+    whole (l .loop .inv) (omega arith) ∙ ap (λ (y : ℤ). edgeFlows (now (a .case)) (memberOf y) (now (a .rows))) (toZ-ofZ (l .before .fits .set))
 
 pub edge-flows-spec : {M : Type 1} → statement M
 edge-flows-spec = tie.close (tie.spec

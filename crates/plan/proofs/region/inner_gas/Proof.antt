@@ -1,5 +1,6 @@
 -- The pipe's gas counts where it is an inner pipe, by the code's own test of it.
 use Rattle.plan.proofs.Common.{_≡_, sym, _∙_, needs, now, toZ-ofZ, kept}
+use Rattle.numbers.specs.law.Sets.{memberOf}
 use Rattle.plan.specs.law.Pipes.{isPipe}
 use Rattle.plan.specs.law.Totals.{gasPart}
 use Rattle.plan.specs.law.Region.{innerPipe, innerGas}
@@ -7,7 +8,7 @@ use Rattle.plan.specs.inside.RegionSizes.{both-true}
 use Rattle.plan.proofs.region.inner_gas.Statement.{statement}
 use Rattle.plan.proofs.region.inner_gas.Tie as tie
 
-inner : (a : tie.After-inner-pipe) → let s = a .before in innerPipe (now (s .args .case)) (s .args .set) (s .args .e) ≡ a .inner-pipe .result
+inner : (a : tie.After-inner-pipe) → let s = a .before in innerPipe (now (s .args .case)) (memberOf (s .args .set)) (s .args .e) ≡ a .inner-pipe .result
 inner a = sym (rw (toZ-ofZ (a .before .fits .set)) at (a .inner-pipe .ensures))
 
 returns : tie.Need-returns

@@ -10,7 +10,7 @@ use Rattle.plan.proofs.region.inner_pipe.Tie as tie
 piped : (t : tie.Then1) → let s = t .before .before .before in isPipe (now (s .args .case)) (s .args .e) ≡ true
 piped t = ap (λ (x : Arc). eqb (x .kind) 2) (sym (t .before .before .arc .ensures)) ∙ eq-eqb _ _ (t .if1 .taken)
 
-begins : (m : tie.After-member) → let s = m .before .before .before .before in beginsIn (now (s .args .case)) (s .args .set) (s .args .e) ≡ m .member .result
+begins : (m : tie.After-member) → let a = m .before .before .before .before .args in beginsIn (now (a .case)) (memberOf (a .set)) (a .e) ≡ m .member .result
 begins m =
     let a = m .before .before .before in
     sym (m .member .ensures ∙ ap₂ (λ (z : ℤ) (x : Arc). memberOf z (x .from)) (toZ-ofZ (a .before .fits .set)) (a .arc .ensures))

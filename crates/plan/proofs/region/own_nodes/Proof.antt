@@ -1,6 +1,7 @@
 -- The sum so far is that of the nodes passed; each node's net flow is read from the array that was filled first, and leaves no more than the tolerance.
 use Rattle.plan.proofs.Common.{ap, _∙_, _-_, _≤_, arith, now, ℤ, pos, w64, toZ, toZ-ofZ, counted}
 use lib.ListN.{getD}
+use Rattle.numbers.specs.law.Sets.{memberOf}
 use Rattle.case.specs.law.Layout.{nodesOf}
 use Rattle.plan.specs.law.RegionResidual.{ownNode, ownNodes}
 use Rattle.plan.specs.inside.RegionSizes.{own-node-small}
@@ -9,7 +10,8 @@ use Rattle.plan.proofs.region.own_nodes.Statement.{statement}
 use Rattle.plan.proofs.region.own_nodes.Tie as tie
 
 abbrev Inv-loop : tie.InvT-loop
-Inv-loop case set old rows nodes arcs i net sum₀ v₀ sum v = (nodesOf case ≤ 60) × Tallying sum (ownNode case (toZ w64 set) rows i) 1000000 (nodesOf case) v
+Inv-loop case set old rows nodes arcs i net sum₀ v₀ sum v =
+    (nodesOf case ≤ 60) × Tallying sum (ownNode case (memberOf (toZ w64 set)) rows i) 1000000 (nodesOf case) v
 
 abbrev μ-loop : tie.MeasureT-loop
 μ-loop case set old rows nodes arcs i net sum₀ v₀ sum v = nodes - v
@@ -45,7 +47,7 @@ unfolding ownNodes
 returns c =
     let s = c .before .before .before in
     let a = s .args in
-    wholeN (c .before .loop .inv .1) (omega arith) ∙ ap (λ (y : ℤ). ownNodes (now (a .case)) y (now (a .rows)) (a .i)) (toZ-ofZ (s .fits .set))
+    wholeN (c .before .loop .inv .1) (omega arith) ∙ ap (λ (y : ℤ). ownNodes (now (a .case)) (memberOf y) (now (a .rows)) (a .i)) (toZ-ofZ (s .fits .set))
 
 pub own-nodes-spec : {M : Type 1} → statement M
 own-nodes-spec = tie.close (tie.spec

@@ -1,5 +1,6 @@
 -- The pipe's residual counts where it is an inner pipe, by the code's own test of it.
 use Rattle.plan.proofs.Common.{_≡_, sym, _∙_, needs, now, toZ-ofZ}
+use Rattle.numbers.specs.law.Sets.{memberOf}
 use Rattle.plan.specs.law.Pipes.{isPipe}
 use borrow.Author.Tests.{eqb-true}
 use Rattle.plan.specs.law.Region.{innerPipe}
@@ -9,7 +10,7 @@ use Rattle.plan.specs.inside.RegionSizes.{both-true}
 use Rattle.plan.proofs.region.own_pipe.Statement.{statement}
 use Rattle.plan.proofs.region.own_pipe.Tie as tie
 
-inner : (a : tie.After-inner-pipe) → let s = a .before in innerPipe (now (s .args .case)) (s .args .set) (s .args .e) ≡ a .inner-pipe .result
+inner : (a : tie.After-inner-pipe) → let s = a .before in innerPipe (now (s .args .case)) (memberOf (s .args .set)) (s .args .e) ≡ a .inner-pipe .result
 inner a = sym (rw (toZ-ofZ (a .before .fits .set)) at (a .inner-pipe .ensures))
 
 pipe-residual-requires : tie.Need-pipe-residual-requires

@@ -1,5 +1,6 @@
 -- The sum so far is that of the arcs passed, and no pipe leaves more than the tolerance allows, by which the whole sum fits.
 use Rattle.plan.proofs.Common.{ap, _∙_, _-_, arith, now, ℤ, w64, toZ, toZ-ofZ, counted}
+use Rattle.numbers.specs.law.Sets.{memberOf}
 use Rattle.case.specs.law.Layout.{numberAt, arcsOf}
 use Rattle.plan.specs.law.RegionResidual.{ownPipe, ownPipes}
 use Rattle.plan.specs.inside.RegionSizes.{own-pipe-small}
@@ -8,7 +9,7 @@ use Rattle.plan.proofs.region.own_pipes.Statement.{statement}
 use Rattle.plan.proofs.region.own_pipes.Tie as tie
 
 abbrev Inv-loop : tie.InvT-loop
-Inv-loop case set old rows arcs i sum₀ e₀ sum e = Tallying sum (ownPipe case (toZ w64 set) (numberAt old) rows i) 1000000 (arcsOf case) e
+Inv-loop case set old rows arcs i sum₀ e₀ sum e = Tallying sum (ownPipe case (memberOf (toZ w64 set)) (numberAt old) rows i) 1000000 (arcsOf case) e
 
 abbrev μ-loop : tie.MeasureT-loop
 μ-loop case set old rows arcs i sum₀ e₀ sum e = arcs - e
@@ -31,7 +32,7 @@ returns c =
     let s = c .before .before in
     let a = s .args in
     wholeN (c .before .loop .inv) (omega arith)
-    ∙ ap (λ (y : ℤ). ownPipes (now (a .case)) y (numberAt (now (a .old))) (now (a .rows)) (a .i)) (toZ-ofZ (s .fits .set))
+    ∙ ap (λ (y : ℤ). ownPipes (now (a .case)) (memberOf y) (numberAt (now (a .old))) (now (a .rows)) (a .i)) (toZ-ofZ (s .fits .set))
 
 pub own-pipes-spec : {M : Type 1} → statement M
 own-pipes-spec = tie.close (tie.spec

@@ -1,5 +1,6 @@
 -- The sum so far is that of the arcs passed, and no arc holds more gas than a bound by which the whole sum fits.
 use Rattle.plan.proofs.Common.{ap, _∙_, _-_, arith, now, ℤ, w64, toZ, toZ-ofZ, counted}
+use Rattle.numbers.specs.law.Sets.{memberOf}
 use Rattle.case.specs.law.Layout.{numberAt, arcsOf}
 use Rattle.plan.specs.law.Region.{innerGas, regionGas}
 use Rattle.plan.specs.inside.RegionSizes.{inner-gas-small}
@@ -8,7 +9,8 @@ use Rattle.plan.proofs.region.region_gas.Statement.{statement}
 use Rattle.plan.proofs.region.region_gas.Tie as tie
 
 abbrev Inv-loop : tie.InvT-loop
-Inv-loop case set pressures arcs sum₀ e₀ sum e = Summing (sum .value) (innerGas case (toZ w64 set) (numberAt pressures)) 40000000000000 (arcsOf case) e
+Inv-loop case set pressures arcs sum₀ e₀ sum e =
+    Summing (sum .value) (innerGas case (memberOf (toZ w64 set)) (numberAt pressures)) 40000000000000 (arcsOf case) e
 
 abbrev μ-loop : tie.MeasureT-loop
 μ-loop case set pressures arcs sum₀ e₀ sum e = arcs - e
@@ -30,7 +32,8 @@ unfolding regionGas
 returns c =
     let l = c .before .before in
     let a = l .before .args in
-    whole (l .loop .inv) (omega arith) ∙ ap (λ (y : ℤ). regionGas (now (a .case)) y (numberAt (now (a .pressures)))) (toZ-ofZ (l .before .fits .set))
+    whole (l .loop .inv) (omega arith)
+    ∙ ap (λ (y : ℤ). regionGas (now (a .case)) (memberOf y) (numberAt (now (a .pressures)))) (toZ-ofZ (l .before .fits .set))
 
 pub region-gas-spec : {M : Type 1} → statement M
 region-gas-spec = tie.close (tie.spec

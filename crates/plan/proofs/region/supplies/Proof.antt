@@ -1,5 +1,6 @@
 -- The sum so far is that of the nodes passed, and no node supplies more than a bound by which the whole sum fits.
 use Rattle.plan.proofs.Common.{ap, _∙_, _-_, arith, now, ℤ, w64, toZ, toZ-ofZ}
+use Rattle.numbers.specs.law.Sets.{memberOf}
 use Rattle.case.specs.law.Layout.{nodesOf}
 use Rattle.plan.specs.law.Region.{regionSupply, suppliesIn}
 use Rattle.plan.specs.inside.RegionSizes.{supply-small}
@@ -8,7 +9,7 @@ use Rattle.plan.proofs.region.supplies.Statement.{statement}
 use Rattle.plan.proofs.region.supplies.Tie as tie
 
 abbrev Inv-loop : tie.InvT-loop
-Inv-loop case set rows nodes sum₀ v₀ sum v = Summing (sum .value) (regionSupply (toZ w64 set) rows) 10000000 (nodesOf case) v
+Inv-loop case set rows nodes sum₀ v₀ sum v = Summing (sum .value) (regionSupply (memberOf (toZ w64 set)) rows) 10000000 (nodesOf case) v
 
 abbrev μ-loop : tie.MeasureT-loop
 μ-loop case set rows nodes sum₀ v₀ sum v = nodes - v
@@ -27,7 +28,7 @@ unfolding suppliesIn
 returns c =
     let l = c .before .before in
     let a = l .before .args in
-    whole (l .loop .inv) (omega arith) ∙ ap (λ (y : ℤ). suppliesIn (now (a .case)) y (now (a .rows))) (toZ-ofZ (l .before .fits .set))
+    whole (l .loop .inv) (omega arith) ∙ ap (λ (y : ℤ). suppliesIn (now (a .case)) (memberOf y) (now (a .rows))) (toZ-ofZ (l .before .fits .set))
 
 pub supplies-spec : {M : Type 1} → statement M
 supplies-spec = tie.close (tie.spec

@@ -1,6 +1,7 @@
 -- Each figure is the old one with the step's: what a kept step brings and leaves is small, and so neither sum is too large.
 use mathlib.Core.Path.{_≡_, ap, ap₂, _∙_, subst}
 use Rattle.plan.proofs.Common.{ℕ, _+_, arith, needs, now, pos, _+ℤ_, w64, toZ, ofZ, toZ-ofZ, counted}
+use Rattle.numbers.specs.law.Sets.{memberOf}
 use Rattle.case.specs.law.Layout.{numberAt}
 use Rattle.case.specs.law.LayoutOf.{Holds}
 use Rattle.numbers.specs.inside.SignedLocals.{Held, plain, held, held-fits, _+ʳ_}
@@ -17,7 +18,7 @@ begin o = o .before .before .before .before .before .before .before
 -- the gas brought in before, and in this step
 brought : (o : tie.After-own-pipes) → let a = begin o .args in
     Held (toZ w64 (ofZ w64 (a .g .brought)) +ℤ toZ w64 (ofZ w64 (o .before .before .before .before .brought-in .result)))
-    (a .g .brought +ℤ broughtIn (now (a .case)) (a .set) (now (a .rows)) (a .i)) 1000259200000000000
+    (a .g .brought +ℤ broughtIn (now (a .case)) (memberOf (a .set)) (now (a .rows)) (a .i)) 1000259200000000000
 brought o =
     let s = begin o in
     let e = rw (toZ-ofZ (s .fits .set)) at (o .before .before .before .before .brought-in .ensures) in
@@ -25,14 +26,15 @@ brought o =
 
 -- what the region's nodes and pipes leave over in this step
 left : (o : tie.After-own-pipes) → let a = begin o .args in
-    o .before .before .own-nodes .result + o .own-pipes .result ≡ regionResidual (now (a .case)) (a .set) (numberAt (a .g .pressures)) (now (a .rows)) (a .i)
+    o .before .before .own-nodes .result + o .own-pipes .result
+    ≡ regionResidual (now (a .case)) (memberOf (a .set)) (numberAt (a .g .pressures)) (now (a .rows)) (a .i)
 unfolding regionResidual
 left o =
     let k = toZ-ofZ (begin o .fits .set) in
     ap₂ _+_ (rw k at (o .before .before .own-nodes .ensures)) (rw k at (o .own-pipes .ensures))
 
 together-requires : tie.Need-together-requires
-together-requires c κs = omega (arith, left c, residual-small (begin c .pre .2) (begin c .args .set))
+together-requires c κs = omega (arith, left c, residual-small (begin c .pre .2) (memberOf (begin c .args .set)))
 
 row-pressures-requires : tie.Need-row-pressures-requires
 row-pressures-requires c κs = let s = begin (c .before .before) in omega (arith, s .pre .0, counted (s .pre .2 .accepted) .nodes)
@@ -44,7 +46,7 @@ add-t22 : tie.Need-add-t22
 add-t22 c =
     let t = c .before .before .before .before .before in
     let s = begin (t .before) in
-    record { fits = omega (arith, left (t .before), residual-small (s .pre .2) (s .args .set), t .together .ensures, s .pre .3 .residual) }
+    record { fits = omega (arith, left (t .before), residual-small (s .pre .2) (memberOf (s .args .set)), t .together .ensures, s .pre .3 .residual) }
 
 returns : tie.Need-returns
 returns c =
