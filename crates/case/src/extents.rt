@@ -11,7 +11,7 @@ pub const ARCS: usize = 120;
 pub const STATIONS: usize = 8;
 
 // A node set is one number with room for so many nodes.
-pub(crate) const SET_ROOM: usize = 60;
+pub const SET_ROOM: usize = 60;
 
 pub(crate) const MOST_SET: i64 = 1152921504606846975; // 2^60 - 1
 

@@ -1,4 +1,5 @@
 -- What the functions of one arc share: its ends, the sizes of a pipe's two sides, and the station of a compressing arc.
+use Rattle.case.specs.law.Extents.{nodeCapacity}
 use Rattle.plan.proofs.Common.{_≡_, refl, ap, _∙_, ℕ, _<_, _≤_, arith, ℤ, pos, natAbs, _+ℤ_, _-ℤ_, w64, toZ, ofZ}
 use Rattle.plan.proofs.Common.{Held, literal, _+ʳ_, _-ʳ_, _*ʳ_, counted}
 use mathlib.Core.List.{List}
@@ -39,10 +40,10 @@ module _ {case : List ℤ} {e : ℕ} (a : AcceptedCase case) (p : e < arcsOf cas
   pub to-in : c .to < nodesOf case
   to-in = rw q (to-node a e p)
 
-  pub from-small : c .from < 60
+  pub from-small : c .from < nodeCapacity
   from-small = omega (arith, from-in, counted a .nodes)
 
-  pub to-small : c .to < 60
+  pub to-small : c .to < nodeCapacity
   to-small = omega (arith, to-in, counted a .nodes)
 
 -- ---- 26: the ratio of a station's machines

@@ -1,4 +1,5 @@
 -- Net flows in an array, gathered arc by arc: one arc more is two stores, one at each of its ends.
+use Rattle.case.specs.law.Extents.{arcCapacity, nodeCapacity}
 use Rattle.plan.proofs.Common.{_≡_, refl, sym, ap, _∙_, Bool, true, false, ℕ, _+_, _<_, _≤_, arith, eqb, ℤ, pos, natAbs, _+ℤ_, _-ℤ_, length}
 use mathlib.Core.List.{List}
 use Prim.Native.Nat.{zero, suc}
@@ -37,16 +38,16 @@ room net from to out n o = record {
 
 -- node i's flow is the sum of what the first e arcs put to it
 pub record Gathers (net : List ℤ) (f : ℕ → ℕ → ℤ) (e : ℕ) : Type 0 where
-  pub each : (i : ℕ) → i < 60 → numberAt net i ≡ sum e (f i)
+  pub each : (i : ℕ) → i < nodeCapacity → numberAt net i ≡ sum e (f i)
 
 zeros : (n i : ℕ) → getD (replicate n (pos 0)) i (pos 0) ≡ pos 0
 zeros zero i = refl
 zeros (suc n) zero = refl
 zeros (suc n) (suc i) = zeros n i
 
-pub gathers-none : (f : ℕ → ℕ → ℤ) → Gathers (replicate 60 (pos 0)) f 0
+pub gathers-none : (f : ℕ → ℕ → ℤ) → Gathers (replicate nodeCapacity (pos 0)) f 0
 unfolding sum
-gathers-none f = record { each = λ i p. zeros 60 i }
+gathers-none f = record { each = λ i p. zeros nodeCapacity i }
 
 module _ {net : List ℤ} {f : ℕ → ℕ → ℤ} {e : ℕ} (g : Gathers net f e) where
   -- an arc that puts nothing
@@ -55,7 +56,7 @@ module _ {net : List ℤ} {f : ℕ → ℕ → ℤ} {e : ℕ} (g : Gathers net f
   gathers-same z = record { each = λ i p. rw (add-one e, z i) (g .each i p ∙ sym (+ℤ-idr (sum e (f i)))) }
 
   -- an arc from one node to another
-  pub gathers-more : {next : List ℤ} (from to : ℕ) (out into : ℤ) → Holds (pos 0) next (movedAt net from to out into) 60
+  pub gathers-more : {next : List ℤ} (from to : ℕ) (out into : ℤ) → Holds (pos 0) next (movedAt net from to out into) nodeCapacity
       → ((i : ℕ) → f i e ≡ only (eqb from i) out -ℤ only (eqb to i) into) → Gathers next f (e + 1)
   unfolding sum movedAt
   gathers-more from to out into h z = record {
@@ -67,7 +68,7 @@ module _ {net : List ℤ} {f : ℕ → ℕ → ℤ} {e : ℕ} (g : Gathers net f
   }
 
   -- no node's flow is too large for one arc more
-  pub gathers-sized : e ≤ 120 → ((i k : ℕ) → k < e → natAbs (f i k) ≤ 40000000) → NetSized net
+  pub gathers-sized : e ≤ arcCapacity → ((i k : ℕ) → k < e → natAbs (f i k) ≤ 40000000) → NetSized net
   gathers-sized l b = record {
     each = λ i p. record { bound = rw (g .each i p) (omega (arith, abs-sum-le e 40000000 (f i) (b i))) };
   }

@@ -1,4 +1,5 @@
 -- A node's net flow is the sum of what each arc puts to it, so it is bounded by what 120 arcs can put.
+use Rattle.plan.specs.inside.SumSizes.{mostNet, mostNodeResidual}
 use Rattle.plan.proofs.Common.{_≡_, refl, sym, _∙_, Bool, true, false, ℕ, _+_, _<_, _≤_, arith, eqb, ℤ, pos, natAbs, _-ℤ_, leZ, counted}
 use mathlib.Core.Bool.{cond}
 use mathlib.Core.List.{List, [], _∷_}
@@ -54,7 +55,7 @@ module _ {case rows : List ℤ} (z : FlowsSized case rows) where
   unfolding nodePart outPart inPart
   part-sized i e p = put-sized (eqb (arcOf case e .from) i) (eqb (arcOf case e .to) i) (from-sized e p) (to-sized e p)
 
-  pub net-sized : AcceptedCase case → (i : ℕ) → Bounded (netFlow case rows i) 4800000000
+  pub net-sized : AcceptedCase case → (i : ℕ) → Bounded (netFlow case rows i) mostNet
   net-sized c i = record {
     bound = rw (← net-flow case rows i) (omega (arith, abs-sum-le (arcsOf case) 40000000 (nodePart case rows i) (part-sized i), counted c .arcs));
   }
@@ -62,14 +63,14 @@ module _ {case rows : List ℤ} (z : FlowsSized case rows) where
 -- ---- 33 of one node
 
 module _ {case rows : List ℤ} {i n : ℕ} {net : ℤ} (at : AtBalance case rows i n net) where
-  imbalance-sized : natAbs (nodeImbalance case rows n) ≤ 4810000000
+  imbalance-sized : natAbs (nodeImbalance case rows n) ≤ (mostNet + 10000000)
   unfolding nodeImbalance
   imbalance-sized =
       let d = nodeRow rows n .d in
       let net = net-sized (at .flows) (at .accepted) n .bound in
       omega (arith, abs-add (netFlow case rows n) (negℤ d), abs-neg d, net, at .node-rows .each n (at .node) .d .bound)
 
-  pub residual-sized : nodeResidual case rows i n ≤ 415584000000000
+  pub residual-sized : nodeResidual case rows i n ≤ mostNodeResidual
   unfolding nodeResidual
   residual-sized = omega (arith, mul-le-mul (duration-sized (at .accepted) i (at .step) .bound) imbalance-sized)
 

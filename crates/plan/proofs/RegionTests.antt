@@ -1,4 +1,5 @@
 -- What goes by equal parts is equal, and a search for the lowest item goes on from item to item.
+use Rattle.case.specs.law.Extents.{setRoom}
 use Rattle.plan.proofs.Common.{_≡_, ap₂, Bool, true, false, arith, ℤ}
 use mathlib.Core.List.{List}
 use Prim.Native.Nat.{ℕ, suc, _+_, _-_, _<_, _≤_}
@@ -13,17 +14,17 @@ inward-same {h = h} {k} {x} {y} {u} {w} p q r s = rw (p, q) (ap₂ (inward h k) 
 
 -- ---- a search for the lowest item of a set
 
-count-down : (v : ℕ) → v < 60 → 60 - v ≡ suc (60 - (v + 1))
+count-down : (v : ℕ) → v < setRoom → setRoom - v ≡ suc (setRoom - (v + 1))
 count-down v l = omega arith
 
-pub lowest-here : (set : ℤ) (v : ℕ) → v < 60 → memberOf set v ≡ true → v ≡ lowestOf set v (60 - v)
+pub lowest-here : (set : ℤ) (v : ℕ) → v < setRoom → memberOf set v ≡ true → v ≡ lowestOf set v (setRoom - v)
 lowest-here set v l e = rw (count-down v l, e)
 
-pub lowest-on : (set : ℤ) (v : ℕ) → v < 60 → memberOf set v ≡ false → lowestOf set v (60 - v) ≡ lowestOf set (v + 1) (60 - (v + 1))
+pub lowest-on : (set : ℤ) (v : ℕ) → v < setRoom → memberOf set v ≡ false → lowestOf set v (setRoom - v) ≡ lowestOf set (v + 1) (setRoom - (v + 1))
 lowest-on set v l e = rw (count-down v l, e, ← add-one v)
 
-pub lowest-none : (set : ℤ) (v : ℕ) → 60 ≤ v → 0 ≡ lowestOf set v (60 - v)
-lowest-none set v l = let e : 60 - v ≡ 0 = omega arith in rw e
+pub lowest-none : (set : ℤ) (v : ℕ) → setRoom ≤ v → 0 ≡ lowestOf set v (setRoom - v)
+lowest-none set v l = let e : setRoom - v ≡ 0 = omega arith in rw e
 
 -- the same figures, by what is read back
 pub same-figures : (case plan : List ℤ) {x y : ℕ → Bool} {a b u w : ℕ} → x ≡ y → a ≡ b → u ≡ w

@@ -1,4 +1,6 @@
 -- The loop over the steps, over plain lists: what holds before the step with index i, one turn, and both ways out.
+use Rattle.case.specs.law.Extents.{arcCapacity, nodeCapacity}
+use Rattle.plan.specs.inside.SumSizes.{mostDemandSlack, mostPressureSlack, mostResidual, mostStepWidth, mostSwitching}
 use Rattle.plan.proofs.Common.{_≡_, refl, sym, ap, ap₂, _∙_, ℕ, _+_, _-_, _*_, _<_, _≤_, arith, ℤ, pos, natAbs, _+ℤ_}
 use mathlib.Core.List.{List}
 use native.Mathlib.Nat.{mul-le-mul}
@@ -45,10 +47,10 @@ pub record Summed (case plan : List ℤ) (t : Totals) (i : ℕ) : Type 0 where
 
 -- and their sizes
 pub record Sized (t : Totals) (i : ℕ) : Type 0 where
-  pub pressure : natAbs (t .pressure) ≤ i * 48000000
-  pub demand : natAbs (t .demand) ≤ i * 1200000000
-  pub switching : t .switching ≤ i * 136000000
-  pub residual : t .residual ≤ i * 180000000
+  pub pressure : natAbs (t .pressure) ≤ i * mostPressureSlack
+  pub demand : natAbs (t .demand) ≤ i * mostDemandSlack
+  pub switching : t .switching ≤ i * mostSwitching
+  pub residual : t .residual ≤ i * mostResidual
 
 pub record Going (case plan : List ℤ) (x : Previous) (t : Totals) (i : ℕ) : Type 0 where
   pub upto : i ≤ stepsOf case
@@ -67,16 +69,16 @@ start-sized a = record { each = λ v l. node-sized a v l 0 (counted a .some-step
 
 -- the layout's counts are those of an accepted case, and the plan's length by them is small
 pub record Small (l : Layout) : Type 0 where
-  pub few : (l .nodes ≤ 60) × (l .arcs ≤ 120) × (l .stations ≤ 8)
+  pub few : (l .nodes ≤ nodeCapacity) × (l .arcs ≤ arcCapacity) × (l .stations ≤ 8)
   pub steps : l .steps ≤ 48
-  pub width : l .nodes * 6 + l .arcs * 4 + l .stations * 2 ≤ 856
-  pub all : l .steps * (l .nodes * 6 + l .arcs * 4 + l .stations * 2) ≤ 41088
+  pub width : l .nodes * 6 + l .arcs * 4 + l .stations * 2 ≤ mostStepWidth
+  pub all : l .steps * (l .nodes * 6 + l .arcs * 4 + l .stations * 2) ≤ 48 * mostStepWidth
 
 pub small : {case : List ℤ} {l : Layout} → AcceptedCase case → LayoutOf case l → Small l
 small {l = l} a d =
     let k = counted a in
     let s : l .steps ≤ 48 = omega (arith, d .steps, k .steps) in
-    let w : l .nodes * 6 + l .arcs * 4 + l .stations * 2 ≤ 856 = omega (arith, d .nodes, k .nodes, d .arcs, k .arcs, d .stations, k .stations) in
+    let w : l .nodes * 6 + l .arcs * 4 + l .stations * 2 ≤ mostStepWidth = omega (arith, d .nodes, k .nodes, d .arcs, k .arcs, d .stations, k .stations) in
     record { few = (omega (arith, d .nodes), omega (arith, d .arcs), omega (arith, d .stations)); steps = s; width = w; all = mul-le-mul s w }
 
 pub part-is : (case plan : List ℤ) (i w : ℕ) {rows : List ℤ} → w ≡ stepWidth case → rows ≡ take w (drop (2 + i * w) plan) → rows ≡ stepRows case plan i

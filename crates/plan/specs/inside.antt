@@ -1,6 +1,7 @@
 -- What proofs need: laws of the definitions, sizes, and what functions inside the crate ask of their callers.
 pub mod StationPass
 pub mod StepAnswer
+pub mod SumSizes
 pub mod Sizes
 pub mod Preconditions
 pub mod SettingLaws

@@ -5,6 +5,7 @@ ghost use lib.IntN.{pos};
 ghost use lib.ListN.{length};
 ghost use Rattle.numbers.specs.law.Question.{firstNo};
 ghost use Rattle.numbers.specs.inside.SignedBounds.{Bounded};
+ghost use Rattle.case.specs.law.Extents.{nodeCapacity};
 ghost use Rattle.case.specs.law.Layout.{nodesOf, arcsOf};
 ghost use Rattle.case.specs.law.LayoutOf.{Holds};
 ghost use Rattle.plan.specs.law.Balance.{flowAtFrom, flowAtTo, netFlow, nodeResidual, allBalanceQuestions};
@@ -19,14 +20,15 @@ use super::pipes::size;
 use super::rows::arc_row;
 use super::rows::node_row;
 use super::stepped::Stepped;
+use case::extents::NODES;
 use case::records::Layout;
 use numbers::compare::at;
 use numbers::compare::at_most;
 
 // One arc more in the net flows: it takes `out` from node `from` and brings `into` to node `to`.
 pub(crate) fn moved(net: &mut [i64], from: usize, to: usize, out: i64, into: i64)
-    requires { ⌜ (from < 60) × (to < 60) × (length (now net) ≡ 60) × (Bounded out 20000000) × (Bounded into 20000000) × (NetSized (now net)) ⌝ }
-    ensures { λ _. ⌜ (length (now (net .exit)) ≡ 60) × (Holds (pos 0) (now (net .exit)) (movedAt (now (net .entry)) from to out into) 60) ⌝ }
+    requires { ⌜ (from < nodeCapacity) × (to < nodeCapacity) × (length (now net) ≡ nodeCapacity) × (Bounded out 20000000) × (Bounded into 20000000) × (NetSized (now net)) ⌝ }
+    ensures { λ _. ⌜ (length (now (net .exit)) ≡ nodeCapacity) × (Holds (pos 0) (now (net .exit)) (movedAt (now (net .entry)) from to out into) nodeCapacity) ⌝ }
 {
     let leaving = net[from] + out;
     net[from] = leaving;
@@ -59,11 +61,11 @@ pub(crate) fn end_flows(case: &[i64], rows: &[i64], e: usize) -> Ends
 }
 
 // Each node's flow out less its flow in.
-pub(crate) fn net_flows(case: &[i64], rows: &[i64], arcs: usize) -> [i64; 60]
+pub(crate) fn net_flows(case: &[i64], rows: &[i64], arcs: usize) -> [i64; NODES]
     requires { ⌜ (AcceptedCase (now case)) × (arcs ≡ arcsOf (now case)) × (FlowsSized (now case) (now rows)) ⌝ }
     ensures { λ r. ⌜ Holds (pos 0) r (netFlow (now (case .entry)) (now (rows .entry))) (nodesOf (now (case .entry))) ⌝ }
 {
-    let mut net = [0i64; 60];
+    let mut net = [0i64; NODES];
     let mut e: usize = 0;
     while e < arcs {
         let c = arc(case, e);

@@ -5,6 +5,7 @@ ghost use Prim.Native.Nat.{_-_, _≤_};
 ghost use lib.IntN.{pos};
 ghost use Rattle.numbers.specs.law.Sets.{memberOf};
 ghost use Rattle.numbers.specs.law.Question.{firstNo};
+ghost use Rattle.case.specs.law.Extents.{setRoom};
 ghost use Rattle.case.specs.law.Layout.{nodesOf, stepsOf};
 ghost use Rattle.case.specs.law.LayoutOf.{Holds};
 ghost use Rattle.case.specs.law.StationFields.{firstItems};
@@ -26,6 +27,8 @@ use super::region::inner_pipes;
 use super::region::region_gas;
 use super::region::with_step;
 use super::verdict::Verdict;
+use case::extents::NODES;
+use case::extents::SET_ROOM;
 use numbers::answer::Answer;
 use numbers::answer::ask;
 use numbers::compare::at;
@@ -38,18 +41,18 @@ use numbers::sets::subset;
 
 // The set of the first `n` nodes.
 fn first_nodes(n: usize) -> i64
-    requires { ⌜ n ≤ 60 ⌝ }
+    requires { ⌜ n ≤ setRoom ⌝ }
     ensures { λ r. ⌜ r ≡ firstItems n ⌝ }
 {
     ((1usize << n) - 1) as i64
 }
 
 fn names_nodes(case: &[i64], set: i64) -> bool
-    requires { ⌜ nodesOf (now case) ≤ 60 ⌝ }
+    requires { ⌜ nodesOf (now case) ≤ setRoom ⌝ }
     ensures { λ r. ⌜ r ≡ namesNodes (now (case .entry)) set ⌝ }
 {
     let nodes = index(at(case, 1));
-    if within(0, set, first_nodes(60)) {
+    if within(0, set, first_nodes(SET_ROOM)) {
         subset(set, first_nodes(nodes))
     } else {
         false
@@ -58,11 +61,11 @@ fn names_nodes(case: &[i64], set: i64) -> bool
 
 // The lowest item of the set from `n` on, and 0 where there is none.
 fn lowest(set: i64, n: usize) -> usize
-    requires { ⌜ n ≤ 60 ⌝ }
-    ensures { λ r. ⌜ r ≡ lowestOf set n (60 - n) ⌝ }
+    requires { ⌜ n ≤ setRoom ⌝ }
+    ensures { λ r. ⌜ r ≡ lowestOf set n (setRoom - n) ⌝ }
 {
     let mut v = n;
-    while v < 60 {
+    while v < SET_ROOM {
         if member(set, v) {
             return v;
         }
@@ -73,10 +76,10 @@ fn lowest(set: i64, n: usize) -> usize
 
 // The place of 40.
 fn foreign_node(case: &[i64], set: i64) -> usize
-    requires { ⌜ nodesOf (now case) ≤ 60 ⌝ }
+    requires { ⌜ nodesOf (now case) ≤ setRoom ⌝ }
     ensures { λ r. ⌜ r ≡ foreignNode (now (case .entry)) set ⌝ }
 {
-    if within(0, set, first_nodes(60)) {
+    if within(0, set, first_nodes(SET_ROOM)) {
         lowest(set, index(at(case, 1)))
     } else {
         0
@@ -113,7 +116,7 @@ fn region_answer(case: &[i64], set: i64, s: i64, t: i64) -> Answer
 }
 
 // The pressures at a time: p0 at 0, and those of the step that ends then.
-fn pressures_at(case: &[i64], plan: &[i64], nodes: usize, width: usize, time: usize) -> [i64; 60]
+fn pressures_at(case: &[i64], plan: &[i64], nodes: usize, width: usize, time: usize) -> [i64; NODES]
     requires { ⌜ (RegionLaid (now case) (now plan) nodes width) × (time ≤ stepsOf (now case)) ⌝ }
     ensures { λ r. ⌜ Holds (pos 0) r (pressureAt (now (case .entry)) (now (plan .entry)) time) (nodesOf (now (case .entry))) ⌝ }
 {
@@ -122,7 +125,7 @@ fn pressures_at(case: &[i64], plan: &[i64], nodes: usize, width: usize, time: us
     }
     let offset = 2 + (time - 1) * width;
     let rows = &plan[offset..offset + width];
-    let none = [0i64; 60];
+    let none = [0i64; NODES];
     row_pressures(none, rows, nodes)
 }
 

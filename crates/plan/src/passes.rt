@@ -17,6 +17,8 @@ use super::accepted::arc;
 use super::accepted::own_station;
 use super::balance::moved;
 use super::rows::arc_row;
+use case::extents::NODES;
+use case::extents::STATIONS;
 use numbers::compare::at_most;
 use numbers::compare::index;
 
@@ -33,12 +35,12 @@ fn with_active(case: &[i64], rows: &[i64], set: usize, n: usize, e: usize) -> us
 }
 
 // Each station's active arcs, a set.
-pub(crate) fn active_sets(case: &[i64], rows: &[i64], arcs: usize) -> [usize; 8]
+pub(crate) fn active_sets(case: &[i64], rows: &[i64], arcs: usize) -> [usize; STATIONS]
     requires { ⌜ (AcceptedCase (now case)) × (arcs ≡ arcsOf (now case)) ⌝ }
     ensures { λ r. ⌜ Holds 0 r (activeBits (now (case .entry)) (now (rows .entry))) (stationsOf (now (case .entry))) ⌝ }
 {
-    let mut sets = [0usize; 8];
-    let mut counts = [0usize; 8]; // how many of its arcs each station has had
+    let mut sets = [0usize; STATIONS];
+    let mut counts = [0usize; STATIONS]; // how many of its arcs each station has had
     let mut e: usize = 0;
     while e < arcs {
         let s = own_station(case, e);
@@ -53,12 +55,12 @@ pub(crate) fn active_sets(case: &[i64], rows: &[i64], arcs: usize) -> [usize; 8]
 }
 
 // 31: a machine that an arc of its station has and an arc before it had is on two.
-pub(crate) fn machines_once(case: &[i64], rows: &[i64], arcs: usize) -> [bool; 8]
+pub(crate) fn machines_once(case: &[i64], rows: &[i64], arcs: usize) -> [bool; STATIONS]
     requires { ⌜ (AcceptedCase (now case)) × (arcs ≡ arcsOf (now case)) × (MachinesKept (now case) (now rows)) ⌝ }
     ensures { λ r. ⌜ Holds true r (machinesOnce (now (case .entry)) (now (rows .entry))) (stationsOf (now (case .entry))) ⌝ }
 {
-    let mut once = [true; 8];
-    let mut taken = [0usize; 8]; // the machines that each station's arcs have had
+    let mut once = [true; STATIONS];
+    let mut taken = [0usize; STATIONS]; // the machines that each station's arcs have had
     let mut e: usize = 0;
     while e < arcs {
         let s = own_station(case, e);
@@ -76,11 +78,11 @@ pub(crate) fn machines_once(case: &[i64], rows: &[i64], arcs: usize) -> [bool; 8
 }
 
 // The net flow from each node into artificial arcs. By 14 these are one station's.
-pub(crate) fn artificial_flows(case: &[i64], rows: &[i64], arcs: usize) -> [i64; 60]
+pub(crate) fn artificial_flows(case: &[i64], rows: &[i64], arcs: usize) -> [i64; NODES]
     requires { ⌜ (AcceptedCase (now case)) × (arcs ≡ arcsOf (now case)) × (FlowsSized (now case) (now rows)) ⌝ }
     ensures { λ r. ⌜ Holds (pos 0) r (artificialFlow (now (case .entry)) (now (rows .entry))) (nodesOf (now (case .entry))) ⌝ }
 {
-    let mut net = [0i64; 60];
+    let mut net = [0i64; NODES];
     let mut e: usize = 0;
     while e < arcs {
         let c = arc(case, e);

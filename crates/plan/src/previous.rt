@@ -3,6 +3,7 @@ ghost use mathlib.Core.Path.{_≡_};
 ghost use mathlib.Core.Bool.{false};
 ghost use Prim.Native.Nat.{_≤_};
 ghost use lib.IntN.{pos};
+ghost use Rattle.case.specs.law.Extents.{arcCapacity, nodeCapacity};
 ghost use Rattle.case.specs.law.Layout.{arcsOf, stationsOf};
 ghost use Rattle.case.specs.law.States.{activeAtStart};
 ghost use Rattle.case.specs.inside.Counts.{Counted};
@@ -13,6 +14,9 @@ ghost use Rattle.plan.specs.inside.PreviousHolds.{Carried};
 use super::rows::arc_row;
 use super::rows::choice_of;
 use super::rows::pressure;
+use case::extents::ARCS;
+use case::extents::NODES;
+use case::extents::STATIONS;
 use case::members::active;
 use case::read::node;
 use case::read::station;
@@ -21,17 +25,17 @@ use numbers::compare::at_most;
 use numbers::compare::index;
 
 pub struct Previous {
-    pub pressures: [i64; 60],
-    pub active: [bool; 120],
-    pub directions: [usize; 8],
-    pub states: [usize; 8],
+    pub pressures: [i64; NODES],
+    pub active: [bool; ARCS],
+    pub directions: [usize; STATIONS],
+    pub states: [usize; STATIONS],
 }
 
-pub(crate) fn start_pressures(case: &[i64], nodes: usize) -> [i64; 60]
-    requires { ⌜ nodes ≤ 60 ⌝ }
+pub(crate) fn start_pressures(case: &[i64], nodes: usize) -> [i64; NODES]
+    requires { ⌜ nodes ≤ nodeCapacity ⌝ }
     ensures { λ r. ⌜ Holds (pos 0) r (startPressure (now (case .entry))) nodes ⌝ }
 {
-    let mut pressures = [0i64; 60];
+    let mut pressures = [0i64; NODES];
     let mut v: usize = 0;
     while v < nodes {
         let p0 = node(case, v, 0).p0;
@@ -41,11 +45,11 @@ pub(crate) fn start_pressures(case: &[i64], nodes: usize) -> [i64; 60]
     pressures
 }
 
-fn start_active(case: &[i64], arcs: usize) -> [bool; 120]
-    requires { ⌜ arcs ≤ 120 ⌝ }
+fn start_active(case: &[i64], arcs: usize) -> [bool; ARCS]
+    requires { ⌜ arcs ≤ arcCapacity ⌝ }
     ensures { λ r. ⌜ Holds false r (activeAtStart (now (case .entry))) arcs ⌝ }
 {
-    let mut on = [false; 120];
+    let mut on = [false; ARCS];
     let mut e: usize = 0;
     while e < arcs {
         on[e] = active(case, e);
@@ -54,11 +58,11 @@ fn start_active(case: &[i64], arcs: usize) -> [bool; 120]
     on
 }
 
-fn start_directions(case: &[i64], layout: Layout) -> [usize; 8]
+fn start_directions(case: &[i64], layout: Layout) -> [usize; STATIONS]
     requires { ⌜ (Counted (now case)) × (LayoutOf (now case) layout) ⌝ }
     ensures { λ r. ⌜ Holds 0 r (startDirection (now (case .entry))) (stationsOf (now (case .entry))) ⌝ }
 {
-    let mut directions = [0usize; 8];
+    let mut directions = [0usize; STATIONS];
     let stations = layout.stations;
     let mut s: usize = 0;
     while s < stations {
@@ -68,11 +72,11 @@ fn start_directions(case: &[i64], layout: Layout) -> [usize; 8]
     directions
 }
 
-fn start_states(case: &[i64], layout: Layout) -> [usize; 8]
+fn start_states(case: &[i64], layout: Layout) -> [usize; STATIONS]
     requires { ⌜ (Counted (now case)) × (LayoutOf (now case) layout) ⌝ }
     ensures { λ r. ⌜ Holds 0 r (startState (now (case .entry))) (stationsOf (now (case .entry))) ⌝ }
 {
-    let mut states = [0usize; 8];
+    let mut states = [0usize; STATIONS];
     let stations = layout.stations;
     let mut s: usize = 0;
     while s < stations {
@@ -100,8 +104,8 @@ pub(crate) fn start(case: &[i64], layout: Layout) -> Previous
     }
 }
 
-pub(crate) fn row_pressures(old: [i64; 60], rows: &[i64], nodes: usize) -> [i64; 60]
-    requires { ⌜ nodes ≤ 60 ⌝ }
+pub(crate) fn row_pressures(old: [i64; NODES], rows: &[i64], nodes: usize) -> [i64; NODES]
+    requires { ⌜ nodes ≤ nodeCapacity ⌝ }
     ensures { λ r. ⌜ Holds (pos 0) r (pressureIn (now (rows .entry))) nodes ⌝ }
 {
     let mut pressures = old;
@@ -113,7 +117,7 @@ pub(crate) fn row_pressures(old: [i64; 60], rows: &[i64], nodes: usize) -> [i64;
     pressures
 }
 
-fn row_active(old: [bool; 120], case: &[i64], rows: &[i64], arcs: usize) -> [bool; 120]
+fn row_active(old: [bool; ARCS], case: &[i64], rows: &[i64], arcs: usize) -> [bool; ARCS]
     requires { ⌜ (Counted (now case)) × (arcs ≡ arcsOf (now case)) ⌝ }
     ensures { λ r. ⌜ Holds false r (activeIn (now (case .entry)) (now (rows .entry))) arcs ⌝ }
 {
@@ -126,7 +130,12 @@ fn row_active(old: [bool; 120], case: &[i64], rows: &[i64], arcs: usize) -> [boo
     on
 }
 
-fn row_directions(old: [usize; 8], case: &[i64], rows: &[i64], stations: usize) -> [usize; 8]
+fn row_directions(
+    old: [usize; STATIONS],
+    case: &[i64],
+    rows: &[i64],
+    stations: usize,
+) -> [usize; STATIONS]
     requires { ⌜ (Counted (now case)) × (stations ≡ stationsOf (now case)) ⌝ }
     ensures { λ r. ⌜ Holds 0 r (directionIn (now (case .entry)) (now (rows .entry))) stations ⌝ }
 {
@@ -139,7 +148,12 @@ fn row_directions(old: [usize; 8], case: &[i64], rows: &[i64], stations: usize) 
     directions
 }
 
-fn row_states(old: [usize; 8], case: &[i64], rows: &[i64], stations: usize) -> [usize; 8]
+fn row_states(
+    old: [usize; STATIONS],
+    case: &[i64],
+    rows: &[i64],
+    stations: usize,
+) -> [usize; STATIONS]
     requires { ⌜ (Counted (now case)) × (stations ≡ stationsOf (now case)) ⌝ }
     ensures { λ r. ⌜ Holds 0 r (stateIn (now (case .entry)) (now (rows .entry))) stations ⌝ }
 {

@@ -4,6 +4,8 @@ ghost use Prim.Native.Nat.{_+_, _<_, _≤_};
 ghost use Rattle.numbers.specs.inside.SignedBounds.{Bounded};
 ghost use Rattle.numbers.specs.law.Sets.{memberOf};
 ghost use Rattle.numbers.specs.law.Sums.{onlyN};
+ghost use Rattle.case.specs.law.Extents.{nodeCapacity};
+ghost use Rattle.plan.specs.inside.SumSizes.{mostResidual};
 ghost use Rattle.case.specs.law.Layout.{numberAt, nodesOf, arcsOf};
 ghost use Rattle.plan.specs.inside.Sizes.{NodesSized};
 ghost use Rattle.plan.specs.inside.Preconditions.{AcceptedCase, AtBalance};
@@ -20,6 +22,7 @@ use super::pipes::pipe_residual;
 use super::previous::row_pressures;
 use super::rows::node_row;
 use super::totals::pipe_gas;
+use case::extents::NODES;
 use numbers::sets::member;
 
 // Is the arc a pipe with both ends in the set?
@@ -118,7 +121,7 @@ fn edge_flows(case: &[i64], set: i64, rows: &[i64], arcs: usize) -> i64
 
 // d at a node, if the set has it.
 fn supply(set: i64, rows: &[i64], v: usize) -> i64
-    requires { ⌜ v < 60 ⌝ }
+    requires { ⌜ v < nodeCapacity ⌝ }
     ensures { λ r. ⌜ r ≡ regionSupply (memberOf set) (now (rows .entry)) v ⌝ }
 {
     if member(set, v) {
@@ -129,7 +132,7 @@ fn supply(set: i64, rows: &[i64], v: usize) -> i64
 }
 
 fn supplies(case: &[i64], set: i64, rows: &[i64], nodes: usize) -> i64
-    requires { ⌜ (nodes ≡ nodesOf (now case)) × (nodes ≤ 60) × (NodesSized (now case) (now rows)) ⌝ }
+    requires { ⌜ (nodes ≡ nodesOf (now case)) × (nodes ≤ nodeCapacity) × (NodesSized (now case) (now rows)) ⌝ }
     ensures { λ r. ⌜ r ≡ suppliesIn (now (case .entry)) (memberOf set) (now (rows .entry)) ⌝ }
 {
     let mut sum = Sum { value: 0 };
@@ -219,7 +222,7 @@ fn own_pipes(case: &[i64], set: i64, old: &[i64], rows: &[i64], arcs: usize, i: 
 
 // The left sides of both rules are sizes and add up: nothing is netted by sign.
 fn together(nodes: usize, pipes: usize) -> usize
-    requires { ⌜ nodes + pipes ≤ 180000000 ⌝ }
+    requires { ⌜ nodes + pipes ≤ mostResidual ⌝ }
     ensures { λ r. ⌜ r ≡ nodes + pipes ⌝ }
 {
     nodes + pipes
@@ -227,7 +230,7 @@ fn together(nodes: usize, pipes: usize) -> usize
 
 // What is carried from step to step: the pressures, the gas brought in and the residual so far.
 pub struct Gathered {
-    pub pressures: [i64; 60],
+    pub pressures: [i64; NODES],
     pub brought: i64,
     pub residual: usize,
 }

@@ -5,6 +5,8 @@ ghost use Prim.Native.Nat.{_+_, _*_, _≤_};
 ghost use lib.ListN.{length, take, drop};
 ghost use Rattle.numbers.specs.law.Question.{firstNo};
 ghost use Rattle.numbers.specs.law.Items.{over};
+ghost use Rattle.case.specs.law.Extents.{arcCapacity, nodeCapacity};
+ghost use Rattle.plan.specs.inside.SumSizes.{mostStepWidth};
 ghost use Rattle.case.specs.law.Layout.{numberAt, nodesOf, arcsOf, stepsOf};
 ghost use Rattle.case.specs.law.LayoutOf.{LayoutOf};
 ghost use Rattle.plan.specs.law.StationRules.{allStationQuestions};
@@ -114,7 +116,7 @@ fn closed(totals: Totals, case: &[i64], previous: Previous, arcs: usize) -> Tota
 
 // How many numbers a step has.
 pub(crate) fn step_width(nodes: usize, arcs: usize, stations: usize) -> usize
-    requires { ⌜ (nodes ≤ 60) × (arcs ≤ 120) × (stations ≤ 8) ⌝ }
+    requires { ⌜ (nodes ≤ nodeCapacity) × (arcs ≤ arcCapacity) × (stations ≤ 8) ⌝ }
     ensures { λ r. ⌜ r ≡ nodes * 6 + arcs * 4 + stations * 2 ⌝ }
 {
     nodes * 6 + arcs * 4 + stations * 2
@@ -122,7 +124,7 @@ pub(crate) fn step_width(nodes: usize, arcs: usize, stations: usize) -> usize
 
 // The plan's part for the step with index `i`.
 fn part_of(plan: &[i64], i: usize, width: usize) -> &[i64]
-    requires { ⌜ (i ≤ 48) × (width ≤ 1000) × (2 + i * width + width ≤ length (now plan)) ⌝ }
+    requires { ⌜ (i ≤ 48) × (width ≤ mostStepWidth) × (2 + i * width + width ≤ length (now plan)) ⌝ }
     ensures { λ r. ⌜ now r ≡ take width (drop (2 + i * width) (now (plan .entry))) ⌝ }
 {
     let offset = 2 + i * width;

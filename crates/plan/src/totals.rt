@@ -18,6 +18,8 @@ use super::previous::Previous;
 use super::rows::arc_row;
 use super::rows::choice_of;
 use super::rows::node_row;
+use case::extents::ARCS;
+use case::extents::STATIONS;
 use case::read::direction;
 use case::read::state;
 use case::records::Layout;
@@ -86,8 +88,8 @@ fn state_cost(case: &[i64], rows: &[i64], offset: usize, s: usize, was: usize) -
 
 pub(crate) fn choice_costs(
     case: &[i64],
-    directions: [usize; 8],
-    states: [usize; 8],
+    directions: [usize; STATIONS],
+    states: [usize; STATIONS],
     rows: &[i64],
     layout: Layout,
 ) -> usize
@@ -126,7 +128,7 @@ fn activity_cost(case: &[i64], rows: &[i64], e: usize, was: bool) -> usize
     0
 }
 
-pub(crate) fn activity_costs(case: &[i64], active: [bool; 120], rows: &[i64], arcs: usize) -> usize
+pub(crate) fn activity_costs(case: &[i64], active: [bool; ARCS], rows: &[i64], arcs: usize) -> usize
     requires { ⌜ (AcceptedCase (now case)) × (arcs ≡ arcsOf (now case)) ⌝ }
     ensures { λ r. ⌜ r ≡ activityCosts (now (case .entry)) (activeOf active) (now (rows .entry)) ⌝ }
 {

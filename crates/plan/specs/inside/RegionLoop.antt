@@ -11,6 +11,7 @@ use Rattle.numbers.specs.law.Question.{firstNo}
 use Rattle.numbers.specs.declared.answer.Answer.the-variants.{Yes}
 use Rattle.numbers.specs.inside.SignedBounds.{Bounded, abs-add}
 use Rattle.numbers.specs.law.Sums.{sum, sumN}
+use Rattle.plan.specs.inside.SumSizes.{mostBrought, mostResidual, mostStepWidth}
 use Rattle.case.specs.law.Layout.{numberAt, nodesOf, stepsOf}
 use Rattle.case.specs.law.LayoutOf.{Holds}
 use Rattle.plan.specs.declared.region.Gathered.{Gathered}
@@ -38,8 +39,8 @@ pub record Gathering (case plan : List ℤ) (inside : ℕ → Bool) (s i : ℕ) 
   pub held : Holds (pos 0) (g .pressures) (pressureAt case plan i) (nodesOf case)
   pub brought : g .brought ≡ sum (i - s) (broughtAt case plan inside s)
   pub residual : g .residual ≡ sumN (i - s) (residualAt case plan inside s)
-  pub brought-few : natAbs (g .brought) ≤ i * 259200000000000
-  pub residual-few : g .residual ≤ i * 180000000
+  pub brought-few : natAbs (g .brought) ≤ i * mostBrought
+  pub residual-few : g .residual ≤ i * mostResidual
 
 module _ {case plan : List ℤ} (r : PlanRules case plan) where
   accepted-case : AcceptedCase case
@@ -129,8 +130,8 @@ unfolding stepWidth stepAt
 part-within {case} {width = width} c p wide i l =
     let n = counted c in
     let a : suc i * width ≤ stepsOf case * width = mul-le-mul-right width l in
-    let w : width ≤ 856 = omega (arith, n .nodes, n .arcs, n .stations) in
-    let b : stepsOf case * width ≤ 48 * 856 = mul-le-mul (n .steps) w in
+    let w : width ≤ mostStepWidth = omega (arith, n .nodes, n .arcs, n .stations) in
+    let b : stepsOf case * width ≤ 48 * mostStepWidth = mul-le-mul (n .steps) w in
     record { inside = omega (arith, p .long ∙ ap (λ (w : ℕ). 2 + stepsOf case * w) (sym wide)); near = omega arith }
 
 module _ {case plan : List ℤ} {width : ℕ} (r : PlanRules case plan) (wide : width ≡ stepWidth case) where

@@ -14,6 +14,7 @@ use Rattle.numbers.specs.law.Sets.{bit, memberOf, countOf, subsetOf}
 use Rattle.numbers.specs.inside.SetLaws.{ones-sum}
 use Rattle.numbers.specs.law.Sums.{onlyN, count}
 use Rattle.numbers.specs.inside.SumLaws.{sumN-cong}
+use Rattle.case.specs.law.Extents.{setRoom}
 use Rattle.case.specs.law.Layout.{nodesOf}
 use Rattle.case.specs.inside.FieldLaws.{and-second}
 use Rattle.case.specs.law.StationFields.{firstItems}
@@ -39,7 +40,7 @@ module _ (case : List ℤ) (set : ℤ) (kept : namesNodes case set ≡ true) whe
 
 -- ---- and the other way round: a set of nodes passes 40
 
-pub nodes-pass : (case : List ℤ) (set : ℤ) → nodesOf case ≤ 60 → leZ (pos 0) set ≡ true → ((u : ℕ) → memberOf set u ≡ true → u < nodesOf case)
+pub nodes-pass : (case : List ℤ) (set : ℤ) → nodesOf case ≤ setRoom → leZ (pos 0) set ≡ true → ((u : ℕ) → memberOf set u ≡ true → u < nodesOf case)
     → namesNodes case set ≡ true
 unfolding namesNodes
 nodes-pass case set few whole items = rw (whole, top, inside)
@@ -47,8 +48,8 @@ nodes-pass case set few whole items = rw (whole, top, inside)
     inside : subsetOf set (firstItems (nodesOf case)) ≡ true
     inside = first-says set (nodesOf case) .passed items
 
-    top : leZ set (firstItems 60) ≡ true
+    top : leZ set (firstItems setRoom) ≡ true
     top =
-        let p : 2 ^ nodesOf case ≤ 2 ^ 60 = pow-mono few in
+        let p : 2 ^ nodesOf case ≤ 2 ^ setRoom = pow-mono few in
         let q : posPart set ≤ 1152921504606846975 = omega (arith, first-below set (nodesOf case) inside) in
         omega (ints, size set)

@@ -2,13 +2,15 @@
 use mathlib.Core.Path.{_≡_, refl}
 use mathlib.Core.Bool.{Bool, true, false, cond, _&&_}
 use mathlib.Core.List.{List}
-use Prim.Native.Nat.{ℕ, _<_, _≤_}
+use Prim.Native.Nat.{ℕ, _<_, _≤_, _+_}
 use native.Mathlib.Omega.{arith}
 use native.Mathlib.Nat.{mul-le-mul, mul-le-mul-right}
 use lib.IntN.{ℤ, negℤ, natAbs, _+ℤ_, _-ℤ_}
 use Rattle.numbers.specs.inside.SignedBounds.{abs-add, abs-neg, abs-mul}
 use Rattle.numbers.specs.law.Sums.{onlyN}
 use Rattle.numbers.specs.inside.SumLaws.{abs-sum-le, abs-only-le, sumN-bound}
+use Rattle.case.specs.law.Extents.{nodeCapacity}
+use Rattle.plan.specs.inside.SumSizes.{mostBrought, mostEdges, mostResidual, mostSupplies}
 use Rattle.case.specs.law.Layout.{numberAt, nodesOf, arcsOf}
 use Rattle.plan.specs.law.PlanRecords.{arcRow}
 use Rattle.plan.specs.law.Pipes.{duration, isPipe}
@@ -66,7 +68,7 @@ module _ {case rows : List ℤ} (h : RegionFlows case rows) where
       go false true x y m n = n
       go false false x y m n = omega arith
 
-  pub edges-small : (inside : ℕ → Bool) → natAbs (edgeFlows case inside rows) ≤ 2400000000
+  pub edges-small : (inside : ℕ → Bool) → natAbs (edgeFlows case inside rows) ≤ mostEdges
   unfolding edgeFlows
   edges-small inside =
       let r = counted (h .accepted) in
@@ -77,8 +79,8 @@ pub supply-small : {case rows : List ℤ} → NodesSized case rows → (inside :
 unfolding regionSupply
 supply-small h inside u l = abs-only-le (inside u) _ (h .each u l .d .bound)
 
-pub supplies-small : {case rows : List ℤ} → NodesSized case rows → nodesOf case ≤ 60 → (inside : ℕ → Bool)
-    → natAbs (suppliesIn case inside rows) ≤ 600000000
+pub supplies-small : {case rows : List ℤ} → NodesSized case rows → nodesOf case ≤ nodeCapacity → (inside : ℕ → Bool)
+    → natAbs (suppliesIn case inside rows) ≤ mostSupplies
 unfolding suppliesIn
 supplies-small {case} {rows} h few inside =
     omega (arith, abs-sum-le (nodesOf case) 10000000 (regionSupply inside rows) (supply-small h inside), mul-le-mul-right 10000000 few)
@@ -87,14 +89,14 @@ module _ {case old rows : List ℤ} {i : ℕ} (h : RegionStep case old rows i) w
   pub step-flows : RegionFlows case rows
   step-flows = record { accepted = h .accepted; flows = h .kept .flows }
 
-  pub brought-small : (inside : ℕ → Bool) → natAbs (broughtIn case inside rows i) ≤ 259200000000000
+  pub brought-small : (inside : ℕ → Bool) → natAbs (broughtIn case inside rows i) ≤ mostBrought
   unfolding broughtIn
   brought-small inside =
       let r = counted (h .accepted) in
       let a = suppliesIn case inside rows in
       let b = edgeFlows case inside rows in
       let d = supplies-small (h .kept .node-rows) (r .nodes) inside in
-      let w : natAbs (a +ℤ b) ≤ 3000000000 = omega (arith, abs-add a b, d, edges-small step-flows inside) in
+      let w : natAbs (a +ℤ b) ≤ (mostSupplies + mostEdges) = omega (arith, abs-add a b, d, edges-small step-flows inside) in
       omega (arith, abs-mul (duration case i) (a +ℤ b), mul-le-mul (duration-sized (h .accepted) i (h .step) .bound) w)
 
   pub own-node-small : (inside : ℕ → Bool) (u : ℕ) → u < nodesOf case → ownNode case inside rows i u ≤ 1000000
@@ -109,7 +111,7 @@ module _ {case old rows : List ℤ} {i : ℕ} (h : RegionStep case old rows i) w
       go true w n q = only-le w n q
       go false w n q = q
 
-  pub residual-small : (inside : ℕ → Bool) → regionResidual case inside (numberAt old) rows i ≤ 180000000
+  pub residual-small : (inside : ℕ → Bool) → regionResidual case inside (numberAt old) rows i ≤ mostResidual
   unfolding regionResidual ownNodes ownPipes
   residual-small inside =
       let r = counted (h .accepted) in

@@ -9,6 +9,7 @@ use Rattle.numbers.specs.law.Question.{firstNo}
 use Rattle.numbers.specs.law.Items.{over}
 use Rattle.numbers.specs.inside.SmallRefusals.{Small, AllSmall, small-append, all-small, all-append, all-over}
 use Rattle.numbers.specs.law.Sets.{memberOf}
+use Rattle.case.specs.law.Extents.{arcCapacity, nodeCapacity, setRoom}
 use Rattle.case.specs.law.Layout.{nodesOf, arcsOf, stationsOf, stepsOf}
 use Rattle.case.specs.inside.Counts.{Counted}
 use Rattle.case.specs.law.Judged.{caseQuestions}
@@ -22,7 +23,7 @@ use Rattle.plan.specs.law.StationRules.{stationQuestions, allStationQues
 use Rattle.plan.specs.law.Balance.{balanceQuestions, allBalanceQuestions}
 use Rattle.plan.specs.law.Step.{stepQuestions}
 use Rattle.plan.specs.law.Judged.{planStep, planQuestions, questions}
-use Rattle.plan.specs.law.Ledger.{setRoom, isNodeSet, lowestOf, foreignNode, regionQuestions, ledgerQuestions}
+use Rattle.plan.specs.law.Ledger.{isNodeSet, lowestOf, foreignNode, regionQuestions, ledgerQuestions}
 
 module _ {case : List ℤ} (c : Counted case) where
   step-small : (old : ℕ → ℤ) (rows : List ℤ) (i : ℕ) → i < stepsOf case → AllSmall limit (stepQuestions case old rows i)
@@ -31,12 +32,12 @@ module _ {case : List ℤ} (c : Counted case) where
   step-small old rows i l =
       let k : i < 48 = omega (arith, l, c .steps) in
       all-append limit (allNodeQuestions case rows i) (allArcQuestions case old rows i ++ (allStationQuestions case rows i ++ allBalanceQuestions case rows i))
-      (all-over limit (nodeQuestions case rows i) 0 (nodesOf case) (λ v q. let h : v < 60 = omega (arith, q, c .nodes) in search needs))
+      (all-over limit (nodeQuestions case rows i) 0 (nodesOf case) (λ v q. let h : v < nodeCapacity = omega (arith, q, c .nodes) in search needs))
       (all-append limit (allArcQuestions case old rows i) (allStationQuestions case rows i ++ allBalanceQuestions case rows i)
-      (all-over limit (arcQuestions case old rows i) 0 (arcsOf case) (λ e q. let h : e < 120 = omega (arith, q, c .arcs) in search needs))
+      (all-over limit (arcQuestions case old rows i) 0 (arcsOf case) (λ e q. let h : e < arcCapacity = omega (arith, q, c .arcs) in search needs))
       (all-append limit (allStationQuestions case rows i) (allBalanceQuestions case rows i)
       (all-over limit (stationQuestions case rows i) 0 (stationsOf case) (λ s q. let h : s < 8 = omega (arith, q, c .stations) in search needs))
-      (all-over limit (balanceQuestions case rows i) 0 (nodesOf case) (λ v q. let h : v < 60 = omega (arith, q, c .nodes) in search needs))))
+      (all-over limit (balanceQuestions case rows i) 0 (nodesOf case) (λ v q. let h : v < nodeCapacity = omega (arith, q, c .nodes) in search needs))))
 
   pub plan-small : (plan : List ℤ) → Small limit (firstNo (planQuestions case plan))
   unfolding planQuestions planStep
@@ -57,7 +58,7 @@ module _ (case plan : List ℤ) where
       go true h = omega arith
       go false h = omega (arith, h)
 
-  foreign-small : (set : ℤ) → nodesOf case ≤ 60 → foreignNode case set < limit
+  foreign-small : (set : ℤ) → nodesOf case ≤ nodeCapacity → foreignNode case set < limit
   unfolding foreignNode
   foreign-small set h = go (isNodeSet set)
     where

@@ -8,6 +8,7 @@ use lib.IntN.{ℤ, pos}
 use lib.ListN.{length}
 use Rattle.numbers.specs.law.Signed.{posPart}
 use Rattle.numbers.specs.law.Sums.{sum, only}
+use Rattle.case.specs.law.Extents.{nodeCapacity}
 use Rattle.case.specs.law.Layout.{nodesOf, arcsOf}
 use Rattle.case.specs.law.Records.{arcOf, artificialOf}
 use Rattle.case.specs.law.LayoutOf.{Holds}
@@ -34,5 +35,5 @@ artificialFlow case rows v = sum (arcsOf case) (artificialPart case rows v)
 
 -- the net flows from nodes into artificial arcs, in an array
 pub record FlowsPassed (case rows net : List ℤ) : Type 0 where
-  pub long : length net ≡ 60
+  pub long : length net ≡ nodeCapacity
   pub holds : Holds (pos 0) net (artificialFlow case rows) (nodesOf case)

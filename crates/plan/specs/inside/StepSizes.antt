@@ -2,7 +2,7 @@
 use mathlib.Core.Path.{_≡_, refl, sym, ap}
 use mathlib.Core.Bool.{Bool, true, false, not, _&&_}
 use mathlib.Core.List.{List}
-use Prim.Native.Nat.{ℕ, _<_, _≤_}
+use Prim.Native.Nat.{ℕ, _<_, _≤_, _*_}
 use native.Mathlib.Omega.{arith}
 use borrow.Author.Tests.{leb-true, eqb-true, eq-eqb, ne-eqb}
 use lib.Dec.{eqb, leb}
@@ -11,6 +11,8 @@ use Rattle.numbers.specs.inside.SignedBounds.{Bounded}
 use Rattle.numbers.specs.inside.SignedLocals.{Held, plain, _+ʳ_, _*ʳ_}
 use Rattle.numbers.specs.law.Sums.{only, onlyN}
 use Rattle.numbers.specs.inside.SumLaws.{abs-sum-le, sumN-bound}
+use Rattle.case.specs.law.Extents.{arcCapacity, nodeCapacity}
+use Rattle.plan.specs.inside.SumSizes.{mostDemandSlack, mostPressureSlack}
 use Rattle.case.specs.law.Layout.{numberAt, nodesOf, arcsOf, stationsOf, stepsOf}
 use Rattle.case.specs.law.Records.{arcOf, pipeOf, artificialOf}
 use Rattle.plan.specs.law.PlanRecords.{directionIn, stateIn, activeIn}
@@ -108,11 +110,11 @@ at-pipe {e = e} c s k q h = record {
 -- ---- the sums of a step
 
 module _ {case : List ℤ} (rows : List ℤ) (c : AcceptedCase case) where
-  pub pressure-slack-sized : NodesSized case rows → Bounded (pressureSlackIn case rows) 48000000
+  pub pressure-slack-sized : NodesSized case rows → Bounded (pressureSlackIn case rows) mostPressureSlack
   unfolding pressureSlackIn
   pressure-slack-sized h = record { bound = omega (arith, abs-sum-le (nodesOf case) 800000 (pressureSlackAt rows) (pressure-slack-le h), counted c .nodes) }
 
-  pub demand-slack-sized : NodesSized case rows → Bounded (demandSlackIn case rows) 1200000000
+  pub demand-slack-sized : NodesSized case rows → Bounded (demandSlackIn case rows) mostDemandSlack
   unfolding demandSlackIn
   demand-slack-sized h = record { bound = omega (arith, abs-sum-le (nodesOf case) 20000000 (demandSlackAt rows) (demand-slack-le h), counted c .nodes) }
 
@@ -122,20 +124,20 @@ module _ {case : List ℤ} (rows : List ℤ) (c : AcceptedCase case) where
       let b = sumN-bound (stationsOf case) 2000000 (choiceCost case f z rows) (λ s q. omega (arith, direction-le c h s q (f s), state-le c h s q (z s))) in
       omega (arith, b, counted c .stations)
 
-  pub activity-costs-le : (was : ℕ → Bool) → activityCosts case was rows ≤ 120000000
+  pub activity-costs-le : (was : ℕ → Bool) → activityCosts case was rows ≤ arcCapacity * 1000000
   unfolding activityCosts
   activity-costs-le was =
       let b = sumN-bound (arcsOf case) 1000000 (activityPart case was rows) (λ e q. activity-le c (was e) rows e q) in
       omega (arith, b, counted c .arcs)
 
   module _ {old : List ℤ} {i : ℕ} (k : StepKept case old rows i) where
-    pub pipe-residuals-le : pipeResiduals case (numberAt old) rows i ≤ 120000000
+    pub pipe-residuals-le : pipeResiduals case (numberAt old) rows i ≤ arcCapacity * 1000000
     unfolding pipeResiduals
     pipe-residuals-le =
         let b = sumN-bound (arcsOf case) 1000000 (pipePart case (numberAt old) rows i) (k .pipes) in
         omega (arith, b, counted c .arcs)
 
-    pub node-residuals-le : nodeResiduals case rows i ≤ 60000000
+    pub node-residuals-le : nodeResiduals case rows i ≤ nodeCapacity * 1000000
     unfolding nodeResiduals
     node-residuals-le =
         let b = sumN-bound (nodesOf case) 1000000 (nodeResidual case rows i) (k .nodes) in

@@ -22,6 +22,8 @@ use Rattle.numbers.specs.inside.ReadingBounds.{refusal-within}
 use Rattle.numbers.specs.inside.SumLaws.{sumN-bound, count-most}
 use Rattle.numbers.specs.declared.answer.Answer.{Answer}
 use Rattle.numbers.specs.declared.answer.Answer.the-variants.{Yes, No}
+use Rattle.case.specs.law.Extents.{arcCapacity, nodeCapacity}
+use Rattle.plan.specs.inside.SumSizes.{mostResidual, mostSwitching}
 use Rattle.case.specs.law.Layout.{nodesOf, arcsOf, stepsOf, massTolerance}
 use Rattle.case.specs.inside.FieldLaws.{first-yes, second-yes, item-yes}
 use Rattle.case.specs.law.Judged.{caseQuestions}
@@ -65,20 +67,20 @@ module _ (case plan : List ℤ) (y : firstNo (questions case plan) ≡ Yes) wher
       let p = second-yes (caseQuestions case) (planQuestions case plan) y in
       item-yes (planStep case plan) (stepsOf case) (second-yes (headQuestion case plan ∷ []) (over (planStep case plan) 0 (stepsOf case)) p) i l
 
-  switching-small : totalsOf case plan .switching ≤ 6528000000
+  switching-small : totalsOf case plan .switching ≤ 48 * mostSwitching
   unfolding totalsOf totalsTo stepSwitching
   switching-small =
-      let b = sumN-bound (stepsOf case) 136000000 (stepSwitching case plan) (λ i l.
+      let b = sumN-bound (stepsOf case) mostSwitching (stepSwitching case plan) (λ i l.
       let rows = stepRows case plan i in
       let k = choices-kept case rows i (stations-yes case (pressureAt case plan i) rows i (step-yes i l)) in
       let c = choice-costs-le rows accepted k (directionChosen case plan i) (stateChosen case plan i) in
       omega (arith, c, activity-costs-le rows accepted (activeAt case plan i))) in
       omega (arith, b, counted accepted .steps)
 
-  residual-small : totalsOf case plan .residual ≤ 8640000000
+  residual-small : totalsOf case plan .residual ≤ 48 * mostResidual
   unfolding totalsOf totalsTo stepResidual pipeResiduals nodeResiduals
   residual-small =
-      let b = sumN-bound (stepsOf case) 180000000 (stepResidual case plan) (λ i l.
+      let b = sumN-bound (stepsOf case) mostResidual (stepResidual case plan) (λ i l.
       let old = pressureAt case plan i in
       let rows = stepRows case plan i in
       let p = sumN-bound (arcsOf case) 1000000 (pipePart case old rows i) (pipe-small case old rows i accepted (arcs-yes case old rows i (step-yes i l))) in
@@ -189,16 +191,16 @@ module _ (case plan : List ℤ) (set s t : ℤ) where
       let k = times-of case s t (r .1 .0) in
       let b = region-balanced case plan (memberOf set) s t (totalsOf case plan) told (r .1 .0) in
       let h = b .bound in
-      let n : count (nodesOf case) inside ≤ 60 = omega (arith, count-most (nodesOf case) inside, c .nodes) in
-      let p : innerPipes case inside ≤ 120 = omega (arith, count-most (arcsOf case) (innerPipe case inside), c .arcs) in
+      let n : count (nodesOf case) inside ≤ nodeCapacity = omega (arith, count-most (nodesOf case) inside, c .nodes) in
+      let p : innerPipes case inside ≤ arcCapacity = omega (arith, count-most (arcsOf case) (innerPipe case inside), c .arcs) in
       let m = mass-sized (accepted case plan j) .bound in
       let d : natAbs (t -ℤ s) ≤ 48 = omega (ints, k .first, k .order, k .last, size s, size t, taken t s, size (t -ℤ s), c .steps) in
       let x = pos (count (nodesOf case) inside + innerPipes case inside) in
-      let a : natAbs (x *ℤ (t -ℤ s) *ℤ massTolerance case) ≤ 180 * 48 * 1000000 =
+      let a : natAbs (x *ℤ (t -ℤ s) *ℤ massTolerance case) ≤ (nodeCapacity + arcCapacity) * 48 * 1000000 =
       rw (abs-mul (x *ℤ (t -ℤ s)) (massTolerance case), abs-mul x (t -ℤ s)) (mul-le-mul (mul-le-mul (sum-le n p) d) m) in
       (omega (arith, n), omega (arith, p), omega (ints, h, a, size (x *ℤ (t -ℤ s) *ℤ massTolerance case)))
     where
-      sum-le : {a b : ℕ} → a ≤ 60 → b ≤ 120 → a + b ≤ 180
+      sum-le : {a b : ℕ} → a ≤ nodeCapacity → b ≤ arcCapacity → a + b ≤ nodeCapacity + arcCapacity
       sum-le h k = omega (arith, h, k)
 
   pub ledger-fits : (v : Ledger) → ledgerTold v ≡ ledgerOf case plan set s t → FitLedger (2 ^ 63) v

@@ -12,6 +12,7 @@ use Rattle.numbers.specs.declared.answer.Answer.{Answer}
 use Rattle.numbers.specs.declared.answer.Answer.the-variants.{Yes, No}
 use Rattle.numbers.specs.law.Sets.{memberOf, subsetOf}
 use Rattle.numbers.specs.law.Signed.{posPart}
+use Rattle.case.specs.law.Extents.{setRoom}
 use Rattle.case.specs.law.Layout.{nodesOf, stepsOf}
 use Rattle.case.specs.law.StationFields.{firstItems}
 use Rattle.plan.specs.declared.figures.Figures.{Figures}
@@ -22,10 +23,6 @@ use Rattle.plan.specs.law.Judged.{questions}
 use Rattle.plan.specs.law.RegionFigures.{figuresOf}
 
 -- ---- 40
-
--- as many nodes as a set has room for
-abbrev pub setRoom : ℕ
-setRoom = 60
 
 -- is the number a set, 0..2^60-1?
 abbrev pub isNodeSet : ℤ → Bool

@@ -1,4 +1,6 @@
 -- The residuals so far are summed, and the first "no" of 33 is that of the nodes not yet passed.
+use Rattle.case.specs.law.Extents.{nodeCapacity}
+use Rattle.plan.specs.inside.SumSizes.{mostNodeResidual}
 use Rattle.plan.proofs.Common.{_≡_, refl, sym, ap, _∙_, Bool, ℕ, _+_, _-_, _<_, _≤_, arith, needs, not-true, not-false, now, pos, w64, toZ, ofZ}
 use Rattle.plan.proofs.Common.{toZ-pos, counted}
 use mathlib.Core.List.{List}
@@ -23,7 +25,7 @@ use Rattle.plan.proofs.balance.balance.Tie as tie
 
 abbrev Inv-loop : tie.InvT-loop
 Inv-loop case rows i nodes most net sum₀ v₀ sum v =
-    (nodes ≤ 60) × Counting sum (nodeResidual case rows i) 415584000000000 nodes v
+    (nodes ≤ nodeCapacity) × Counting sum (nodeResidual case rows i) mostNodeResidual nodes v
     × (firstNo (allBalanceQuestions case rows i) ≡ rest (balanceQuestions case rows i) v nodes)
 
 abbrev μ-loop : tie.MeasureT-loop
@@ -38,7 +40,7 @@ questions s = balanceQuestions (now (s .args .case)) (now (s .args .rows)) (s .a
 node-in : (c : tie.In-loop Inv-loop μ-loop) → c .before .loop .v < nodesOf (now (start (c .before) .args .case))
 node-in c = rw (← (start (c .before) .pre .0 .laid .nodes)) (c .loop-test .taken)
 
-node-few : (c : tie.In-loop Inv-loop μ-loop) → c .before .loop .v < 60
+node-few : (c : tie.In-loop Inv-loop μ-loop) → c .before .loop .v < nodeCapacity
 node-few c = omega (arith, node-in c, counted (start (c .before) .pre .0 .accepted) .nodes)
 
 -- the node with its net flow
@@ -64,7 +66,7 @@ loop-holds c =
     let e : s .args .layout .nodes - 0 ≡ nodesOf (now (s .args .case)) = omega (arith, s .pre .0 .laid .nodes) in
     (omega (arith, counted (s .pre .0 .accepted) .nodes, s .pre .0 .laid .nodes), startN, rw e)
 
-small : (c : tie.After-node-residual Inv-loop μ-loop) → c .node-residual .result ≤ 415584000000000
+small : (c : tie.After-node-residual Inv-loop μ-loop) → c .node-residual .result ≤ mostNodeResidual
 small c = rw (c .node-residual .ensures) (residual-sized (at-node (c .before .before)))
 
 -- the node's question by the test
@@ -98,7 +100,7 @@ add-sum : tie.Need-add-sum Inv-loop μ-loop
 add-sum c =
     let d = c .before .before in
     let h = d .before .before .before in
-    let l = mul-le-mul-right {m = h .loop .v} {n = 60} 415584000000000 (omega (arith, h .loop .inv .0, h .loop .inv .1 .at)) in
+    let l = mul-le-mul-right {m = h .loop .v} {n = nodeCapacity} mostNodeResidual (omega (arith, h .loop .inv .0, h .loop .inv .1 .at)) in
     omega (arith, h .loop .inv .1 .small, small d, l)
 
 loop-again : tie.Need-loop-again Inv-loop μ-loop

@@ -1,4 +1,5 @@
 -- Two stores, one at each end: the first adds what leaves, the second takes off what enters, and neither is too large.
+use Rattle.case.specs.law.Extents.{nodeCapacity}
 use Rattle.plan.proofs.Common.{_≡_, sym, ap, _∙_, ℕ, _<_, arith, needs, now, eqb, ℤ, _+ℤ_, _-ℤ_, length, w64, toZ, ofZ, Held, held, held-fits, param}
 use Rattle.plan.proofs.Common.{_+ʳ_, _-ʳ_}
 use mathlib.Core.List.{List}
@@ -19,7 +20,7 @@ left s = toZ w64 (ofZ w64 (numberAt (now (s .args .net)) (s .args .from))) +ℤ 
 leaves : (s : tie.Start) → Held (left s) (numberAt (now (s .args .net)) (s .args .from) +ℤ s .args .out) 1000020000000
 leaves s = param (s .pre .5 .each (s .args .from) (s .pre .0)) tt +ʳ param (s .pre .3) tt
 
-long : (s : tie.Start) → length (now (s .args .net)) ≡ 60
+long : (s : tie.Start) → length (now (s .args .net)) ≡ nodeCapacity
 long s = s .pre .2
 
 -- the flows once that is stored

@@ -1,4 +1,5 @@
 -- After each arc the array holds what the arcs passed put to each node.
+use Rattle.case.specs.law.Extents.{nodeCapacity}
 use Rattle.plan.proofs.Common.{_≡_, refl, sym, ap, _∙_, ℕ, _-_, _<_, _≤_, arith, now, length, w64, toZ, ofZ, Held, counted}
 use Rattle.numbers.specs.law.Sums.{sum}
 use Rattle.case.specs.law.Layout.{arcsOf}
@@ -12,7 +13,7 @@ use Rattle.plan.proofs.balance.net_flows.Statement.{statement}
 use Rattle.plan.proofs.balance.net_flows.Tie as tie
 
 abbrev Inv-loop : tie.InvT-loop
-Inv-loop case rows arcs net₀ e₀ net e = (e ≤ arcs) × Gathers net (nodePart case rows) e × (length net ≡ 60)
+Inv-loop case rows arcs net₀ e₀ net e = (e ≤ arcs) × Gathers net (nodePart case rows) e × (length net ≡ nodeCapacity)
 
 abbrev μ-loop : tie.MeasureT-loop
 μ-loop case rows arcs net₀ e₀ net e = arcs - e

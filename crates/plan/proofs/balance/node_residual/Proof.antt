@@ -1,5 +1,6 @@
 -- The time and the imbalance are read as they are, and bounds on both keep their product in range.
-use Rattle.plan.proofs.Common.{_≡_, ap, ap₂, _∙_, _*_, _≤_, arith, needs, now, ℤ, natAbs, _-ℤ_, w64, toZ, ofZ, Held, held, held-fits, _-ʳ_, counted}
+use Rattle.plan.specs.inside.SumSizes.{mostNet}
+use Rattle.plan.proofs.Common.{_≡_, ap, ap₂, _∙_, _*_, _≤_, arith, needs, now, ℤ, natAbs, _-ℤ_, w64, toZ, ofZ, Held, held, held-fits, _-ʳ_, counted, _+_}
 use native.Mathlib.Nat.{mul-le-mul}
 use mir.Facts.{fits-le, fits-lit}
 use Rattle.plan.specs.declared.rows.NodeRow.{NodeRow}
@@ -19,7 +20,7 @@ time-is c = let s = c .before in read (c .duration .ensures) (duration-sized (s 
 
 -- "flow out - flow in - d"
 left-is : (c : tie.After-node-row) → let s = c .before .before .before in
-    Held (toZ w64 (ofZ w64 (s .args .net)) -ℤ toZ w64 (ofZ w64 (c .node-row .result .d))) (imbalance-of s) 4810000000
+    Held (toZ w64 (ofZ w64 (s .args .net)) -ℤ toZ w64 (ofZ w64 (c .node-row .result .d))) (imbalance-of s) (mostNet + 10000000)
 unfolding nodeImbalance
 left-is c =
     let s = c .before .before .before in
@@ -37,8 +38,8 @@ mul-result : tie.Need-mul-result
 mul-result c =
     let d = c .before .before .before .before in
     let a : d .size .result ≤ 86400 = omega (arith, first-is d, time-is (d .before) .bound) in
-    let b : c .size2 .result ≤ 4810000000 = omega (arith, second-is c, left-is (c .before .before .before) .bound) in
-    fits-le (mul-le-mul a b) (fits-lit {n = 86400 * 4810000000} tt)
+    let b : c .size2 .result ≤ (mostNet + 10000000) = omega (arith, second-is c, left-is (c .before .before .before) .bound) in
+    fits-le (mul-le-mul a b) (fits-lit {n = 86400 * (mostNet + 10000000)} tt)
 
 returns : tie.Need-returns
 unfolding nodeResidual

@@ -1,4 +1,5 @@
 -- The lowest item from n on is the lowest from v on, as no item between them is in the set.
+use Rattle.case.specs.law.Extents.{setRoom}
 use Rattle.plan.proofs.Common.{_≡_, refl, sym, _∙_, _-_, _≤_, arith, needs, w64, toZ, toZ-ofZ}
 use Rattle.plan.specs.law.Ledger.{lowestOf}
 use Rattle.plan.proofs.RegionTests.{lowest-here, lowest-on, lowest-none}
@@ -6,10 +7,10 @@ use Rattle.plan.proofs.ledger.lowest.Statement.{statement}
 use Rattle.plan.proofs.ledger.lowest.Tie as tie
 
 abbrev Inv-loop : tie.InvT-loop
-Inv-loop set n v₀ v = (v ≤ 60) × (lowestOf (toZ w64 set) n (60 - n) ≡ lowestOf (toZ w64 set) v (60 - v))
+Inv-loop set n v₀ v = (v ≤ setRoom) × (lowestOf (toZ w64 set) n (setRoom - n) ≡ lowestOf (toZ w64 set) v (setRoom - v))
 
 abbrev μ-loop : tie.MeasureT-loop
-μ-loop set n v₀ v = 60 - v
+μ-loop set n v₀ v = setRoom - v
 
 loop-holds : tie.Need-loop-holds Inv-loop μ-loop
 loop-holds c = (omega arith, refl)

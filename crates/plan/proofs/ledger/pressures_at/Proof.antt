@@ -1,10 +1,11 @@
 -- At time 0 they are the case's, and at a later time those in the rows of the step before, which lie in the plan's list.
+use Rattle.case.specs.law.Extents.{nodeCapacity}
 use Rattle.plan.proofs.Common.{_-_, _≤_, arith, needs, now, counted}
 use Rattle.plan.specs.inside.RegionLoop.{StepWithin, step-within, row-is, pressures-first, pressures-after}
 use Rattle.plan.proofs.ledger.pressures_at.Statement.{statement}
 use Rattle.plan.proofs.ledger.pressures_at.Tie as tie
 
-few : (s : tie.Start) → s .args .nodes ≤ 60
+few : (s : tie.Start) → s .args .nodes ≤ nodeCapacity
 few s = omega (arith, counted (record { yes = s .pre .0 .rules .case-yes }) .nodes, s .pre .0 .counted)
 
 -- the rows of the step before lie in the plan's list, and not far in

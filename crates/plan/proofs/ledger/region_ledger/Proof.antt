@@ -1,4 +1,5 @@
 -- Once 40 and 41 are answered yes the times are in order, and so the figures may be computed; a no is the answer itself.
+use Rattle.case.specs.law.Extents.{arcCapacity, nodeCapacity}
 use Rattle.plan.proofs.Common.{_≡_, sym, ap, _∙_, _≤_, arith, needs, now, toZ-ofZ, counted}
 use Rattle.numbers.specs.law.Signed.{posPart}
 use Rattle.numbers.specs.law.Sets.{memberOf}
@@ -27,7 +28,7 @@ stations-is : (c : tie.After-index3) → let s = c .before .before .before .befo
 stations-is c = count-read (c .index3 .ensures) (c .before .at3 .ok) (c .before .at3 .ensures)
 
 -- and that they are small
-few-arcs : (c : tie.After-index2) → (c .before .before .index .result ≤ 60) × (c .index2 .result ≤ 120)
+few-arcs : (c : tie.After-index2) → (c .before .before .index .result ≤ nodeCapacity) × (c .index2 .result ≤ arcCapacity)
 few-arcs c =
     let k = counted (record { yes = c .before .before .before .before .before .before .before .pre .case-yes }) in
     (omega (arith, nodes-is (c .before .before), k .nodes), omega (arith, arcs-is c, k .arcs))

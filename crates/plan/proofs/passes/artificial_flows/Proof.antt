@@ -1,4 +1,5 @@
 -- After each arc the array holds what the artificial arcs passed put to each node; any other arc puts nothing.
+use Rattle.case.specs.law.Extents.{nodeCapacity}
 use Rattle.plan.proofs.Common.{_≡_, refl, sym, ap, _∙_, ⊎-elim, ℕ, _-_, _<_, _≤_, arith, now, _-ℤ_, length, w64, toZ, ofZ, Held, held, held-fits, _-ʳ_}
 use Rattle.plan.proofs.Common.{counted}
 use Rattle.numbers.specs.law.Sums.{sum}
@@ -15,7 +16,7 @@ use Rattle.plan.proofs.passes.artificial_flows.Statement.{statement}
 use Rattle.plan.proofs.passes.artificial_flows.Tie as tie
 
 abbrev Inv-loop : tie.InvT-loop
-Inv-loop case rows arcs net₀ e₀ net e = (e ≤ arcs) × Gathers net (artificialPart case rows) e × (length net ≡ 60)
+Inv-loop case rows arcs net₀ e₀ net e = (e ≤ arcs) × Gathers net (artificialPart case rows) e × (length net ≡ nodeCapacity)
 
 abbrev μ-loop : tie.MeasureT-loop
 μ-loop case rows arcs net₀ e₀ net e = arcs - e

@@ -1,4 +1,5 @@
 -- The array holds the activity of the arcs passed, and each turn sets that of the next arc.
+use Rattle.case.specs.law.Extents.{arcCapacity}
 use Rattle.plan.proofs.Common.{ap, _∙_, false, _-_, arith, needs, pos, leZ, kept}
 use Rattle.plan.specs.declared.rows.ArcRow.{ArcRow}
 use Rattle.plan.specs.law.PlanRecords.{activeIn}
@@ -7,7 +8,7 @@ use Rattle.plan.proofs.previous.row_active.Statement.{statement}
 use Rattle.plan.proofs.previous.row_active.Tie as tie
 
 abbrev Inv-loop : tie.InvT-loop
-Inv-loop case rows arcs on₀ e₀ on e = Filling false on (activeIn case rows) 120 arcs e
+Inv-loop case rows arcs on₀ e₀ on e = Filling false on (activeIn case rows) arcCapacity arcs e
 
 abbrev μ-loop : tie.MeasureT-loop
 μ-loop case rows arcs on₀ e₀ on e = arcs - e

@@ -1,4 +1,5 @@
 -- The array holds the pressures of the nodes passed, and each turn sets that of the next node.
+use Rattle.case.specs.law.Extents.{nodeCapacity}
 use Rattle.plan.proofs.Common.{_∙_, _-_, arith, pos, kept}
 use Rattle.plan.specs.law.PlanRecords.{pressureIn}
 use Rattle.plan.proofs.Filled.{Filling, start, turn, end}
@@ -6,7 +7,7 @@ use Rattle.plan.proofs.previous.row_pressures.Statement.{statement}
 use Rattle.plan.proofs.previous.row_pressures.Tie as tie
 
 abbrev Inv-loop : tie.InvT-loop
-Inv-loop rows nodes pressures₀ v₀ pressures v = Filling (pos 0) pressures (pressureIn rows) 60 nodes v
+Inv-loop rows nodes pressures₀ v₀ pressures v = Filling (pos 0) pressures (pressureIn rows) nodeCapacity nodes v
 
 abbrev μ-loop : tie.MeasureT-loop
 μ-loop rows nodes pressures₀ v₀ pressures v = nodes - v

@@ -1,4 +1,5 @@
 -- The array holds the activity at the start of the arcs passed, and each turn sets that of the next arc.
+use Rattle.case.specs.law.Extents.{arcCapacity}
 use Rattle.plan.proofs.Common.{refl, false, _-_, arith, needs}
 use Rattle.case.specs.law.States.{activeAtStart}
 use Rattle.plan.proofs.Filled.{Filling, start, turn, end}
@@ -6,7 +7,7 @@ use Rattle.plan.proofs.previous.start_active.Statement.{statement}
 use Rattle.plan.proofs.previous.start_active.Tie as tie
 
 abbrev Inv-loop : tie.InvT-loop
-Inv-loop case arcs on₀ e₀ on e = Filling false on (activeAtStart case) 120 arcs e
+Inv-loop case arcs on₀ e₀ on e = Filling false on (activeAtStart case) arcCapacity arcs e
 
 abbrev μ-loop : tie.MeasureT-loop
 μ-loop case arcs on₀ e₀ on e = arcs - e

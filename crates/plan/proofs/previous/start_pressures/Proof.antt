@@ -1,4 +1,5 @@
 -- The array holds p0 of the nodes passed, and each turn sets that of the next node.
+use Rattle.case.specs.law.Extents.{nodeCapacity}
 use Rattle.plan.proofs.Common.{refl, ap, _∙_, _-_, arith, needs, pos, kept}
 use Rattle.case.specs.declared.records.Node.{Node}
 use Rattle.plan.specs.law.BeforeStep.{startPressure}
@@ -7,7 +8,7 @@ use Rattle.plan.proofs.previous.start_pressures.Statement.{statement}
 use Rattle.plan.proofs.previous.start_pressures.Tie as tie
 
 abbrev Inv-loop : tie.InvT-loop
-Inv-loop case nodes pressures₀ v₀ pressures v = Filling (pos 0) pressures (startPressure case) 60 nodes v
+Inv-loop case nodes pressures₀ v₀ pressures v = Filling (pos 0) pressures (startPressure case) nodeCapacity nodes v
 
 abbrev μ-loop : tie.MeasureT-loop
 μ-loop case nodes pressures₀ v₀ pressures v = nodes - v

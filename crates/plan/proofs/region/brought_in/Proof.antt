@@ -1,5 +1,6 @@
 -- One term follows the code's sum and product, and says both that they fit and what they are.
-use Rattle.plan.proofs.Common.{arith, needs, now, w64, toZ, ofZ, toZ-ofZ, Held, held, held-fits, _+ʳ_, _*ʳ_}
+use Rattle.plan.specs.inside.SumSizes.{mostBrought, mostEdges, mostSupplies}
+use Rattle.plan.proofs.Common.{arith, needs, now, w64, toZ, ofZ, toZ-ofZ, Held, held, held-fits, _+ʳ_, _*ʳ_, _+_}
 use lib.IntN.{_+ℤ_, _*ℤ_}
 use Rattle.numbers.specs.law.Sets.{memberOf}
 use Rattle.plan.specs.law.Region.{suppliesIn, edgeFlows, broughtIn}
@@ -17,7 +18,7 @@ edge-flows-requires c κs = let s = c .before in (step-flows (s .pre .2), s .pre
 -- what the nodes supply and the edge brings, added
 inflow : (d : tie.After-duration) → let a = d .before .before .before .args in
     Held (toZ w64 (ofZ w64 (d .before .before .supplies .result)) +ℤ toZ w64 (ofZ w64 (d .before .edge-flows .result)))
-    (suppliesIn (now (a .case)) (memberOf (a .set)) (now (a .rows)) +ℤ edgeFlows (now (a .case)) (memberOf (a .set)) (now (a .rows))) 3000000000
+    (suppliesIn (now (a .case)) (memberOf (a .set)) (now (a .rows)) +ℤ edgeFlows (now (a .case)) (memberOf (a .set)) (now (a .rows))) (mostSupplies + mostEdges)
 inflow d =
     let s = d .before .before .before in
     let h = s .pre .2 in
@@ -29,7 +30,7 @@ inflow d =
 brought : (d : tie.After-duration) → let a = d .before .before .before .args in
     Held (toZ w64 (ofZ w64 (d .duration .result))
     *ℤ toZ w64 (ofZ w64 (toZ w64 (ofZ w64 (d .before .before .supplies .result)) +ℤ toZ w64 (ofZ w64 (d .before .edge-flows .result)))))
-    (broughtIn (now (a .case)) (memberOf (a .set)) (now (a .rows)) (a .i)) 259200000000000
+    (broughtIn (now (a .case)) (memberOf (a .set)) (now (a .rows)) (a .i)) mostBrought
 unfolding broughtIn
 brought d =
     let h = d .before .before .before .pre .2 in

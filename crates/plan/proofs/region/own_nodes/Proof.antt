@@ -1,4 +1,5 @@
 -- The sum so far is that of the nodes passed; each node's net flow is read from the array that was filled first, and leaves no more than the tolerance.
+use Rattle.case.specs.law.Extents.{nodeCapacity}
 use Rattle.plan.proofs.Common.{ap, _∙_, _-_, _≤_, arith, now, ℤ, pos, w64, toZ, toZ-ofZ, counted}
 use lib.ListN.{getD}
 use Rattle.numbers.specs.law.Sets.{memberOf}
@@ -11,7 +12,7 @@ use Rattle.plan.proofs.region.own_nodes.Tie as tie
 
 abbrev Inv-loop : tie.InvT-loop
 Inv-loop case set old rows nodes arcs i net sum₀ v₀ sum v =
-    (nodesOf case ≤ 60) × Tallying sum (ownNode case (memberOf (toZ w64 set)) rows i) 1000000 (nodesOf case) v
+    (nodesOf case ≤ nodeCapacity) × Tallying sum (ownNode case (memberOf (toZ w64 set)) rows i) 1000000 (nodesOf case) v
 
 abbrev μ-loop : tie.MeasureT-loop
 μ-loop case set old rows nodes arcs i net sum₀ v₀ sum v = nodes - v

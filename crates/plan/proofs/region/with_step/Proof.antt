@@ -1,5 +1,6 @@
 -- Each figure is the old one with the step's: what a kept step brings and leaves is small, and so neither sum is too large.
 use mathlib.Core.Path.{_≡_, ap, ap₂, _∙_, subst}
+use Rattle.plan.specs.inside.SumSizes.{mostBrought}
 use Rattle.plan.proofs.Common.{ℕ, _+_, arith, needs, now, pos, _+ℤ_, w64, toZ, ofZ, toZ-ofZ, counted}
 use Rattle.numbers.specs.law.Sets.{memberOf}
 use Rattle.case.specs.law.Layout.{numberAt}
@@ -18,7 +19,7 @@ begin o = o .before .before .before .before .before .before .before
 -- the gas brought in before, and in this step
 brought : (o : tie.After-own-pipes) → let a = begin o .args in
     Held (toZ w64 (ofZ w64 (a .g .brought)) +ℤ toZ w64 (ofZ w64 (o .before .before .before .before .brought-in .result)))
-    (a .g .brought +ℤ broughtIn (now (a .case)) (memberOf (a .set)) (now (a .rows)) (a .i)) 1000259200000000000
+    (a .g .brought +ℤ broughtIn (now (a .case)) (memberOf (a .set)) (now (a .rows)) (a .i)) (1000000000000000000 + mostBrought)
 brought o =
     let s = begin o in
     let e = rw (toZ-ofZ (s .fits .set)) at (o .before .before .before .before .brought-in .ensures) in

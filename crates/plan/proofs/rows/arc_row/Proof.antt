@@ -1,4 +1,5 @@
 -- Each number is read where the law places it: the count of nodes is the case's, and no offset is large.
+use Rattle.case.specs.law.Extents.{arcCapacity, nodeCapacity}
 use Rattle.plan.proofs.Common.{_≡_, _∙_, _<_, _≤_, arith, needs, now, kept}
 use Rattle.case.specs.law.Layout.{nodesOf}
 use Rattle.plan.proofs.Adding.{count-read}
@@ -9,7 +10,7 @@ use Rattle.plan.proofs.rows.arc_row.Tie as tie
 nodes-is : (c : tie.After-index) → c .index .result ≡ nodesOf (now (c .before .before .args .case))
 nodes-is c = count-read (c .index .ensures) (c .before .at .ok) (c .before .at .ensures)
 
-few : (c : tie.After-index) → (c .index .result ≤ 60) × (c .before .before .args .e < 120)
+few : (c : tie.After-index) → (c .index .result ≤ nodeCapacity) × (c .before .before .args .e < arcCapacity)
 few c = let p = c .before .before .pre in (omega (arith, nodes-is c, p .0 .nodes), omega (arith, p .0 .arcs, p .1))
 
 returns : tie.Need-returns

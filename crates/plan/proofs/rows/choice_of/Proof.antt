@@ -1,4 +1,5 @@
 -- Each number is read where the law places it: the counts of nodes and arcs are the case's, and no offset is large.
+use Rattle.case.specs.law.Extents.{arcCapacity, nodeCapacity}
 use Rattle.plan.proofs.Common.{_≡_, _∙_, _<_, _≤_, arith, needs, now, kept}
 use Rattle.case.specs.law.Layout.{nodesOf, arcsOf}
 use Rattle.plan.proofs.Adding.{count-read}
@@ -13,7 +14,7 @@ arcs-is : (c : tie.After-index2) → c .index2 .result ≡ arcsOf (now (c .befor
 arcs-is c = count-read (c .index2 .ensures) (c .before .at2 .ok) (c .before .at2 .ensures)
 
 few : (c : tie.After-index2) → let a = c .before .before .before .before .args in
-    (c .before .before .index .result ≤ 60) × (c .index2 .result ≤ 120) × (a .s < 8)
+    (c .before .before .index .result ≤ nodeCapacity) × (c .index2 .result ≤ arcCapacity) × (a .s < 8)
 few c =
     let p = c .before .before .before .before .pre in
     (omega (arith, nodes-is (c .before .before), p .0 .nodes), omega (arith, arcs-is c, p .0 .arcs), omega (arith, p .0 .stations, p .1))

@@ -1,4 +1,5 @@
 -- 32 holds of the nodes passed; a node of which it does not hold ends the loop.
+use Rattle.case.specs.law.Extents.{nodeCapacity}
 use Rattle.plan.proofs.Common.{_≡_, refl, sym, ap, ap₂, _∙_, Bool, true, ℕ, _-_, _<_, _≤_, arith, needs, not-true, not-false, now, counted}
 use Rattle.numbers.specs.law.Signed.{posPart}
 use Rattle.case.specs.inside.CountLaws.{every-more, every-not}
@@ -45,7 +46,7 @@ chosen-is c =
 node-in : (c : tie.In-loop Inv-loop μ-loop) → c .before .loop .v < nodesOf (now (start (c .before) .args .case))
 node-in c = rw (← (start (c .before) .pre .0 .at .laid .nodes)) (c .loop-test .taken)
 
-node-few : (c : tie.In-loop Inv-loop μ-loop) → c .before .loop .v < 60
+node-few : (c : tie.In-loop Inv-loop μ-loop) → c .before .loop .v < nodeCapacity
 node-few c = omega (arith, node-in c, counted (start (c .before) .pre .0 .at .accepted) .nodes)
 
 -- what was found of the node

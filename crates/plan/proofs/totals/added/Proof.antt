@@ -1,4 +1,5 @@
 -- Each total is the old one with what the step adds; what a kept step adds is small, and so no sum is too large.
+use Rattle.plan.specs.inside.SumSizes.{mostDemandSlack, mostPressureSlack, mostResidual, mostSwitching}
 use Rattle.plan.proofs.Common.{refl, sym, _+_, _≤_, arith, needs, now, _+ℤ_, w64, toZ, ofZ, Held, held, held-fits, _+ʳ_, kept}
 use lib.ListN.{length-map}
 use Rattle.plan.specs.inside.PreviousHolds.{activeOf, indexOf}
@@ -18,20 +19,20 @@ begin p = slacks p .before .before
 -- the two slack totals with the step's slacks
 pressure : (p : tie.After-pipe-residuals) → let a = begin p .args in
     Held (toZ w64 (ofZ w64 (a .totals .pressure)) +ℤ toZ w64 (ofZ w64 (slacks p .slacks-of .result .pressure)))
-    (a .totals .pressure +ℤ pressureSlackIn (now (a .case)) (now (a .rows))) 1000000048000000
+    (a .totals .pressure +ℤ pressureSlackIn (now (a .case)) (now (a .rows))) (1000000000000000 + mostPressureSlack)
 pressure p =
     let y = begin p .pre in
     read refl (y .2 .pressure) tt +ʳ read (slacks p .slacks-of .ensures .pressure) (pressure-slack-sized _ (y .0 .accepted) (y .1 .node-rows)) tt
 
 demand : (p : tie.After-pipe-residuals) → let a = begin p .args in
     Held (toZ w64 (ofZ w64 (a .totals .demand)) +ℤ toZ w64 (ofZ w64 (slacks p .slacks-of .result .demand)))
-    (a .totals .demand +ℤ demandSlackIn (now (a .case)) (now (a .rows))) 1000001200000000
+    (a .totals .demand +ℤ demandSlackIn (now (a .case)) (now (a .rows))) (1000000000000000 + mostDemandSlack)
 demand p =
     let y = begin p .pre in
     read refl (y .2 .demand) tt +ʳ read (slacks p .slacks-of .ensures .demand) (demand-slack-sized _ (y .0 .accepted) (y .1 .node-rows)) tt
 
 -- the step's costs and residuals are small
-costs : (p : tie.After-pipe-residuals) → p .before .before .before .choice-costs .result + p .before .before .activity-costs .result ≤ 136000000
+costs : (p : tie.After-pipe-residuals) → p .before .before .before .choice-costs .result + p .before .before .activity-costs .result ≤ mostSwitching
 costs p =
     let s = begin p in
     let x = s .args .previous in
@@ -39,7 +40,7 @@ costs p =
     let v = activity-costs-le (now (s .args .rows)) (s .pre .0 .accepted) (activeOf (x .active)) in
     omega (arith, p .before .before .before .choice-costs .ensures, p .before .before .activity-costs .ensures)
 
-residuals : (p : tie.After-pipe-residuals) → p .pipe-residuals .result + begin p .args .nodes ≤ 180000000
+residuals : (p : tie.After-pipe-residuals) → p .pipe-residuals .result + begin p .args .nodes ≤ mostResidual
 residuals p =
     let s = begin p in
     let u = pipe-residuals-le (now (s .args .rows)) (s .pre .0 .accepted) (s .pre .1) in
