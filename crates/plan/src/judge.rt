@@ -84,7 +84,8 @@ pub fn judge(case: &[i64], plan: &[i64]) -> Verdict
 // 20 and the steps, for a case that was accepted before the plan bytes were read.
 fn judge_plan(case: &[i64], plan: &[i64], layout: Layout) -> Verdict
     requires { ⌜ (AcceptedCase (now case)) × (LayoutOf (now case) layout) ⌝ }
-    ensures { λ r. ⌜ r ≡ verdictOf (firstNo (planQuestions (now (case .entry)) (now (plan .entry)))) (totalsOf (now (case .entry)) (now (plan .entry))) ⌝ }
+    ensures { λ r. ⌜ r ≡ verdictOf (firstNo (planQuestions (now (case .entry)) (now (plan .entry))))
+        (totalsOf (now (case .entry)) (now (plan .entry))) ⌝ }
 {
     if head_kept(case, plan, layout) {
         steps(case, plan, layout)

@@ -20,11 +20,13 @@ use Rattle.case.specs.law.Layout.{numberAt, stepsOf}
 use Rattle.case.specs.inside.FieldLaws.{and-second}
 use Rattle.case.specs.law.Judged.{caseQuestions, judgedCase}
 use Rattle.case.specs.declared.records.Layout.{Layout}
-use Rattle.case.specs.law.LayoutOf.{LayoutOf}
+use Rattle.case.specs.declared.records.Laying.{Laying}
+use Rattle.case.specs.law.LayoutOf.{LayoutOf, LayingOf}
 use Rattle.plan.specs.law.Compared.{same}
 use Rattle.plan.specs.inside.Preconditions.{AcceptedCase, PlanLaid}
+use Rattle.plan.specs.inside.CaseSizes.{list-yes}
 use Rattle.plan.specs.law.PlanLayout.{stepAt, stepWidth}
-use Rattle.plan.specs.law.PlanHead.{headKept, headQuestion, headQuestions, headJudged}
+use Rattle.plan.specs.law.PlanHead.{headKept, headQuestion, headQuestions, headJudged, HeadLaid}
 use Rattle.plan.specs.law.Totals.{totalsOf}
 use Rattle.plan.specs.law.Judged.{planStep, planQuestions, questions, verdictOf, verdictTold, judgeOf}
 use Rattle.plan.specs.law.JudgedBytes.{readAnswer, planNumber, onPlanBytes, refusedOr, reachedIf, bytesJudged}
@@ -36,6 +38,12 @@ use Rattle.numbers.specs.law.Items.{over}
 pub case-answer : (case : List ℤ) (a : Answer) → told a ≡ judgedCase case → firstNo (caseQuestions case) ≡ a
 unfolding judgedCase
 case-answer case a e = sym (told-same a (firstNo (caseQuestions case)) e)
+
+-- a yes to the case, and its layout
+pub case-laid : {case : List ℤ} {l : Laying} → LayingOf case l → l .answer ≡ Yes → (AcceptedCase case) × (LayoutOf case (l .layout))
+case-laid {case} {l} d y =
+    let k : AcceptedCase case = record { yes = case-answer case (l .answer) (d .told-is) ∙ y } in
+    (k, d .passed (list-yes k))
 
 module _ (case plan : List ℤ) where
   -- ---- 20
@@ -86,6 +94,12 @@ module _ (case plan : List ℤ) where
     pub head-keeps : headKept case plan ≡ true
     unfolding headQuestions
     head-keeps = answer-yes (headKept case plan) 20 0 0 Yes (second-yes (caseQuestions case) (headQuestion case plan ∷ []) y)
+
+  -- a yes to both, with the layout of the case and the length of the plan
+  pub head-laid : {l : Laying} → HeadLaid case plan l → l .answer ≡ Yes → (AcceptedCase case) × (LayoutOf case (l .layout)) × (PlanLaid case plan)
+  head-laid {l} d y =
+      let h = head-answer (l .answer) (d .told-is) ∙ y in
+      (head-case h, d .laid .passed (list-yes (head-case h)), plan-laid (head-keeps h))
 
   -- after them the steps are asked
   pub head-before : questions case plan ≡ headQuestions case plan ++ over (planStep case plan) 0 (stepsOf case)

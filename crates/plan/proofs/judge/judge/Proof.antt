@@ -2,8 +2,7 @@
 use Rattle.plan.proofs.Common.{_≡_, _∙_, needs, now}
 use Rattle.numbers.specs.law.Question.{firstNo}
 use Rattle.plan.specs.law.PlanHead.{headQuestions}
-use Rattle.plan.specs.inside.CaseSizes.{list-yes}
-use Rattle.plan.specs.inside.VerdictLaws.{head-answer, head-case, head-keeps, plan-laid, head-passed, judge-yes, judge-no}
+use Rattle.plan.specs.inside.VerdictLaws.{head-answer, head-case, head-keeps, head-laid, head-passed, judge-yes, judge-no}
 use Rattle.plan.proofs.judge.judge.Statement.{statement}
 use Rattle.plan.proofs.judge.judge.Tie as tie
 
@@ -11,13 +10,6 @@ use Rattle.plan.proofs.judge.judge.Tie as tie
 asked : (j : tie.After-judge-head) → let a = j .before .args in
     firstNo (headQuestions (now (a .case)) (now (a .plan))) ≡ j .judge-head .result .answer
 asked j = head-answer _ _ _ (j .judge-head .ensures .told-is)
-
-steps-requires : tie.Need-steps-requires
-steps-requires c κs =
-    let j = c .before .before in
-    let y = asked j ∙ c .enum-told .given .1 in
-    let k = head-case _ _ y in
-    (k, j .judge-head .ensures .laid .passed (list-yes k), plan-laid _ _ (head-keeps _ _ y))
 
 returns : tie.Need-returns
 returns c =
@@ -29,4 +21,5 @@ returns-2 c = judge-no _ _ (asked (c .before .before .before) ∙ c .before .a .
 
 pub judge-spec : {M : Type 1} → statement M
 judge-spec = tie.close (tie.spec
-    (λ c κs. search needs) (λ c. search needs) steps-requires (λ c. search needs) returns returns-2)
+    (λ c κs. search needs) (λ c. search needs) (λ c κs. head-laid _ _ (c .before .before .judge-head .ensures) (c .enum-told .given .1))
+    (λ c. search needs) returns returns-2)

@@ -5,9 +5,7 @@ use Rattle.numbers.specs.law.Question.{firstNo, told}
 use Rattle.case.specs.law.Judged.{caseQuestions, judgedCase}
 use Rattle.case.specs.law.LayoutOf.{LayingOf}
 use Rattle.plan.specs.law.PlanHead.{headQuestion, headQuestions, headJudged, caseLaying}
-use Rattle.plan.specs.inside.Preconditions.{AcceptedCase}
-use Rattle.plan.specs.inside.CaseSizes.{list-yes}
-use Rattle.plan.specs.inside.VerdictLaws.{case-answer}
+use Rattle.plan.specs.inside.VerdictLaws.{case-answer, case-laid}
 use Rattle.plan.proofs.Questions.{one-asked, went-on, stopped}
 use Rattle.plan.proofs.judge.judge_head.Statement.{statement}
 use Rattle.plan.proofs.judge.judge_head.Tie as tie
@@ -20,13 +18,6 @@ asked j = case-answer _ _ (j .judge-and-lay .ensures .told-is)
 laid : (j : tie.After-judge-and-lay) → let case = now (j .before .args .case) in LayingOf case (caseLaying case (j .judge-and-lay .result .layout))
 unfolding judgedCase
 laid j = let l = j .judge-and-lay .ensures in record { told-is = refl; passed = l .passed; refused = l .refused }
-
-head-kept-requires : tie.Need-head-kept-requires
-head-kept-requires c κs =
-    let e = c .before in
-    let j = e .before .before in
-    let k : AcceptedCase (now (j .before .args .case)) = record { yes = asked j ∙ e .enum-told .given .1 } in
-    (k, j .judge-and-lay .ensures .passed (list-yes k))
 
 returns : tie.Need-returns
 unfolding headJudged headQuestions
@@ -45,4 +36,5 @@ returns-2 c =
 
 pub judge-head-spec : {M : Type 1} → statement M
 judge-head-spec = tie.close (tie.spec
-    (λ c κs. search needs) (λ c. search needs) head-kept-requires (λ c κs. search needs) (λ c. search needs) returns returns-2)
+    (λ c κs. search needs) (λ c. search needs) (λ c κs. case-laid (c .before .before .before .judge-and-lay .ensures) (c .before .enum-told .given .1))
+    (λ c κs. search needs) (λ c. search needs) returns returns-2)
