@@ -1,6 +1,6 @@
 -- What a reader must believe: the definitions that public contracts rest on, and nothing else, in the order to read them in.
-pub mod Extents
 pub mod Layout
+pub mod Extents
 pub mod Records
 pub mod Field
 pub mod HeadFields

@@ -27,7 +27,8 @@ use Rattle.plan.specs.law.Machines.{machineGain, gainPart}
 use Rattle.plan.specs.law.Pipes.{duration, change, pipeImbalance, pressureBalance}
 use Rattle.plan.specs.inside.Sizes.{MachinesSized}
 use Rattle.plan.specs.inside.SettingLaws.{compressing-five}
-use Rattle.plan.specs.inside.Preconditions.{AcceptedCase, AtArc, AtPipe, Compresses}
+use Rattle.plan.specs.inside.Preconditions.{AcceptedCase, AtArc, PastFlows, AtFlow, AtPipe, Compresses}
+use Rattle.plan.specs.inside.AnsweredSizes.{arc-sized}
 use Rattle.plan.proofs.SignedReads.{read, read-bounded, sized}
 use Rattle.plan.specs.inside.CaseSizes.{duration-sized, from-node, to-node, pipe-sized, station-in, machines-sized}
 
@@ -45,6 +46,20 @@ module _ {case : List ℤ} {e : ℕ} (a : AcceptedCase case) (p : e < arcsOf cas
 
   pub to-small : c .to < nodeCapacity
   to-small = omega (arith, to-in, counted a .nodes)
+
+-- ---- past 24 the flows are in range
+
+pub at-flow : {case old rows : List ℤ} {offsets : List ℕ} {i e : ℕ} → PastFlows case old rows offsets i e → AtFlow case old rows i e
+at-flow {case} {old} {rows} {offsets} {i} {e} p =
+    let a = p .at in
+    record {
+      accepted = a .at .accepted;
+      step = a .at .step;
+      arc = a .arc;
+      before = p .before;
+      pressures = a .pressures;
+      flows = arc-sized case (numberAt old) rows i (a .at .accepted) e (a .arc) (p .yes);
+    }
 
 -- ---- 26: the ratio of a station's machines
 

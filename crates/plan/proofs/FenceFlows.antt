@@ -7,6 +7,7 @@ use lib.Dec.{ltb}
 use Rattle.numbers.specs.law.Sets.{memberOf}
 use Rattle.numbers.specs.law.Sums.{count}
 use Rattle.numbers.specs.inside.SumLaws.{sum-cong}
+use Rattle.case.specs.inside.Places.{nodes-in-set}
 use Rattle.case.specs.inside.AcceptedCase.{in-one-station}
 use Rattle.case.specs.inside.CountLaws.{count-yes, count-grows}
 use Rattle.case.specs.law.Layout.{nodesOf, arcsOf, stationsOf}
@@ -55,7 +56,7 @@ module _ {case : List ℤ} (a : AcceptedCase case) (v : ℕ) (p : v < nodesOf ca
         let t = artificialOf case e .station in
         let b : belongs case t e ≡ true = rw (k, eq-eqb t t refl) in
         other s t l (station-in a e q (leb-true 3 (arcOf case e .kind) k)) (λ (z : s ≡ t). eqb-false t s n (sym z)) h
-        (end-in-station case v t e q b (omega (arith, p, counted a .nodes)) d)
+        (end-in-station case v t e q b (omega (arith, p, nodes-in-set case (counted a))) d)
 
     same-part : (e : ℕ) → e < arcsOf case → artificialPart case rows v e ≡ stationPart case rows s v e
     unfolding artificialPart stationPart

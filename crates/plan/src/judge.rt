@@ -5,7 +5,7 @@ ghost use Rattle.numbers.specs.law.Question.{firstNo};
 ghost use Rattle.numbers.specs.law.Told.{overlay};
 ghost use Rattle.numbers.specs.law.Reading.{readOf};
 ghost use Rattle.case.specs.law.LayoutOf.{LayoutOf};
-ghost use Rattle.plan.specs.law.PlanHead.{headKept};
+ghost use Rattle.plan.specs.law.PlanHead.{headKept, HeadLaid};
 ghost use Rattle.plan.specs.law.Totals.{totalsOf};
 ghost use Rattle.plan.specs.law.Judged.{planQuestions, verdictOf, verdictTold, judgeOf};
 ghost use Rattle.plan.specs.law.JudgedBytes.{planNumber, bytesJudged};
@@ -15,8 +15,10 @@ use super::steps::step_width;
 use super::steps::steps;
 use super::verdict::Verdict;
 use case::judge::judge_and_lay;
+use case::records::Laying;
 use case::records::Layout;
 use numbers::answer::Answer;
+use numbers::answer::ask;
 use numbers::compare::at;
 use numbers::compare::same;
 use numbers::reader::Reading;
@@ -36,19 +38,26 @@ fn head_kept(case: &[i64], plan: &[i64], layout: Layout) -> bool
     false
 }
 
-// The verdict on a plan for a case that has been accepted.
-fn judge_plan(case: &[i64], plan: &[i64], layout: Layout) -> Verdict
-    requires { ⌜ (AcceptedCase (now case)) × (LayoutOf (now case) layout) ⌝ }
-    ensures { λ r. ⌜ r ≡ verdictOf (firstNo (planQuestions (now (case .entry)) (now (plan .entry)))) (totalsOf (now (case .entry)) (now (plan .entry))) ⌝ }
+// The case and then 20, with the layout of the case, so that a caller with further questions need not lay it again. Two wrong answers that the
+// promise rules out: 20 told of a case that has a "no" of its own, and a layout of zeros beside a plan that 20 refuses.
+pub fn judge_head(case: &[i64], plan: &[i64]) -> Laying
+    ensures { λ r. ⌜ HeadLaid (now (case .entry)) (now (plan .entry)) r ⌝ }
 {
-    if head_kept(case, plan, layout) {
-        steps(case, plan, layout)
-    } else {
-        Verdict::Refused {
-            number: 20,
-            step: 0,
-            place: 0,
+    let found = judge_and_lay(case);
+    let a = found.answer;
+    match a {
+        Answer::Yes => {
+            let layout = found.layout;
+            Laying {
+                answer: ask(head_kept(case, plan, layout), 20, 0, 0),
+                layout: layout,
+            }
         }
+        Answer::No {
+            number: _,
+            step: _,
+            place: _,
+        } => found,
     }
 }
 
@@ -56,10 +65,10 @@ fn judge_plan(case: &[i64], plan: &[i64], layout: Layout) -> Verdict
 pub fn judge(case: &[i64], plan: &[i64]) -> Verdict
     ensures { λ r. ⌜ verdictTold r ≡ judgeOf (now (case .entry)) (now (plan .entry)) ⌝ }
 {
-    let found = judge_and_lay(case);
-    let a = found.answer;
+    let head = judge_head(case, plan);
+    let a = head.answer;
     match a {
-        Answer::Yes => judge_plan(case, plan, found.layout),
+        Answer::Yes => steps(case, plan, head.layout),
         Answer::No {
             number,
             step,
@@ -69,6 +78,23 @@ pub fn judge(case: &[i64], plan: &[i64]) -> Verdict
             step: step,
             place: place,
         },
+    }
+}
+
+// 20 and the steps, for a case that was accepted before the plan bytes were read.
+fn judge_plan(case: &[i64], plan: &[i64], layout: Layout) -> Verdict
+    requires { ⌜ (AcceptedCase (now case)) × (LayoutOf (now case) layout) ⌝ }
+    ensures { λ r. ⌜ r ≡ verdictOf (firstNo (planQuestions (now (case .entry)) (now (plan .entry))))
+        (totalsOf (now (case .entry)) (now (plan .entry))) ⌝ }
+{
+    if head_kept(case, plan, layout) {
+        steps(case, plan, layout)
+    } else {
+        Verdict::Refused {
+            number: 20,
+            step: 0,
+            place: 0,
+        }
     }
 }
 

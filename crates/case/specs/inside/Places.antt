@@ -8,7 +8,7 @@ use native.Mathlib.Numerals.{add-one}
 use native.Mathlib.Omega.{arith}
 use lib.IntN.{ℤ}
 use Rattle.case.specs.law.Extents.{mostNodes, mostArcs, nodeCapacity, arcCapacity, nodeExtent, directionExtent, machineExtent, stationExtent}
-use Rattle.case.specs.law.Extents.{arcsExtent, stationsExtent}
+use Rattle.case.specs.law.Extents.{setRoom, arcsExtent, stationsExtent}
 use Rattle.case.specs.law.Layout.{nodesOf, arcsOf, stepsOf, nodeWidth, nodeAt, arcAt, directionWidth, directionAt, stateAt, machineWidth, machineAt}
 use Rattle.case.specs.law.Layout.{directionCount, stateCount, machineCount, stationEnd, stationAt}
 use Rattle.case.specs.inside.Counts.{Counted, StationCounted}
@@ -23,6 +23,10 @@ module _ (case : List ℤ) where
   pub arcs-fit : mostArcs case ≤ arcCapacity
   unfolding mostArcs
   arcs-fit = omega arith
+
+  -- a set has room for every node
+  pub nodes-in-set : Counted case → nodesOf case ≤ setRoom
+  nodes-in-set c = omega (arith, c .nodes)
 
   pub node-width : stepsOf case ≤ 48 → nodeWidth case ≤ nodeExtent
   unfolding nodeWidth

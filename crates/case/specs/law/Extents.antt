@@ -3,6 +3,7 @@
 use mathlib.Core.List.{List}
 use Prim.Native.Nat.{ℕ}
 use lib.IntN.{ℤ}
+use Rattle.case.specs.law.Layout.{editionOf}
 
 -- ---- limits of the head's counts, by the case's edition
 
@@ -10,13 +11,18 @@ use lib.IntN.{ℤ}
 abbrev pub lastEdition : ℕ
 lastEdition = 1
 
--- "N nodes 1..60"
-unfoldable pub mostNodes : List ℤ → ℕ
-mostNodes case = 60
+-- "N nodes 1..60; A arcs 0..120"
+abbrev pub nodeLimit : ℕ → ℕ
+nodeLimit edition = 60
 
--- "A arcs 0..120"
+abbrev pub arcLimit : ℕ → ℕ
+arcLimit edition = 120
+
+unfoldable pub mostNodes : List ℤ → ℕ
+mostNodes case = nodeLimit (editionOf case)
+
 unfoldable pub mostArcs : List ℤ → ℕ
-mostArcs case = 120
+mostArcs case = arcLimit (editionOf case)
 
 -- ---- capacities: no edition's limit is above them
 

@@ -18,6 +18,7 @@ use Rattle.case.specs.law.Records.{arcOf, artificialOf, stationOf}
 use Rattle.plan.specs.law.Setting.{stationOffset}
 use Rattle.plan.specs.inside.Sizes.{PressuresSized, ArcRowSized, FlowsSized, NodesSized, MachinesSized}
 use Rattle.plan.specs.law.ArcFlows.{machinesWithin}
+use Rattle.plan.specs.law.ArcRules.{flowQuestions}
 use Rattle.plan.specs.law.Balance.{netFlow, nodeResidual}
 use Rattle.plan.specs.law.Totals.{pipePart}
 
@@ -41,6 +42,12 @@ pub record AtArc (case : List ℤ) (rows : List ℤ) (offsets : List ℕ) (i e :
   pub at : AtRows case offsets i
   pub arc : e < arcsOf case
   pub pressures : PressuresSized (pressureIn rows) (nodesOf case)
+
+-- past 24 and 25: such an arc that both have let pass, with the pressures before the step
+pub record PastFlows (case old rows : List ℤ) (offsets : List ℕ) (i e : ℕ) : Type 0 where
+  pub at : AtArc case rows offsets i e
+  pub before : PressuresSized (numberAt old) (nodesOf case)
+  pub yes : firstNo (flowQuestions case rows i e) ≡ Yes
 
 -- an arc that is compressing from node u to node w, and the rows of its station from `offset` on
 pub record Compresses (case : List ℤ) (rows : List ℤ) (offset e u w : ℕ) : Type 0 where

@@ -11,7 +11,7 @@ use Rattle.numbers.specs.law.Question.{firstNo}
 use Rattle.numbers.specs.declared.answer.Answer.the-variants.{Yes}
 use Rattle.numbers.specs.inside.SignedBounds.{Bounded, abs-add}
 use Rattle.numbers.specs.law.Sums.{sum, sumN}
-use Rattle.plan.specs.inside.SumSizes.{mostBrought, mostResidual, mostStepWidth}
+use Rattle.plan.specs.inside.SumSizes.{mostBrought, mostResidual, mostStepWidth, mostPlan}
 use Rattle.case.specs.law.Layout.{numberAt, nodesOf, stepsOf}
 use Rattle.case.specs.law.LayoutOf.{Holds}
 use Rattle.plan.specs.declared.region.Gathered.{Gathered}
@@ -122,7 +122,7 @@ gathering {s = s} h =
 -- it lies within the list, and not far in
 pub record StepWithin (plan : List ℤ) (i width : ℕ) : Type 0 where
   pub inside : 2 + i * width + width ≤ length plan
-  pub near : 2 + i * width + width ≤ 50000
+  pub near : 2 + i * width + width ≤ mostPlan
 
 pub part-within : {case plan : List ℤ} {width : ℕ} → AcceptedCase case → PlanLaid case plan → width ≡ stepWidth case → (i : ℕ) → i < stepsOf case
     → StepWithin plan i width

@@ -16,6 +16,7 @@ use Rattle.numbers.specs.declared.answer.Answer.{Answer}
 use Rattle.numbers.specs.declared.answer.Answer.the-variants.{Yes}
 use Rattle.numbers.specs.law.Sets.{memberOf}
 use Rattle.numbers.specs.law.Sums.{count}
+use Rattle.case.specs.inside.Places.{nodes-in-set}
 use Rattle.case.specs.law.Layout.{nodesOf, arcsOf, stepsOf, massTolerance}
 use Rattle.case.specs.inside.FieldLaws.{and-first, and-second}
 use Rattle.plan.specs.declared.figures.Ledger.the-variants.{Given}
@@ -130,7 +131,7 @@ module _ (case plan : List ℤ) (set s t : ℤ) (totals : Totals) (accepted : ju
   pub region-nodes : namesNodes case set ≡ true
   region-nodes =
       let c : AcceptedCase case = record { yes = sound case plan totals accepted .case-yes } in
-      nodes-pass case set (counted c .nodes) (omega (ints, region .a-set, size set)) (region .only-nodes)
+      nodes-pass case set (nodes-in-set case (counted c)) (omega (ints, region .a-set, size set)) (region .only-nodes)
 
   pub region-times : timesOrdered case s t ≡ true
   unfolding timesOrdered

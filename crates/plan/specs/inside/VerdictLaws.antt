@@ -1,7 +1,7 @@
 -- From the answer on a case to the verdict, over plain lists.
 use mathlib.Core.Path.{_≡_, refl, ap, sym, _∙_}
 use mathlib.Core.Bool.{Bool, true, false}
-use mathlib.Core.List.{List, [], _∷_}
+use mathlib.Core.List.{List, [], _∷_, _++_, append-assoc}
 use Prim.Native.Nat.{ℕ, _+_, _*_, _≤_}
 use native.Mathlib.Omega.{arith}
 use borrow.Author.Tests.{eqb-true}
@@ -11,7 +11,7 @@ use lib.ListN.{length, getD, take, drop}
 use lib.Seq.{take-at}
 use Rattle.numbers.specs.law.Told.{Told, gives, refuses, overlay}
 use Rattle.numbers.specs.law.Question.{firstNo, told}
-use Rattle.numbers.specs.inside.QuestionLaws.{firstNo-append, told-same}
+use Rattle.numbers.specs.inside.QuestionLaws.{firstNo-append, first-yes, second-yes, answer-yes, told-same}
 use Rattle.numbers.specs.inside.ReadingBounds.{count-within}
 use Rattle.numbers.specs.law.Reading.{Ending, all, no, readOf, endTold, readTold}
 use Rattle.numbers.specs.declared.answer.Answer.{Answer}
@@ -20,11 +20,13 @@ use Rattle.case.specs.law.Layout.{numberAt, stepsOf}
 use Rattle.case.specs.inside.FieldLaws.{and-second}
 use Rattle.case.specs.law.Judged.{caseQuestions, judgedCase}
 use Rattle.case.specs.declared.records.Layout.{Layout}
-use Rattle.case.specs.law.LayoutOf.{LayoutOf}
+use Rattle.case.specs.declared.records.Laying.{Laying}
+use Rattle.case.specs.law.LayoutOf.{LayoutOf, LayingOf}
 use Rattle.plan.specs.law.Compared.{same}
-use Rattle.plan.specs.inside.Preconditions.{PlanLaid}
+use Rattle.plan.specs.inside.Preconditions.{AcceptedCase, PlanLaid}
+use Rattle.plan.specs.inside.CaseSizes.{list-yes}
 use Rattle.plan.specs.law.PlanLayout.{stepAt, stepWidth}
-use Rattle.plan.specs.law.PlanHead.{headKept}
+use Rattle.plan.specs.law.PlanHead.{headKept, headQuestion, headQuestions, headJudged, HeadLaid}
 use Rattle.plan.specs.law.Totals.{totalsOf}
 use Rattle.plan.specs.law.Judged.{planStep, planQuestions, questions, verdictOf, verdictTold, judgeOf}
 use Rattle.plan.specs.law.JudgedBytes.{readAnswer, planNumber, onPlanBytes, refusedOr, reachedIf, bytesJudged}
@@ -36,6 +38,12 @@ use Rattle.numbers.specs.law.Items.{over}
 pub case-answer : (case : List ℤ) (a : Answer) → told a ≡ judgedCase case → firstNo (caseQuestions case) ≡ a
 unfolding judgedCase
 case-answer case a e = sym (told-same a (firstNo (caseQuestions case)) e)
+
+-- a yes to the case, and its layout
+pub case-laid : {case : List ℤ} {l : Laying} → LayingOf case l → l .answer ≡ Yes → (AcceptedCase case) × (LayoutOf case (l .layout))
+case-laid {case} {l} d y =
+    let k : AcceptedCase case = record { yes = case-answer case (l .answer) (d .told-is) ∙ y } in
+    (k, d .passed (list-yes k))
 
 module _ (case plan : List ℤ) where
   -- ---- 20
@@ -72,6 +80,32 @@ module _ (case plan : List ℤ) where
   unfolding planQuestions
   head-passed h e = rw h e
 
+  -- ---- the case and 20
+
+  pub head-answer : (a : Answer) → told a ≡ headJudged case plan → firstNo (headQuestions case plan) ≡ a
+  unfolding headJudged
+  head-answer a e = sym (told-same a (firstNo (headQuestions case plan)) e)
+
+  module _ (y : firstNo (headQuestions case plan) ≡ Yes) where
+    pub head-case : AcceptedCase case
+    unfolding headQuestions
+    head-case = record { yes = first-yes (caseQuestions case) (headQuestion case plan ∷ []) y }
+
+    pub head-keeps : headKept case plan ≡ true
+    unfolding headQuestions
+    head-keeps = answer-yes (headKept case plan) 20 0 0 Yes (second-yes (caseQuestions case) (headQuestion case plan ∷ []) y)
+
+  -- a yes to both, with the layout of the case and the length of the plan
+  pub head-laid : {l : Laying} → HeadLaid case plan l → l .answer ≡ Yes → (AcceptedCase case) × (LayoutOf case (l .layout)) × (PlanLaid case plan)
+  head-laid {l} d y =
+      let h = head-answer (l .answer) (d .told-is) ∙ y in
+      (head-case h, d .laid .passed (list-yes (head-case h)), plan-laid (head-keeps h))
+
+  -- after them the steps are asked
+  pub head-before : questions case plan ≡ headQuestions case plan ++ over (planStep case plan) 0 (stepsOf case)
+  unfolding questions planQuestions headQuestions
+  head-before = sym (append-assoc (caseQuestions case) (headQuestion case plan ∷ []) (over (planStep case plan) 0 (stepsOf case)))
+
   -- ---- the verdict on two lists
 
   pub judge-yes : firstNo (caseQuestions case) ≡ Yes → {r : Verdict} → r ≡ verdictOf (firstNo (planQuestions case plan)) (totalsOf case plan)
@@ -79,9 +113,9 @@ module _ (case plan : List ℤ) where
   unfolding judgeOf questions
   judge-yes y e = ap verdictTold e ∙ rw (firstNo-append, y)
 
-  pub judge-no : {n s p : ℕ} → firstNo (caseQuestions case) ≡ No n s p → refuses n s p ≡ judgeOf case plan
-  unfolding judgeOf questions
-  judge-no e = rw (firstNo-append, e)
+  pub judge-no : {n s p : ℕ} → firstNo (headQuestions case plan) ≡ No n s p → refuses n s p ≡ judgeOf case plan
+  unfolding judgeOf
+  judge-no e = rw (head-before, firstNo-append, e)
 
 -- ---- what is told of a reading tells how it ended
 

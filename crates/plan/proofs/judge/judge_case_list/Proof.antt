@@ -2,21 +2,13 @@
 use Rattle.plan.proofs.Common.{_≡_, _∙_, needs, now}
 use Rattle.numbers.specs.law.Question.{firstNo}
 use Rattle.case.specs.law.Judged.{caseQuestions}
-use Rattle.plan.specs.inside.Preconditions.{AcceptedCase}
-use Rattle.plan.specs.inside.CaseSizes.{list-yes}
-use Rattle.plan.specs.inside.VerdictLaws.{case-answer, case-passed, list-reached, case-stopped}
+use Rattle.plan.specs.inside.VerdictLaws.{case-answer, case-laid, case-passed, list-reached, case-stopped}
 use Rattle.plan.proofs.judge.judge_case_list.Statement.{statement}
 use Rattle.plan.proofs.judge.judge_case_list.Tie as tie
 
 -- the answer on the case is that of its questions
 asked : (j : tie.After-judge-and-lay) → firstNo (caseQuestions (now (j .before .before .args .case))) ≡ j .judge-and-lay .result .answer
 asked j = case-answer _ _ (j .judge-and-lay .ensures .told-is)
-
-judge-plan-bytes-requires : tie.Need-judge-plan-bytes-requires
-judge-plan-bytes-requires c κs =
-    let j = c .before .before .before in
-    let k : AcceptedCase (now (j .before .before .args .case)) = record { yes = asked j ∙ c .before .enum-told .given .1 } in
-    (k, j .judge-and-lay .ensures .passed (list-yes k))
 
 returns : tie.Need-returns
 returns c =
@@ -32,5 +24,6 @@ returns-2 c = case-stopped _ _ _ (asked (c .before .before .before) ∙ c .befor
 
 pub judge-case-list-spec : {M : Type 1} → statement M
 judge-case-list-spec = tie.close (tie.spec
-    (λ c κs. search needs) (λ c. search needs) judge-plan-bytes-requires (λ c. search needs) (λ c. search needs) returns
-    returns-2)
+    (λ c κs. search needs) (λ c. search needs)
+    (λ c κs. case-laid (c .before .before .before .judge-and-lay .ensures) (c .before .enum-told .given .1))
+    (λ c. search needs) (λ c. search needs) returns returns-2)

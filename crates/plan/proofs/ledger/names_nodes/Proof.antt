@@ -1,5 +1,5 @@
 -- The set is first held against all 60 items, and then against the case's nodes: the two tests of the law, in its order.
-use Rattle.case.specs.law.Extents.{nodeCapacity}
+use Rattle.case.specs.law.Extents.{setRoom}
 use Rattle.plan.proofs.Common.{_≡_, sym, ap, _∙_, _≤_, arith, needs, now, toZ-ofZ, kept}
 use Rattle.case.specs.law.Layout.{nodesOf}
 use Rattle.case.specs.law.StationFields.{firstItems}
@@ -12,7 +12,7 @@ use Rattle.plan.proofs.ledger.names_nodes.Tie as tie
 nodes-is : (c : tie.After-index) → c .index .result ≡ nodesOf (now (c .before .before .args .case))
 nodes-is c = count-read (c .index .ensures) (c .before .at .ok) (c .before .at .ensures)
 
-few : (c : tie.After-index) → c .index .result ≤ nodeCapacity
+few : (c : tie.After-index) → c .index .result ≤ setRoom
 few c = omega (arith, nodes-is c, c .before .before .pre)
 
 in-range : (w : tie.After-within) → w .within .result ≡ isNodeSet (w .before .before .before .before .args .set)

@@ -3,6 +3,7 @@ use Rattle.plan.proofs.Common.{_≡_, sym, ap, _∙_, Bool, needs, now,
 use Rattle.numbers.specs.law.Question.{answer}
 use Rattle.numbers.specs.inside.QuestionLaws.{orElse-yes}
 use Rattle.numbers.specs.declared.answer.Answer.the-variants.{No}
+use Rattle.case.specs.inside.Places.{nodes-in-set}
 use Rattle.plan.specs.law.Ledger.{namesNodes, regionQuestions}
 use Rattle.plan.proofs.ledger.region_answer.Statement.{statement}
 use Rattle.plan.proofs.ledger.region_answer.Tie as tie
@@ -26,5 +27,5 @@ returns-2 c =
 
 pub region-answer-spec : {M : Type 1} → statement M
 region-answer-spec = tie.close (tie.spec
-    (λ c κs. counted (c .pre) .nodes) (λ c κs. counted (c .before .before .pre) .steps) (λ c κs. search needs)
-    (λ c κs. counted (c .before .before .pre) .nodes) returns returns-2)
+    (λ c κs. nodes-in-set _ (counted (c .pre))) (λ c κs. counted (c .before .before .pre) .steps) (λ c κs. search needs)
+    (λ c κs. nodes-in-set _ (counted (c .before .before .pre))) returns returns-2)
