@@ -1,6 +1,6 @@
 -- Reading at places that may lie past the end, where every number is 0: so a row may be read from its own beginning or from the end if that is nearer.
 -- Assumes nothing.
-use Rattle.case.proofs.Common.{arith, _∙_, _≡_, ap, sym, refl, kept-is, w64, toZ, ofZ}
+use Rattle.case.proofs.Common.{arith, _∙_, _≡_, ap, kept-is, w64, toZ, ofZ}
 use mathlib.Core.List.{List}
 use Prim.Native.Nat.{ℕ, _+_, _*_, _/_, _<_, _≤_, _^_, min}
 use native.Mathlib.Nat.{div-lt-iff-lt-mul, le-div-iff-mul-le, add-zero}

@@ -5,7 +5,6 @@ pub mod SaysLaws
 pub mod SetLaws
 pub mod Counts
 pub mod Places
-pub mod NodeRows
 pub mod Near
 pub mod CountsInRange
 pub mod InSet
@@ -13,6 +12,7 @@ pub mod HoldsLaws
 pub mod Ranges
 pub mod Exactly
 pub mod ArcItems
+pub mod NodeRows
 pub mod CaseRows
 pub mod CaseRuled
 pub mod AcceptedCase

@@ -76,7 +76,8 @@ fn list_answer(case: &[i64]) -> Answer
 
 // Where each station's rows begin.
 fn station_firsts(case: &[i64], first: usize, stations: usize) -> [usize; STATIONS]
-    requires { ⌜ (first ≤ stationsExtent) × (first ≡ stationAt (now case) 0) × (stations ≤ 8) × (stations ≡ stationsOf (now case)) × (StationsCounted (now case)) ⌝ }
+    requires { ⌜ (first ≤ stationsExtent) × (first ≡ stationAt (now case) 0) × (stations ≤ 8) ×
+        (stations ≡ stationsOf (now case)) × (StationsCounted (now case)) ⌝ }
     ensures { λ r. ⌜ (Holds 0 r (stationAt (now (case .entry))) stations) × (Clear 0 r stations) ⌝ }
 {
     let mut offsets = [0usize; STATIONS];

@@ -27,8 +27,10 @@ use numbers::compare::at_most;
 
 // One arc more in the net flows: it takes `out` from node `from` and brings `into` to node `to`.
 pub(crate) fn moved(net: &mut [i64], from: usize, to: usize, out: i64, into: i64)
-    requires { ⌜ (from < nodeCapacity) × (to < nodeCapacity) × (length (now net) ≡ nodeCapacity) × (Bounded out 20000000) × (Bounded into 20000000) × (NetSized (now net)) ⌝ }
-    ensures { λ _. ⌜ (length (now (net .exit)) ≡ nodeCapacity) × (Holds (pos 0) (now (net .exit)) (movedAt (now (net .entry)) from to out into) nodeCapacity) ⌝ }
+    requires { ⌜ (from < nodeCapacity) × (to < nodeCapacity) × (length (now net) ≡ nodeCapacity) ×
+        (Bounded out 20000000) × (Bounded into 20000000) × (NetSized (now net)) ⌝ }
+    ensures { λ _. ⌜ (length (now (net .exit)) ≡ nodeCapacity) ×
+        (Holds (pos 0) (now (net .exit)) (movedAt (now (net .entry)) from to out into) nodeCapacity) ⌝ }
 {
     let leaving = net[from] + out;
     net[from] = leaving;

@@ -34,7 +34,8 @@ use Rattle.case.specs.inside.SaysLaws.{first-says, one-says}
 use Rattle.case.specs.inside.Counts.{Counted, Sized}
 use Rattle.case.specs.inside.CountsInRange.{list-counted, nodes-yes, arcs-yes}
 use Rattle.case.specs.claims.Says.{Between}
-use Rattle.case.specs.inside.CaseRows.{head-read, node-read, arc-read}
+use Rattle.case.specs.inside.CaseRows.{head-read, arc-read}
+use Rattle.case.specs.inside.NodeRows.{node-read}
 use Rattle.case.specs.claims.CaseRules.{CaseRules}
 use Rattle.case.specs.claims.Acceptance.{accepted-rules}
 

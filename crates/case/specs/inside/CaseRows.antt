@@ -12,39 +12,34 @@ use borrow.Author.Tests.{eqb-true, eqb-false, ne-eqb, ltb-true, le-leb, lt-leb}
 use lib.Dec.{eqb}
 use lib.IntN.{ℤ, pos, _+ℤ_}
 use lib.ListN.{length}
-use Rattle.numbers.specs.inside.SignedParts.{ints, size}
+use Rattle.numbers.specs.inside.SignedParts.{ints}
 use Rattle.numbers.specs.inside.QuestionLaws.{all-yes, none-no}
 use Rattle.numbers.specs.law.Question.{firstNo}
 use Rattle.numbers.specs.law.Items.{over}
 use Rattle.numbers.specs.declared.answer.Answer.the-variants.{Yes}
-use Rattle.case.specs.declared.records.Node.{Node}
-use Rattle.case.specs.law.Layout.{numberAt, countAt, nodesOf, arcsOf, stationsOf, stepsOf, timeAt, nodeAt, arcAt, directionCount, stateCount}
-use Rattle.case.specs.law.Layout.{nodeKindAt, p0At, lowAt, highAt, actlowAt, acthighAt}
-use Rattle.case.specs.law.Layout.{nodeWidth, boundsIn, boundsAt, demandIn, directionWidth, machineWidth, machineCount, directionAt, stateAt, machineAt, stationEnd, stationAt, caseEnd}
+use Rattle.case.specs.law.Layout.{numberAt, nodesOf, arcsOf, stationsOf, stepsOf, timeAt, nodeAt, arcAt, directionCount, stateCount}
+use Rattle.case.specs.law.Layout.{directionWidth, machineWidth, machineCount, directionAt, stateAt, machineAt, stationEnd, stationAt, caseEnd}
 use Rattle.case.specs.law.Extents.{mostNodes, mostArcs}
-use Rattle.case.specs.law.Records.{timeBefore, nodeOf, arcOf, pipeOf, stationOf}
-use Rattle.case.specs.law.Field.{field, fields, mostPressure}
+use Rattle.case.specs.law.Records.{timeBefore, arcOf, pipeOf, stationOf}
+use Rattle.case.specs.law.Field.{field, fields}
 use Rattle.case.specs.law.HeadFields.{headFields, countFields, toleranceFields}
 use Rattle.case.specs.law.TimeFields.{timeField, timeFields}
-use Rattle.case.specs.law.NodeFields.{nodeHead, boundFields, demandField, nodeRowFields, nodeFields, allNodeFields, leastDemand, mostDemand}
+use Rattle.case.specs.law.NodeFields.{nodeFields, allNodeFields}
 use Rattle.case.specs.law.ArcFields.{zeros, endFields, pipeFields, leastBothWays, memberFields, compressorFields, kindFields, arcFields, allArcFields}
 use Rattle.case.specs.law.StationFields.{stationHead, directionFields, stateRowFields, stateFields, machineFields, partFields, rowFields}
 use Rattle.case.specs.law.StationFields.{stationFields, allStationFields}
 use Rattle.case.specs.law.Leftover.{leftover}
 use Rattle.case.specs.law.Judged.{rowQuestions, listQuestions}
 use Rattle.case.specs.inside.Counts.{StationsRanged}
-use Rattle.case.specs.inside.NodeRows.{demands-are}
+use Rattle.case.specs.inside.NodeRows.{NodeFacts, node-read}
 use Rattle.case.specs.inside.Places.{end-least, machine-late}
 use Rattle.case.specs.claims.Says.{Between}
 use Rattle.case.specs.inside.SaysLaws.{leb-says}
 use Rattle.case.specs.inside.Exactly.{asks-iff, rising, Read, all-read, append-read, over-read, field-read, fields-read, row-is, row-kept, flat}
-use Rattle.case.specs.claims.CaseRules.{CaseHead, TimeKept, CaseNode, CaseDemand, CaseArc, CasePipe, CaseArtificial, CaseCompressor, CaseSeven}
+use Rattle.case.specs.claims.CaseRules.{CaseHead, TimeKept, CaseArc, CasePipe, CaseArtificial, CaseCompressor, CaseSeven}
 use Rattle.case.specs.claims.CaseRules.{CaseStation, CaseDirection, CaseState, CaseMachine, artificialNumbers, further, Zeros, machineOf}
 
 -- ---- what is said of a row, and of the list
-
-abbrev pub NodeFacts : List ℤ → ℕ → Type 0
-NodeFacts case v = CaseNode case v × ((i : ℕ) → i < stepsOf case → CaseDemand (nodeOf case v i))
 
 abbrev pub StationFacts : List ℤ → ℕ → Type 0
 StationFacts case s =
@@ -71,18 +66,6 @@ ways k z = go (eqb k 3) refl
     go true e = (λ r. (omega ints, λ h. omega ints), λ r. let q = r .1 (eqb-true k 3 e) in omega ints)
     go false e = (λ r. (r, λ h. absurd (eqb-false k 3 e h)), λ r. r .0)
 
-pub demand-iff : (n : Node) → n .kind ≤ 2 → Between (leastDemand (n .kind)) (n .demand) (mostDemand (n .kind)) ↔ CaseDemand n
-demand-iff n h = (
-  λ r. record { inner = λ h. let q : Between (pos 0) (n .demand) (pos 0) = rw h at r in omega ints; source = λ h. rw h at r; sink = λ h. rw h at r },
-  λ r. go r (n .kind) refl,
-)
-  where
-    go : CaseDemand n → (k : ℕ) → n .kind ≡ k → Between (leastDemand k) (n .demand) (mostDemand k)
-    go r zero e = let q = r .inner e in omega ints
-    go r (suc zero) e = r .source e
-    go r (suc (suc zero)) e = r .sink e
-    go r (suc (suc (suc k))) e = let f : ⊥ = omega arith in absurd f
-
 by-kind : (k : ℕ) {X : Type 0} → (k ≤ 1 → X) → (k ≡ 2 → X) → (3 ≤ k → k ≤ 4 → X) → (5 ≤ k → X) → X
 by-kind zero a b c d = a (omega arith)
 by-kind (suc zero) a b c d = a (omega arith)
@@ -97,13 +80,6 @@ four {case} {e} r h =
     by-kind (arcOf case e .kind) (λ k. let f : ⊥ = omega arith in absurd f) (λ k. let f : ⊥ = omega arith in absurd f)
     (λ k l. r .artificial k l .0) (λ k. r .compressor k .0)
 
--- the four bounds that begin at `offset`
-record BoundsKept (case : List ℤ) (offset : ℕ) : Type 0 where
-  pub low : Between (pos 0) (numberAt case (lowAt offset)) mostPressure
-  pub high : Between (pos 0) (numberAt case (highAt offset)) mostPressure
-  pub actlow : Between (numberAt case (lowAt offset)) (numberAt case (actlowAt offset)) mostPressure
-  pub acthigh : Between (numberAt case (actlowAt offset)) (numberAt case (acthighAt offset)) (numberAt case (highAt offset))
-
 module _ (case : List ℤ) where
   zeros-read : (e i n : ℕ) → arcAt case e + (4 + i) ≤ length case
       → Read case (zeros case (arcAt case e + (4 + i)) n) (arcAt case e + (4 + i) + n) (Zeros case e i n)
@@ -114,56 +90,11 @@ module _ (case : List ℤ) where
       at : (j : ℕ) → arcAt case e + (4 + i) + j ≡ arcAt case e + 4 + (i + j)
       at j = omega arith
 
-  -- ---- head and nodes
+  -- ---- head
 
   pub head-read : Read case (headFields case) 7 (CaseHead case)
   unfolding headFields countFields toleranceFields field mostNodes mostArcs
   head-read = all-read case (headFields case) (λ a. (omega (arith, ltb-true), search row-is), λ r. search row-kept depth 40)
-
-  node-head : (offset : ℕ) → Read case (nodeHead case offset) (offset + 2)
-      (Between (pos 0) (numberAt case (nodeKindAt offset)) (pos 2) × Between (pos 0) (numberAt case (p0At offset)) mostPressure)
-  unfolding nodeHead field
-  node-head offset = all-read case (nodeHead case offset) (λ a. (omega (arith, ltb-true), search row-is), λ r. search row-kept depth 40)
-
-  bounds-read : (offset : ℕ) → Read case (boundFields case offset) (offset + 4) (BoundsKept case offset)
-  unfolding boundFields fields field
-  bounds-read offset =
-      all-read case (boundFields case offset)
-      (λ a. let b = simp flat at a in (omega (arith, ltb-true), search row-is), λ r. simp flat (search row-kept depth 40))
-
-  demands-read : (v : ℕ) → nodeOf case v 0 .kind ≤ 2 → nodeAt case v + 6 ≤ length case
-      → Read case (over (demandField case (nodeAt case v)) 0 (stepsOf case)) (nodeAt case v + nodeWidth case)
-      ((i : ℕ) → i < stepsOf case → CaseDemand (nodeOf case v i))
-  unfolding nodeWidth demandIn
-  demands-read v k t =
-      let offset = nodeAt case v in
-      rw (demands-are case offset (stepsOf case), ← add-assoc)
-      (fields-read case (offset + 6) (stepsOf case) (leastDemand (countAt case offset)) (mostDemand (countAt case offset)) (λ i. CaseDemand (nodeOf case v i))
-      (λ i. rw add-assoc (demand-iff (nodeOf case v i) k)) t)
-
-  pub node-read : (v : ℕ) → Read case (nodeFields case v) (nodeAt case v + nodeWidth case) (NodeFacts case v)
-  unfolding nodeFields nodeRowFields nodeWidth boundsIn
-  node-read v =
-      let r =
-      append-read case (nodeHead case (nodeAt case v)) _ (omega arith) (node-head (nodeAt case v)) (λ t h.
-      append-read case (boundFields case (boundsAt case v 0)) _ (omega arith) (bounds-read (boundsAt case v 0)) (λ t b.
-      demands-read v (omega (ints, h .0 .most, size (numberAt case (nodeAt case v)))) (omega arith))) in (
-        λ y. let f = r .0 y .1 in (
-          r .0 y .0,
-          (
-            record {
-              kind = f .0 .0;
-              p0 = f .0 .1;
-              low = f .1 .0 .low;
-              high = f .1 .0 .high;
-              actlow = f .1 .0 .actlow;
-              acthigh = f .1 .0 .acthigh;
-            },
-            f .1 .1,
-          ),
-        ),
-        λ f. let n = f .1 .0 in r .1 (f .0, ((n .kind, n .p0), (record { low = n .low; high = n .high; actlow = n .actlow; acthigh = n .acthigh }, f .1 .1))),
-      )
 
   -- ---- arcs
 
@@ -249,7 +180,8 @@ module _ (case : List ℤ) where
     unfolding stationHead field
     station-head = all-read case (stationHead case (stationAt case s)) (λ a. (omega (arith, ltb-true), search row-is), λ r. search row-kept depth 40)
 
-    direction-read : (f : ℕ) → Read case (directionFields case (stationAt case s) f) (directionAt case (stationAt case s) f + directionWidth case) (CaseDirection case s f)
+    direction-read : (f : ℕ)
+        → Read case (directionFields case (stationAt case s) f) (directionAt case (stationAt case s) f + directionWidth case) (CaseDirection case s f)
     unfolding directionFields directionWidth fields field
     direction-read f =
         all-read case (directionFields case (stationAt case s) f)
@@ -295,7 +227,7 @@ module _ (case : List ℤ) where
       (over-read case timeAt (timeField case) (stepsOf case) {A = TimeKept case}
       (λ i. field-read case (timeAt i) (timeBefore case i +ℤ pos 1) (timeBefore case i +ℤ pos 86400)) (λ i. omega arith) (omega arith)) (λ t r.
       append-read case (allNodeFields case) _ (omega arith)
-      (over-read case (nodeAt case) (nodeFields case) (nodesOf case) node-read (λ v. omega arith) (omega arith)) (λ t r.
+      (over-read case (nodeAt case) (nodeFields case) (nodesOf case) (node-read case) (λ v. omega arith) (omega arith)) (λ t r.
       append-read case (allArcFields case) _ begin
       (over-read case (arcAt case) (arcFields case) (arcsOf case) arc-read (λ e. omega arith) (omega arith)) (λ t r.
       append-read case (allStationFields case) (leftover case) (le-refl _)

@@ -1,7 +1,7 @@
 -- Reading at places that may lie past the end, where every number is 0: so a row may be read from its own beginning or from the end if that is nearer.
 -- A machine's row is found so, each from the one before it.
 -- Assumes nothing.
-use mathlib.Core.Path.{_≡_, _∙_, ap, ap₂, sym, refl}
+use mathlib.Core.Path.{_≡_, _∙_, ap, sym, refl}
 use mathlib.Core.Bool.{Bool, true, false}
 use mathlib.Core.List.{List}
 use Prim.Native.Nat.{ℕ, _+_, _≤_, min}

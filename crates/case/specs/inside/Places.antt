@@ -1,6 +1,6 @@
 -- Where rows begin, each where the one before it ends, and that no row reaches past the extents: places are sums and products of counts that are in range.
 -- Assumes nothing.
-use mathlib.Core.Path.{_≡_, refl}
+use mathlib.Core.Path.{_≡_}
 use mathlib.Core.List.{List}
 use Prim.Native.Nat.{ℕ, zero, suc, _+_, _*_, _≤_}
 use native.Mathlib.Nat.{mul-le-mul}

@@ -12,9 +12,9 @@ use Rattle.numbers.specs.law.Question.{firstNo}
 use Rattle.numbers.specs.law.Items.{over}
 use Rattle.numbers.specs.inside.SmallRefusals.{Small, AllSmall, small-append, small-over, all-small, all-append, all-over}
 use Rattle.numbers.specs.declared.answer.Answer.the-variants.{Yes}
-use Rattle.case.specs.law.Layout.{nodesOf, arcsOf, stationsOf, stepsOf, nodeAt, arcAt, stationAt, directionAt, stateAt, machineAt}
+use Rattle.case.specs.law.Layout.{nodesOf, arcsOf, stationsOf, stepsOf, nodeAt, arcAt, stationAt}
 use Rattle.case.specs.law.Layout.{countAt, boundsIn, directionCount, stateCount, machineCount}
-use Rattle.case.specs.law.Extents.{mostNodes, mostArcs, stationExtent, arcsExtent, stationsExtent, caseExtent}
+use Rattle.case.specs.law.Extents.{stationExtent, arcsExtent, stationsExtent, caseExtent}
 use Rattle.case.specs.law.Field.{field, fields, nextField}
 use Rattle.case.specs.law.HeadFields.{headFields, countFields, toleranceFields}
 use Rattle.case.specs.law.ArcFields.{allArcFields, arcFields, endFields, kindFields, pipeFields, memberFields, compressorFields}
@@ -74,10 +74,13 @@ module _ (case : List ℤ) where
   unfolding partFields directionFields stateFields stateRowFields machineFields fields field
   parts-small offset h d =
       all-append limit (over (directionFields case offset) 0 (directionCount case offset)) _
-      (all-over limit (directionFields case offset) 0 (directionCount case offset) (λ f l. let e = direction-early case offset (0 + f) (omega (arith, l, d .directions)) in search needs))
+      (all-over limit (directionFields case offset) 0 (directionCount case offset) (λ f l.
+      let e = direction-early case offset (0 + f) (omega (arith, l, d .directions)) in search needs))
       (all-append limit (over (stateFields case offset) 0 (stateCount case offset)) _
-      (all-over limit (stateFields case offset) 0 (stateCount case offset) (λ z l. let e = state-early case offset d (0 + z) (omega (arith, l, d .states)) in search needs))
-      (all-over limit (machineFields case offset) 0 (machineCount case offset) (λ m l. let e = machine-early case offset d (0 + m) in let w = d .machines in search needs)))
+      (all-over limit (stateFields case offset) 0 (stateCount case offset) (λ z l.
+      let e = state-early case offset d (0 + z) (omega (arith, l, d .states)) in search needs))
+      (all-over limit (machineFields case offset) 0 (machineCount case offset) (λ m l.
+      let e = machine-early case offset d (0 + m) in let w = d .machines in search needs)))
 
   -- ---- all rows, once the counts before have passed
 

@@ -1,7 +1,7 @@
 -- Nodes, arcs and stations as records, read off the list. Counts, indices, kinds and weights are naturals, all else is signed.
 -- Assumes nothing.
 use mathlib.Core.List.{List}
-use Prim.Native.Nat.{ℕ, zero, suc, _+_}
+use Prim.Native.Nat.{ℕ, zero, suc}
 use lib.IntN.{ℤ, pos}
 use Rattle.case.specs.declared.records.Node.{Node}
 use Rattle.case.specs.declared.records.Arc.{Arc}

@@ -20,7 +20,8 @@ use Rattle.case.specs.law.StationArcs.{belongs, stationArcs}
 use Rattle.case.specs.law.Judged.{listQuestions}
 use Rattle.case.specs.inside.Counts.{Counted}
 use Rattle.case.specs.claims.Says.{Between}
-use Rattle.case.specs.inside.CaseRows.{demand-iff, four}
+use Rattle.case.specs.inside.NodeRows.{demand-iff}
+use Rattle.case.specs.inside.CaseRows.{four}
 use Rattle.case.specs.claims.CaseRules.{CaseRules}
 use Rattle.case.specs.inside.AcceptedCase as laws
 use Rattle.plan.specs.law.Pipes.{duration}

@@ -54,7 +54,8 @@ codec = tt
 
 -- sums, and where rows stand
 unfoldable pub layout : Unit {0}
-unfolding sum sumN count ones nodeWidth nodeAt boundsIn demandIn arcAt stationAt directionWidth directionAt stateAt machineWidth machineAt stepWidth stepAt stepRows
+unfolding sum sumN count ones nodeWidth nodeAt boundsIn demandIn arcAt stationAt directionWidth directionAt stateAt machineWidth machineAt
+    stepWidth stepAt stepRows
 layout = tt
 
 -- 10 to 12

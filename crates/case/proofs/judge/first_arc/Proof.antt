@@ -1,5 +1,5 @@
 -- The arcs' rows follow those of the nodes; the counts are in range, so the sum fits.
-use Rattle.case.proofs.Common.{needs, arith, _≡_, now, _+_, _≤_}
+use Rattle.case.proofs.Common.{needs, arith, now, _≤_}
 use Prim.Native.Nat.{_*_}
 use native.Mathlib.Nat.{mul-le-mul}
 use Rattle.case.specs.law.Extents.{nodeCapacity, nodeExtent}

@@ -1,5 +1,5 @@
 -- The rows of the machines before `m` have no "no" (`Asking`), and `at` is where the row of `m` begins; a row has a flow and a ratio.
-use Rattle.case.proofs.Common.{needs, arith, _∙_, _≡_, ap, refl, now, ℕ, _+_, _-_, _≤_, firstNo, firstNo-append}
+use Rattle.case.proofs.Common.{needs, arith, _∙_, _≡_, ap, refl, now, _+_, _-_, _≤_, firstNo, firstNo-append}
 use Rattle.case.proofs.Common.{Asking, asking, asking-on, asking-no, asking-end}
 use Prim.Native.Nat.{_*_}
 use Rattle.numbers.specs.law.Items.{over}

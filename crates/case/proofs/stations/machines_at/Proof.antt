@@ -8,8 +8,8 @@ use Rattle.case.proofs.stations.machines_at.Tie as tie
 add-result : tie.Need-add-result
 add-result c =
     let s = c .before .before in
-    let n = c .count .ensures .value in
-    omega (arith, n, s .pre .1 .states, c .before .states-at .ensures, state-early (now (s .args .case)) (s .args .offset) (s .pre .1) 0 (omega arith), s .pre .0)
+    let early = state-early (now (s .args .case)) (s .args .offset) (s .pre .1) 0 (omega arith) in
+    omega (arith, c .count .ensures .value, s .pre .1 .states, c .before .states-at .ensures, early, s .pre .0)
 
 returns : tie.Need-returns
 unfolding machineAt stateAt

@@ -1,8 +1,8 @@
 -- The states' rows follow those of the directions, of which there are few, so that the sum fits.
-use Rattle.case.proofs.Common.{needs, arith, _∙_, _≡_, now, _+_, _≤_}
+use Rattle.case.proofs.Common.{needs, arith, _≡_, now, _≤_}
 use Prim.Native.Nat.{_*_}
 use native.Mathlib.Nat.{mul-le-mul}
-use Rattle.case.specs.law.Layout.{directionCount, directionWidth, directionAt, stateAt}
+use Rattle.case.specs.law.Layout.{directionCount, directionAt, stateAt}
 use Rattle.case.specs.inside.Places.{direction-width}
 use Rattle.case.proofs.Counting.{first-is}
 use Rattle.case.proofs.stations.states_at.Statement.{statement}

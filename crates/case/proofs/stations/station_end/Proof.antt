@@ -1,7 +1,5 @@
 -- `at` is where the row of machine `m` begins, each where the one before it ends; a station has few machines, so the sum fits.
-use Rattle.case.proofs.Common.{needs, arith, _∙_, _≡_, ap, now, _+_, _-_, _≤_}
-use Prim.Native.Nat.{_*_}
-use Rattle.case.specs.law.Extents.{machineExtent}
+use Rattle.case.proofs.Common.{needs, arith, _∙_, _≡_, ap, now, _-_, _≤_}
 use Rattle.case.specs.law.Layout.{machineAt, machineWidth}
 use Rattle.case.specs.inside.Places.{machine-width, machine-next, machine-early}
 use Rattle.case.proofs.stations.station_end.Statement.{statement}

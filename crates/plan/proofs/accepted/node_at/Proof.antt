@@ -1,5 +1,5 @@
 -- The nodes' rows follow head and times, and do not reach past the extents, so that no sum overflows.
-use Rattle.plan.proofs.Common.{_≡_, _∙_, ap, _+_, _*_, _≤_, arith, now, counted}
+use Rattle.plan.proofs.Common.{_≡_, _*_, _≤_, arith, now, counted}
 use native.Mathlib.Nat.{mul-le-mul}
 use Rattle.case.specs.law.Extents.{nodeCapacity, nodeExtent}
 use Rattle.case.specs.law.Layout.{nodeAt, stepsOf}
@@ -19,7 +19,8 @@ offsets : (c : tie.After-node-width) → c .before .before .args .v * c .node-wi
 offsets c =
     let s = c .before .before in
     let k = counted (s .pre .0) in
-    rw (c .node-width .ensures) (mul-le-mul {n₂ = nodeCapacity} {m₂ = nodeExtent} (omega (arith, s .pre .1, k .nodes)) (node-width (now (s .args .case)) (k .steps)))
+    let w = node-width (now (s .args .case)) (k .steps) in
+    rw (c .node-width .ensures) (mul-le-mul {n₂ = nodeCapacity} {m₂ = nodeExtent} (omega (arith, s .pre .1, k .nodes)) w)
 
 returns : tie.Need-returns
 unfolding nodeAt

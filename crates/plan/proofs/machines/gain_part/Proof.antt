@@ -17,7 +17,8 @@ gain-is : (c : tie.After-machine-from) → let a = c .before .before .before .ar
     Held (toZ w64 (ofZ w64 (c .machine-from .result .ratio)) -ℤ pos 1000) (machineRow (now (a .case)) (a .offset) (a .m) .ratio -ℤ pos 1000) 11000
 gain-is c =
     let s = c .before .before .before in
-    read (ap (λ (y : Machine). y .ratio) (c .machine-from .ensures ∙ machine-here (s .pre .2))) (s .pre .0 .ratio (s .args .m) (s .pre .1)) tt -ʳ literal (pos 1000)
+    let is = c .machine-from .ensures ∙ machine-here (s .pre .2) in
+    read (ap (λ (y : Machine). y .ratio) is) (s .pre .0 .ratio (s .args .m) (s .pre .1)) tt -ʳ literal (pos 1000)
 
 returns : tie.Need-returns
 unfolding gainPart

@@ -24,7 +24,8 @@ loop-holds c =
     let t = c .before in
     (omega (arith, t .before .pre .count, ap (λ (y : Station). y .machines) (t .station .ensures)), record { is = c .first-machine .ensures }, start)
 
-machine-in : (c : tie.In-loop Inv-loop μ-loop) → let a = c .before .before .before .before .args in c .before .loop .m < machineCount (now (a .case)) (a .offset)
+machine-in : (c : tie.In-loop Inv-loop μ-loop) → let a = c .before .before .before .before .args in
+    c .before .loop .m < machineCount (now (a .case)) (a .offset)
 machine-in c = omega (arith, c .loop-test .taken, ap (λ (y : Station). y .machines) (c .before .before .before .station .ensures))
 
 part-is : (c : tie.After-flow-part Inv-loop μ-loop) → let h = c .before .before in let a = h .before .before .before .args in
@@ -60,4 +61,5 @@ returns c =
 
 pub machine-flow-spec : {M : Type 1} → statement M
 machine-flow-spec = tie.close (tie.spec
-    Inv-loop μ-loop (λ c κs. search needs) (λ c κs. search needs) loop-holds (λ c κs. c .before .loop .inv .1) add-sum (λ c κs. search needs) (λ c. omega arith) (λ c. omega arith) loop-again returns)
+    Inv-loop μ-loop (λ c κs. search needs) (λ c κs. search needs) loop-holds (λ c κs. c .before .loop .inv .1) add-sum
+    (λ c κs. search needs) (λ c. omega arith) (λ c. omega arith) loop-again returns)

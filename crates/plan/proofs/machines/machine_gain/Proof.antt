@@ -24,7 +24,8 @@ loop-holds c =
     let t = c .before in
     (omega (arith, t .before .pre .count, ap (λ (y : Station). y .machines) (t .station .ensures)), record { is = c .first-machine .ensures }, start)
 
-machine-in : (c : tie.In-loop Inv-loop μ-loop) → let a = c .before .before .before .before .args in c .before .loop .m < machineCount (now (a .case)) (a .offset)
+machine-in : (c : tie.In-loop Inv-loop μ-loop) → let a = c .before .before .before .before .args in
+    c .before .loop .m < machineCount (now (a .case)) (a .offset)
 machine-in c = omega (arith, c .loop-test .taken, ap (λ (y : Station). y .machines) (c .before .before .before .station .ensures))
 
 part-is : (c : tie.After-gain-part Inv-loop μ-loop) → let h = c .before .before in let a = h .before .before .before .args in
