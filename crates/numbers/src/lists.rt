@@ -4,8 +4,8 @@ ghost use Prim.Native.Nat.{_+_, min};
 ghost use lib.ListN.{length};
 ghost use lib.Seq.{sets};
 
-// The numbers of `from`, in `to` from `at` on. Those past the end of `to` are left out; the answer is the place after the last, or the end.
-// Two wrong answers that the promise rules out: a number stored before `at` or after the last, and the count of numbers for the place after them.
+// The numbers of `from`, placed in `to` from `at` on; what does not fit is left out. The answer is the place after the last one, or the end of `to`.
+// Two wrong answers that the promise rules out: numbers stored from the front wherever `at` is, and their count for the place after them.
 pub fn copy(from: &[i64], to: &mut [i64], at: usize) -> usize
     ensures { λ r. ⌜ r ≡ min (at + length (now (from .entry))) (length (now (to .entry))) ⌝ }
     ensures { λ _. ⌜ now (to .exit) ≡ sets (now (to .entry)) at (now (from .entry)) ⌝ }

@@ -6,8 +6,8 @@ use mathlib.Core.List.{List, [], _∷_, _++_, append-assoc}
 use Prim.Native.Nat.{ℕ, zero, suc, _+_, _-_, _*_, _≤_, _<_, min}
 use native.Mathlib.Numerals.{add-one}
 use native.Mathlib.Omega.{arith}
-use lib.ListN.{length, getD, set, length-set, length-append, List·getD-append}
-use lib.Seq.{sets, length-sets, set-out, getD-set-same, getD-set-other, getD-append-add}
+use lib.ListN.{length, getD, take, drop, set, length-set, length-append, List·getD-append}
+use lib.Seq.{sets, length-sets, drop-cons, set-out, getD-set-same, getD-set-other, getD-append-add, take-append-seam, drop-at}
 use Rattle.numbers.specs.law.Items.{over}
 use Rattle.numbers.specs.inside.OverlayLaws.{sets-append}
 
@@ -39,6 +39,9 @@ module _ {ℓ} {A : Type ℓ} where
   stored-none old i (x ∷ xs) h = rw (set-out old i x (omega (arith, h))) (stored-none old (suc i) xs (omega (arith, h)))
 
 -- ---- one piece after another
+
+pub drop-next {ℓ} : {A : Type ℓ} (xs : List A) (i : ℕ) (d : A) → i < length xs → drop i xs ≡ getD xs i d ∷ drop (i + 1) xs
+drop-next xs i d h = rw (add-one, drop-cons xs i d)
 
 -- what is placed, and `rest` that is still to be placed from `at` on, make up `whole` placed from `start` on
 pub record Placing {ℓ} {A : Type ℓ} (old now : List A) (start : ℕ) (whole : List A) (at : ℕ) (rest : List A) : Type ℓ where
@@ -126,11 +129,27 @@ module _ {ℓ} {A : Type ℓ} {f : ℕ → List A} {n : ℕ} {place : ℕ → �
       let all = length-append (f i) (over f (suc i) c) in
       omega (arith, ap place e, all, r .next i (omega (arith, h)), rows-length (suc i) c (omega (arith, h)))
 
-  -- item k of row j
-  pub row-at : (j k : ℕ) (d : A) → j < n → k < length (f j) → getD (over f 0 n) (place j + k) d ≡ getD (f j) k d
-  row-at j k d h l =
+  -- row j stands between those before it and those after it
+  record Within (j : ℕ) : Type ℓ where
+    parts : over f 0 n ≡ over f 0 j ++ (f j ++ over f (j + 1) (n - (j + 1)))
+    before : length (over f 0 j) ≡ place j
+    ends : place j + length (f j) ≤ length (over f 0 n)
+
+  within : (j : ℕ) → j < n → Within j
+  within j h =
       let e : n ≡ j + (n - j) = omega arith in
       let z : 0 + j ≡ j = omega arith in
-      let s : place j ≡ length (over f 0 j) = omega (arith, r .first, rows-length 0 j (omega arith), ap place z) in
-      let w : over f 0 n ≡ over f 0 j ++ over f j (n - j) = ap (over f 0) e ∙ rows-split f 0 j (n - j) ∙ rw z in
-      rw (w, s, getD-append-add (over f 0 j), rows-turn f j n h) (List·getD-append (f j) _ d k l)
+      let parts : over f 0 n ≡ over f 0 j ++ (f j ++ over f (j + 1) (n - (j + 1))) = ap (over f 0) e ∙ rows-split f 0 j (n - j) ∙ rw (z, rows-turn f j n h) in
+      let before : length (over f 0 j) ≡ place j = omega (arith, r .first, rows-length 0 j (omega arith), ap place z) in
+      record { parts = parts; before = before; ends = omega (arith, simp length-append at (ap length parts)) }
+
+  pub row-at : (j k : ℕ) (d : A) → j < n → k < length (f j) → getD (over f 0 n) (place j + k) d ≡ getD (f j) k d
+  row-at j k d h l = let w = within j h in rw (w .parts, sym (w .before), getD-append-add (over f 0 j)) (List·getD-append (f j) _ d k l)
+
+  pub row-part : (j : ℕ) → j < n → take (length (f j)) (drop (place j) (over f 0 n)) ≡ f j
+  row-part j h = let w = within j h in rw (w .parts, drop-at (over f 0 j) _ (place j) (w .before)) (take-append-seam (f j) _)
+
+  -- item k of row j, where all rows are stored from `start` on
+  pub stored-row : (old : List A) (start j k : ℕ) (d : A) → j < n → k < length (f j) → start + (place j + k) < length old
+      → getD (sets old start (over f 0 n)) (start + (place j + k)) d ≡ getD (f j) k d
+  stored-row old start j k d h l room = stored-at old start (over f 0 n) (place j + k) d (omega (arith, l, within j h .ends)) room ∙ row-at j k d h l

@@ -1,21 +1,16 @@
 -- What the list holds at the end stays the same: the numbers from `i` on are still to be placed after the first i. Of those that find no place none is stored.
-use mathlib.Core.Path.{_≡_, sym, _∙_}
-use mathlib.Core.List.{_∷_}
+use mathlib.Core.Path.{_≡_, sym}
 use mathlib.Core.Logic.{⊎-elim}
 use Prim.Native.Nat.{_+_, _-_, _≤_, _<_, min}
-use native.Mathlib.Numerals.{add-one}
 use borrow.Author.Needs.{needs}
 use native.Mathlib.Omega.{arith}
 use lib.IntN.{pos}
-use lib.ListN.{length, drop, getD, length-drop}
-use lib.Seq.{drop-cons}
+use lib.ListN.{length, drop, length-drop}
 use mir.Facts.{toZ-ofZ}
 use Rattle.numbers.specs.inside.SignedLocals.{element}
-use Rattle.numbers.specs.inside.Pieces.{Placing, placing, place-one, place-full, stored-none}
+use Rattle.numbers.specs.inside.Pieces.{drop-next, Placing, placing, place-one, place-full, stored-none}
 use Rattle.numbers.proofs.lists.copy.Statement.{statement}
 use Rattle.numbers.proofs.lists.copy.Tie as tie
-use Rattle.numbers.proofs.lists.copy.Reads as reads
-use Rattle.numbers.proofs.lists.copy.Lts as lts
 
 abbrev Inv-loop : tie.InvT-loop
 Inv-loop from to₀ at count i₀ to i =
@@ -44,8 +39,7 @@ loop-again c =
     let l = c .before .before in
     let a = l .before .before .before .args in
     let v = toZ-ofZ (element (a .from .now) (l .loop .i) (c .to .given)) in
-    let e : drop (l .loop .i) (a .from .now) ≡ getD (a .from .now) (l .loop .i) (pos 0) ∷ drop (l .loop .i + 1) (a .from .now) =
-    rw (add-one, drop-cons (a .from .now) (l .loop .i) (pos 0) (omega arith)) in
+    let e = drop-next (a .from .now) (l .loop .i) (pos 0) (omega arith) in
     let d : a .at + (l .loop .i + 1) ≡ a .at + l .loop .i + 1 = omega arith in
     (omega arith, l .loop .inv .1, rw (v, d) (place-one (l .loop .inv .2) e))
 
@@ -58,5 +52,5 @@ returns-2 c =
 pub copy-spec : {M : Type 1} → statement M
 copy-spec = tie.close (tie.spec
     Inv-loop μ-loop returns (λ c. search needs) loop-holds (λ c. omega arith) (λ c. omega arith) (λ c. omega (arith, free (c .before)))
-    (λ c. omega (arith, free (c .before))) (λ c. free (c .before)) (λ c. omega arith) (λ c. omega arith) loop-again
+    (λ c. omega (arith, free (c .before))) (λ c. omega (arith, free (c .before))) (λ c. omega arith) (λ c. omega arith) loop-again
     (λ c. omega arith) (λ c. c .before .before .loop .inv .2 .kept) returns-2)

@@ -38,7 +38,7 @@ returns c =
 add-count : tie.Need-add-count Inv-loop μ-loop
 add-count c =
     let e = c .before .before .before .before .before in
-    omega (arith, e .if1 .left, e .before .before .loop .inv .whole)
+    omega (arith, e .if1 .left, e .before .before .loop .inv .placed .kept)
 
 add-at : tie.Need-add-at Inv-loop μ-loop
 add-at c =
@@ -75,7 +75,7 @@ place-fits c =
     record { fits = omega (arith, asked (c .before) .1, length-drop (l .loop .at) bytes, l .loop .inv .inside) }
 
 same-length-2 : tie.Need-same-length-2 Inv-loop μ-loop
-same-length-2 c = c .before .before .before .before .before .before .loop .inv .whole
+same-length-2 c = c .before .before .before .before .before .before .loop .inv .placed .kept
 
 returns-2 : tie.Need-returns-2 Inv-loop μ-loop
 returns-2 c =
@@ -93,7 +93,7 @@ returns-3 c =
 
 pub read-spec : {M : Type 1} → statement M
 read-spec = tie.close (tie.spec
-    Inv-loop μ-loop loop-holds (λ c. c .before .before .loop .inv .whole) returns (λ c κs. search needs)
+    Inv-loop μ-loop loop-holds (λ c. c .before .before .loop .inv .placed .kept) returns (λ c κs. search needs)
     (λ c. search needs) (λ c κs. search needs) (λ c. search needs) (λ c. search needs) add-count add-at loop-less
     loop-again (λ c. search needs) place-fits (λ c. omega (arith, asked (c .before) .0)) same-length-2 returns-2
-    (λ c. c .before .loop .inv .whole) returns-3)
+    (λ c. c .before .loop .inv .placed .kept) returns-3)
