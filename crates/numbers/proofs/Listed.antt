@@ -25,7 +25,8 @@ groupsAt list i = groups (unsignedOf (getD list i (pos 0)))
 encode-from : (list : List ℤ) (i : ℕ) → i < length list → encode (drop i list) ≡ groupsAt list i ++ encode (drop (i + 1) list)
 encode-from list i h = rw (drop-next list i (pos 0))
 
-length-from : (list : List ℤ) (i : ℕ) → i < length list → length (encode (drop i list)) ≡ length (groupsAt list i) + length (encode (drop (i + 1) list))
+length-from : (list : List ℤ) (i : ℕ) → i < length list
+    → length (encode (drop i list)) ≡ length (groupsAt list i) + length (encode (drop (i + 1) list))
 length-from list i h = ap length (encode-from list i h) ∙ length-append (groupsAt list i) (encode (drop (i + 1) list))
 
 encode-past : (list : List ℤ) (i : ℕ) → length list ≤ i → encode (drop i list) ≡ []
@@ -97,7 +98,8 @@ module _ (list : List ℤ) (bytes : List ℕ) where
   unfolding sizeOf
   too-long e = go (leb (length (encode list)) (length bytes)) refl e
     where
-      go : (b : Bool) → leb (length (encode list)) (length bytes) ≡ b → cond b (Fits (length (encode list))) Over ≡ Over → length bytes < length (encode list)
+      go : (b : Bool) → leb (length (encode list)) (length bytes) ≡ b → cond b (Fits (length (encode list))) Over ≡ Over
+          → length bytes < length (encode list)
       go true t e = let z : _≡_ {A = ℕ} 0 1 = cc in let f : ⊥ = omega arith in absurd f
       go false t e = leb-false _ _ t
 

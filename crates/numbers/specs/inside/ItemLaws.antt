@@ -59,7 +59,8 @@ over-yes f i (suc c) e zero p =
     rw z (orElse-first (firstNo (f i)) (firstNo (over f (suc i) c)) (sym (firstNo-append (f i) (over f (suc i) c)) ∙ e))
 over-yes f i (suc c) e (suc j) p =
     let z : i + suc j ≡ suc i + j = omega arith in
-    rw z (over-yes f (suc i) c (orElse-second (firstNo (f i)) (firstNo (over f (suc i) c)) (sym (firstNo-append (f i) (over f (suc i) c)) ∙ e)) j (omega arith))
+    let s = orElse-second (firstNo (f i)) (firstNo (over f (suc i) c)) (sym (firstNo-append (f i) (over f (suc i) c)) ∙ e) in
+    rw z (over-yes f (suc i) c s j (omega arith))
 
 pub zero-add : (n : ℕ) → 0 + n ≡ n
 zero-add n = omega arith

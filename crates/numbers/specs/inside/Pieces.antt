@@ -24,7 +24,8 @@ module _ {ℓ} {A : Type ℓ} where
   stored-after old i (x ∷ xs) j d h =
       stored-after (set old i x) (suc i) xs j d (omega (arith, h)) ∙ getD-set-other old i j x d (λ e. let f : ⊥ = omega (arith, h, e) in f)
 
-  pub stored-at : (old : List A) (i : ℕ) (xs : List A) (k : ℕ) (d : A) → k < length xs → i + k < length old → getD (sets old i xs) (i + k) d ≡ getD xs k d
+  pub stored-at : (old : List A) (i : ℕ) (xs : List A) (k : ℕ) (d : A) → k < length xs → i + k < length old
+      → getD (sets old i xs) (i + k) d ≡ getD xs k d
   stored-at old i [] k d h r = let f : ⊥ = omega (arith, h) in absurd f
   stored-at old i (x ∷ xs) zero d h r =
       let e : i + 0 ≡ i = omega arith in
@@ -75,8 +76,8 @@ module _ {ℓ} {A : Type ℓ} {old now : List A} {start : ℕ} {whole : List A} 
   place-full h = sym (stored-none now at rest (omega (arith, h, p .kept))) ∙ p .result
 
 -- one item
-pub place-one {ℓ} : {A : Type ℓ} {old now : List A} {start : ℕ} {whole : List A} {at : ℕ} {x : A} {rest left : List A} → Placing old now start whole at rest
-    → rest ≡ x ∷ left → Placing old (set now at x) start whole (at + 1) left
+pub place-one {ℓ} : {A : Type ℓ} {old now : List A} {start : ℕ} {whole : List A} {at : ℕ} {x : A} {rest left : List A}
+    → Placing old now start whole at rest → rest ≡ x ∷ left → Placing old (set now at x) start whole (at + 1) left
 place-one p e = place-turn p (_ ∷ []) _ e refl refl
 
 -- ---- rows one after the other
@@ -107,7 +108,8 @@ module _ {ℓ} {A : Type ℓ} {old now : List A} {start : ℕ} {f : ℕ → List
   pub row-room : i < n → start + length (over f 0 n) ≤ length old → at + length (f i) ≤ length now
   row-room h = place-room (p .placed) (f i) _ (rows-turn f i n h)
 
-  pub row-turn : i < n → {next : List A} {after : ℕ} → next ≡ sets now at (f i) → after ≡ at + length (f i) → PlacingRows old next start f n after (i + 1)
+  pub row-turn : i < n → {next : List A} {after : ℕ} → next ≡ sets now at (f i) → after ≡ at + length (f i)
+      → PlacingRows old next start f n after (i + 1)
   row-turn h e a = record { upto = omega arith; placed = place-turn (p .placed) (f i) _ (rows-turn f i n h) e a }
 
   pub row-end : n ≤ i → (at ≡ start + length (over f 0 n)) × (now ≡ sets old start (over f 0 n))
@@ -139,7 +141,8 @@ module _ {ℓ} {A : Type ℓ} {f : ℕ → List A} {n : ℕ} {place : ℕ → �
   within j h =
       let e : n ≡ j + (n - j) = omega arith in
       let z : 0 + j ≡ j = omega arith in
-      let parts : over f 0 n ≡ over f 0 j ++ (f j ++ over f (j + 1) (n - (j + 1))) = ap (over f 0) e ∙ rows-split f 0 j (n - j) ∙ rw (z, rows-turn f j n h) in
+      let parts : over f 0 n ≡ over f 0 j ++ (f j ++ over f (j + 1) (n - (j + 1))) =
+      ap (over f 0) e ∙ rows-split f 0 j (n - j) ∙ rw (z, rows-turn f j n h) in
       let before : length (over f 0 j) ≡ place j = omega (arith, r .first, rows-length 0 j (omega arith), ap place z) in
       record { parts = parts; before = before; ends = omega (arith, simp length-append at (ap length parts)) }
 

@@ -60,7 +60,8 @@ loop-again c =
     let n = c .before .before in
     let e = n .before .before .before in
     let i = e .before in
-    let v : toZ w64 (ofZ w64 (c .signed .result)) ≡ signedOf (n .n .given .0 .0) = toZ-ofZ {w = w64} (record { sfits = c .signed .ok }) ∙ c .signed .ensures in
+    let v : toZ w64 (ofZ w64 (c .signed .result)) ≡ signedOf (n .n .given .0 .0) =
+    toZ-ofZ {w = w64} (record { sfits = c .signed .ok }) ∙ c .signed .ensures in
     rw v (store-turn (i .before .loop .inv) (i .loop-test .taken) (e .if1 .left) (number-is n))
 
 -- at least one byte was asked for, and at most one more than there are
