@@ -22,7 +22,7 @@ pub extern "C" fn gasplan_read(bytes: &[u8], list: &mut [i64], out: &mut [i64]) 
     }
     let r = numbers::reader::read(bytes, list);
     match r {
-        Reading::Count(count) => crate::tell::count(out, count),
+        Reading::Count(count) => crate::tell::values(out, [count as i64, 0, 0, 0, 0, 0], 1),
         Reading::Refused { number, place } => crate::tell::refusal(out, number, 0, place),
     }
 }
@@ -39,7 +39,7 @@ pub extern "C" fn gasplan_write(list: &[i64], bytes: &mut [u8], out: &mut [i64])
     }
     let r = numbers::writer::write(list, bytes);
     match r {
-        Writing::Count(count) => crate::tell::count(out, count),
+        Writing::Count(count) => crate::tell::values(out, [count as i64, 0, 0, 0, 0, 0], 1),
         Writing::Refused { number, place } => crate::tell::refusal(out, number, 0, place),
     }
 }

@@ -80,14 +80,17 @@ fn tell_verdict(out: &mut [i64], v: Verdict) -> i64
         Verdict::Accepted(t) => {
             let switching = t.switching as i64;
             let residual = t.residual as i64;
-            crate::tell::six(
+            crate::tell::values(
                 out,
-                t.pressure,
-                t.demand,
-                switching,
-                residual,
-                t.opening,
-                t.closing,
+                [
+                    t.pressure,
+                    t.demand,
+                    switching,
+                    residual,
+                    t.opening,
+                    t.closing,
+                ],
+                6,
             )
         }
         Verdict::Refused {

@@ -37,7 +37,11 @@ fn tell_ledger(out: &mut [i64], v: Ledger) -> i64
             let nodes = f.nodes as i64;
             let pipes = f.pipes as i64;
             let residual = f.residual as i64;
-            crate::tell::six(out, nodes, pipes, f.opening, f.closing, f.brought, residual)
+            crate::tell::values(
+                out,
+                [nodes, pipes, f.opening, f.closing, f.brought, residual],
+                6,
+            )
         }
         Ledger::Refused {
             number,

@@ -36,7 +36,7 @@ fn tell_settlement(out: &mut [i64], v: Settlement) -> i64
             let cut = f.cut as i64;
             let sender = f.sender as i64;
             let receiver = f.receiver as i64;
-            crate::tell::five(out, f.total, agreed, cut, sender, receiver)
+            crate::tell::values(out, [f.total, agreed, cut, sender, receiver, 0], 5)
         }
         Settlement::Refused {
             number,

@@ -1,18 +1,18 @@
 -- The numbers of a list, counted and placed one after the other: what is done, and the encoding of what is left, make up the whole encoding.
 -- Assumes nothing.
-use mathlib.Core.Path.{_≡_, refl, ap, sym, _∙_}
+use mathlib.Core.Path.{_≡_, refl, ap, _∙_}
 use mathlib.Core.Bool.{Bool, true, false, cond}
 use mathlib.Core.List.{List, [], _∷_, _++_}
 use Prim.Native.Nat.{ℕ, _+_, _-_, _≤_, _<_}
-use native.Mathlib.Numerals.{add-one}
 use native.Mathlib.Omega.{arith}
 use borrow.Author.Tests.{le-leb, lt-leb, leb-true, leb-false}
 use lib.IntN.{ℤ, pos}
 use lib.Dec.{leb}
 use lib.ListN.{length, getD, drop, length-append, drop-of-length-le}
-use lib.Seq.{sets, length-sets, drop-cons}
+use lib.Seq.{sets}
 use Rattle.numbers.specs.law.Told.{gives, refuses}
-use Rattle.numbers.specs.inside.OverlayLaws.{overlay-sets, sets-append}
+use Rattle.numbers.specs.inside.OverlayLaws.{overlay-sets}
+use Rattle.numbers.specs.inside.Pieces.{drop-next, Placing, placing, place-room, place-turn, place-end}
 use Rattle.numbers.specs.law.Groups.{groups, encode, writeTold, written}
 use Rattle.numbers.specs.inside.GroupLaws.{sizeOf}
 use Rattle.numbers.specs.law.Mapping.{unsignedOf}
@@ -23,9 +23,10 @@ abbrev pub groupsAt : List ℤ → ℕ → List ℕ
 groupsAt list i = groups (unsignedOf (getD list i (pos 0)))
 
 encode-from : (list : List ℤ) (i : ℕ) → i < length list → encode (drop i list) ≡ groupsAt list i ++ encode (drop (i + 1) list)
-encode-from list i h = rw (add-one, drop-cons list i (pos 0))
+encode-from list i h = rw (drop-next list i (pos 0))
 
-length-from : (list : List ℤ) (i : ℕ) → i < length list → length (encode (drop i list)) ≡ length (groupsAt list i) + length (encode (drop (i + 1) list))
+length-from : (list : List ℤ) (i : ℕ) → i < length list
+    → length (encode (drop i list)) ≡ length (groupsAt list i) + length (encode (drop (i + 1) list))
 length-from list i h = ap length (encode-from list i h) ∙ length-append (groupsAt list i) (encode (drop (i + 1) list))
 
 encode-past : (list : List ℤ) (i : ℕ) → length list ≤ i → encode (drop i list) ≡ []
@@ -61,31 +62,21 @@ size-end {list} {room} {total} {i} s h =
 -- what is to be placed from `at` on is the numbers from i on
 pub record Filling (list : List ℤ) (old bytes : List ℕ) (at i : ℕ) : Type 0 where
   pub upto : i ≤ length list
-  pub whole : length bytes ≡ length old
-  pub ends : at + length (encode (drop i list)) ≡ length (encode list)
-  pub result : sets bytes at (encode (drop i list)) ≡ sets old 0 (encode list)
+  pub placed : Placing old bytes 0 (encode list) at (encode (drop i list))
 
 pub filling : (list : List ℤ) (old : List ℕ) → Filling list old old 0 0
-filling list old = record { upto = omega arith; whole = refl; ends = omega arith; result = refl }
+filling list old = record { upto = omega arith; placed = placing old 0 (encode list) }
 
 module _ {list : List ℤ} {old bytes : List ℕ} {at i : ℕ} (f : Filling list old bytes at i) where
   pub fill-room : i < length list → length (encode list) ≤ length old → at + length (groupsAt list i) ≤ length bytes
-  fill-room h k = omega (arith, f .ends, f .whole, length-from list i h)
+  fill-room h k = place-room (f .placed) (groupsAt list i) _ (encode-from list i h) (omega (arith, k))
 
-  pub fill-turn : i < length list → {next : List ℕ} {at′ : ℕ} → next ≡ sets bytes at (groupsAt list i)
-      → at′ ≡ at + length (groupsAt list i) → Filling list old next at′ (i + 1)
-  fill-turn h {next} {at′} e d = record {
-    upto = omega arith;
-    whole = ap length e ∙ length-sets bytes at (groupsAt list i) ∙ f .whole;
-    ends = omega (arith, d, f .ends, length-from list i h);
-    result =
-        rw (e, d) (sym (sets-append bytes at (groupsAt list i) (encode (drop (i + 1) list))))
-        ∙ ap (sets bytes at) (sym (encode-from list i h))
-        ∙ f .result;
-  }
+  pub fill-turn : i < length list → {next : List ℕ} {after : ℕ} → next ≡ sets bytes at (groupsAt list i)
+      → after ≡ at + length (groupsAt list i) → Filling list old next after (i + 1)
+  fill-turn h e d = record { upto = omega arith; placed = place-turn (f .placed) (groupsAt list i) _ (encode-from list i h) e d }
 
   pub fill-end : length list ≤ i → bytes ≡ sets old 0 (encode list)
-  fill-end h = ap (sets bytes at) (sym (encode-past list i h)) ∙ f .result
+  fill-end h = place-end (f .placed) (encode-past list i h) .1
 
 -- ---- writing
 
@@ -107,7 +98,8 @@ module _ (list : List ℤ) (bytes : List ℕ) where
   unfolding sizeOf
   too-long e = go (leb (length (encode list)) (length bytes)) refl e
     where
-      go : (b : Bool) → leb (length (encode list)) (length bytes) ≡ b → cond b (Fits (length (encode list))) Over ≡ Over → length bytes < length (encode list)
+      go : (b : Bool) → leb (length (encode list)) (length bytes) ≡ b → cond b (Fits (length (encode list))) Over ≡ Over
+          → length bytes < length (encode list)
       go true t e = let z : _≡_ {A = ℕ} 0 1 = cc in let f : ⊥ = omega arith in absurd f
       go false t e = leb-false _ _ t
 

@@ -1,45 +1,44 @@
 -- Groups placed in the lent bytes: by a loop, by which what the bytes hold at the end stays the same; and in two goes, of which the later stands.
 -- Assumes nothing.
-use mathlib.Core.Path.{_≡_, refl, ap, sym, subst, _∙_}
+use mathlib.Core.Path.{_≡_, ap, sym, subst, _∙_}
 use mathlib.Core.List.{List, _++_, append-assoc}
 use Prim.Native.Nat.{ℕ, suc, _+_, _*_, _-_, _/_, _%_, _^_, _≤_, _<_}
 use native.Mathlib.Omega.{arith}
-use lib.ListN.{length, set, length-set}
+use lib.ListN.{length, set}
 use lib.Seq.{sets}
 use Rattle.numbers.specs.law.Groups.{groups}
 use Rattle.numbers.specs.inside.OverlayLaws.{sets-append, sets-over}
+use Rattle.numbers.specs.inside.Pieces.{Placing, placing, place-one, place-end}
 use Rattle.numbers.specs.inside.LeadingGroups.{leading, past, inGroups, Grouped}
 use Rattle.numbers.specs.inside.LeadingGroups.{leading-length, in-groups-length, leading-split, past-split, past-shift}
 
 -- what is to be placed after the first i groups are those of `rest`
-pub record Placing (old : List ℕ) (at m count : ℕ) (bytes : List ℕ) (rest i : ℕ) : Type 0 where
+pub record Leading (old : List ℕ) (at m count : ℕ) (bytes : List ℕ) (rest i : ℕ) : Type 0 where
   pub upto : i ≤ count
-  pub whole : length bytes ≡ length old
   pub left : past (count - i) rest ≡ past count m
-  pub result : sets bytes (at + i) (leading (count - i) rest) ≡ sets old at (leading count m)
+  pub placed : Placing old bytes at (leading count m) (at + i) (leading (count - i) rest)
 
-pub placing : (old : List ℕ) (at m count : ℕ) → Placing old at m count old m 0
-placing old at m count =
+pub lead-first : (old : List ℕ) (at m count : ℕ) → Leading old at m count old m 0
+lead-first old at m count =
     let e : count - 0 ≡ count = omega arith in
     let d : at + 0 ≡ at = omega arith in
-    record { upto = omega arith; whole = refl; left = rw e; result = rw (e, d) }
+    record { upto = omega arith; left = rw e; placed = rw (e, d) (placing old at (leading count m)) }
 
-module _ {old : List ℕ} {at m count : ℕ} {bytes : List ℕ} {rest i : ℕ} (p : Placing old at m count bytes rest i) where
-  pub place-turn : i < count → Placing old at m count (set bytes (at + i) (rest % 128 + 128)) (rest / 128) (i + 1)
-  place-turn h =
+module _ {old : List ℕ} {at m count : ℕ} {bytes : List ℕ} {rest i : ℕ} (p : Leading old at m count bytes rest i) where
+  pub lead-turn : i < count → Leading old at m count (set bytes (at + i) (rest % 128 + 128)) (rest / 128) (i + 1)
+  lead-turn h =
       let e : count - i ≡ suc (count - (i + 1)) = omega arith in
-      let d : at + (i + 1) ≡ suc (at + i) = omega arith in
+      let d : at + (i + 1) ≡ at + i + 1 = omega arith in
       record {
         upto = omega arith;
-        whole = length-set bytes (at + i) (rest % 128 + 128) ∙ p .whole;
         left = ap (λ (n : ℕ). past n rest) (sym e) ∙ p .left;
-        result = rw d (ap (λ (n : ℕ). sets bytes (at + i) (leading n rest)) (sym e) ∙ p .result);
+        placed = rw d (place-one (p .placed) (ap (λ (n : ℕ). leading n rest) e));
       }
 
-  pub place-end : count ≤ i → (rest ≡ past count m) × (bytes ≡ sets old at (leading count m))
-  place-end h =
-      let e : 0 ≡ count - i = omega arith in
-      (ap (λ (n : ℕ). past n rest) e ∙ p .left, ap (λ (n : ℕ). sets bytes (at + i) (leading n rest)) e ∙ p .result)
+  pub lead-end : count ≤ i → (rest ≡ past count m) × (bytes ≡ sets old at (leading count m))
+  lead-end h =
+      let e : count - i ≡ 0 = omega arith in
+      (ap (λ (n : ℕ). past n rest) (sym e) ∙ p .left, place-end (p .placed) (ap (λ (n : ℕ). leading n rest) e) .1)
 
 -- ---- all groups of a number, one after the other
 

@@ -1,16 +1,16 @@
 -- The numbers of the bytes, stored one after the other in the lent list: what is stored, and what is still read, make up the whole reading.
 -- Assumes nothing.
-use mathlib.Core.Path.{_≡_, refl, ap, sym, _∙_}
+use mathlib.Core.Path.{_≡_, ap, _∙_}
 use mathlib.Core.List.{List}
 use Prim.Native.Nat.{ℕ, zero, suc, _+_, _-_, _≤_, _<_}
-use native.Mathlib.Numerals.{add-one}
 use native.Mathlib.Omega.{arith}
 use lib.IntN.{ℤ}
-use lib.ListN.{length, drop, set, length-set, length-drop, drop-of-length-le}
-use lib.Seq.{sets, drop-cons, drop-drop}
+use lib.ListN.{length, drop, set, length-drop, drop-of-length-le}
+use lib.Seq.{drop-cons, drop-drop}
 use Rattle.numbers.specs.law.Mapping.{signedOf}
 use Rattle.numbers.specs.law.Told.{overlay}
 use Rattle.numbers.specs.inside.OverlayLaws.{overlay-sets}
+use Rattle.numbers.specs.inside.Pieces.{Placing, placing, place-one, place-end}
 use Rattle.numbers.specs.inside.ReadingBounds.{used-some}
 use Rattle.numbers.specs.law.Reading.{numberOf, Read, Ending, all, no, stopped, withFirst, afterNumber, readFrom, readOf, readTold, endTold}
 use Rattle.numbers.specs.declared.reader.Number.the-variants.{Whole, Refused}
@@ -34,23 +34,14 @@ read-number room at bytes h = rw (drop-cons bytes at 0 h)
 pub record Storing (bytes : List ℕ) (old list : List ℤ) (at count : ℕ) : Type 0 where
   pub inside : at ≤ length bytes
   pub upto : count ≤ length old
-  pub whole : length list ≡ length old
   pub ended : readOf bytes (length old) .ended ≡ readFrom (length old - count) at (drop at bytes) .ended
-  pub counted : length (readOf bytes (length old) .stored) ≡ count + length (readFrom (length old - count) at (drop at bytes) .stored)
-  pub result : sets old 0 (readOf bytes (length old) .stored) ≡ sets list count (readFrom (length old - count) at (drop at bytes) .stored)
+  pub placed : Placing old list 0 (readOf bytes (length old) .stored) count (readFrom (length old - count) at (drop at bytes) .stored)
 
 pub storing : (bytes : List ℕ) (old : List ℤ) → Storing bytes old old 0 0
 unfolding readOf
 storing bytes old =
     let e : length old - 0 ≡ length old = omega arith in
-    record {
-      inside = omega arith;
-      upto = omega arith;
-      whole = refl;
-      ended = rw e;
-      counted = rw e (omega arith);
-      result = rw e;
-    }
+    record { inside = omega arith; upto = omega arith; ended = rw e; placed = rw e (placing _ _ _) }
 
 -- a reading that stops at `at`
 pub record Stopped (bytes : List ℕ) (old list : List ℤ) (e : Ending) (count : ℕ) : Type 0 where
@@ -62,19 +53,16 @@ module _ {bytes : List ℕ} {old list : List ℤ} {at count : ℕ} (s : Storing 
   unfolding readTold
   store-stop {e} r =
       let d : readOf bytes (length old) .ended ≡ e = s .ended ∙ ap (λ (x : Read). x .ended) r in
-      let n : length (readOf bytes (length old) .stored) ≡ count = s .counted ∙ ap (λ (x : Read). count + length (x .stored)) r ∙ omega arith in
-      let l : sets old 0 (readOf bytes (length old) .stored) ≡ list = s .result ∙ ap (λ (x : Read). sets list count (x .stored)) r in
-      record {
-        told = rw (d, n);
-        stored = sym l ∙ overlay-sets (readOf bytes (length old) .stored) old (omega (arith, n, s .upto));
-      }
+      let p = place-end (s .placed) (ap (λ (x : Read). x .stored) r) in
+      let n : length (readOf bytes (length old) .stored) ≡ count = omega (arith, p .0) in
+      record { told = rw (d, n); stored = p .1 ∙ overlay-sets (readOf bytes (length old) .stored) old (omega (arith, n, s .upto)) }
 
   pub store-end : length bytes ≤ at → Stopped bytes old list all count
   store-end h = store-stop (read-end (length old - count) at bytes h)
 
   pub store-full : at < length bytes → length list ≤ count → Stopped bytes old list (no 3 at) count
   store-full h k =
-      let e : length old - count ≡ 0 = omega (arith, s .whole) in
+      let e : length old - count ≡ 0 = omega (arith, s .placed .kept) in
       store-stop (rw e (read-full at bytes h))
 
   -- one number more to read
@@ -82,7 +70,7 @@ module _ {bytes : List ℕ} {old list : List ℤ} {at count : ℕ} (s : Storing 
       → readFrom (length old - count) at (drop at bytes)
       ≡ afterNumber at (numberOf (drop at bytes)) (λ used. readFrom (length old - (count + 1)) (at + used) (drop used (drop at bytes)))
   read-one h k =
-      let e : length old - count ≡ suc (length old - (count + 1)) = omega (arith, s .whole) in
+      let e : length old - count ≡ suc (length old - (count + 1)) = omega (arith, s .placed .kept) in
       rw e (read-number (length old - (count + 1)) at bytes h)
 
   pub store-no : {n m : ℕ} → at < length bytes → count < length list → numberOf (drop at bytes) ≡ Refused n m
@@ -96,9 +84,7 @@ module _ {bytes : List ℕ} {old list : List ℤ} {at count : ℕ} (s : Storing 
       let r : readFrom (length old - count) at (drop at bytes) ≡ withFirst (signedOf v) rest = read-one h k ∙ rw (e, drop-drop u at bytes) in
       record {
         inside = omega (arith, used-some (drop at bytes) e, length-drop at bytes);
-        upto = omega (arith, s .whole);
-        whole = length-set list count (signedOf v) ∙ s .whole;
+        upto = omega (arith, s .placed .kept);
         ended = s .ended ∙ ap (λ (x : Read). x .ended) r;
-        counted = s .counted ∙ ap (λ (x : Read). count + length (x .stored)) r ∙ omega arith;
-        result = s .result ∙ ap (λ (x : Read). sets list count (x .stored)) r ∙ rw (add-one count);
+        placed = place-one (s .placed) (ap (λ (x : Read). x .stored) r);
       }

@@ -1,5 +1,6 @@
 -- What proofs need: laws of the definitions, sizes, and what functions inside the crate ask of their callers.
 pub mod OverlayLaws
+pub mod Pieces
 pub mod QuestionLaws
 pub mod ItemLaws
 pub mod SmallRefusals

@@ -1,4 +1,4 @@
-//! The calls that are made with an edit: those of the library, the program, and two functions by themselves.
+//! The calls that are made with an edit: those of the library, the program, and three functions by themselves.
 
 use checker::main as program;
 use gasplan::codec::{gasplan_read, gasplan_write};
@@ -9,6 +9,7 @@ use harness::Judge;
 use inputs::Rng;
 use inputs::damage::any_list;
 use numbers::compare::{at, index};
+use numbers::lists::copy;
 
 use crate::edited::Edited;
 
@@ -70,8 +71,8 @@ fn printed(case: Option<&[u8]>, plan: Option<&[u8]>) -> String {
     }
 }
 
-/// The functions that have a promise for what no call of the library hands to them: a place past a list's end, and a negative number
-/// that is to be an index. The questions before keep both away.
+/// The functions that have a promise for what no call of the library hands to them: a place past a list's end, a negative number
+/// that is to be an index, and numbers that are copied behind others or past the end. Their callers keep these away.
 pub fn by_themselves(edited: &Edited, seed: u64) {
     let list = any_list(&mut Rng::new(seed), 6);
     for i in 0..list.len() + 2 {
@@ -81,5 +82,13 @@ pub fn by_themselves(edited: &Edited, seed: u64) {
     for &x in &list {
         let index_of = edited.named("numbers::compare::index");
         index_of.held(|| index(x), |a, b| format!("gives {a}, for {b}"));
+    }
+    for place in 0..list.len() + 2 {
+        let copied = edited.named("numbers::lists::copy");
+        let call = || {
+            let mut to = list.clone();
+            (copy(&list[list.len() / 2..], &mut to, place), to)
+        };
+        copied.held(call, |a, b| format!("leaves {a:?}, for {b:?}"));
     }
 }

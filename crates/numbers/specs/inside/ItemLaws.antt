@@ -3,25 +3,23 @@
 use mathlib.Core.Path.{_≡_, refl, ap, sym, _∙_}
 use mathlib.Core.List.{List}
 use Prim.Native.Nat.{ℕ, zero, suc, _+_, _-_, _≤_, _<_}
-use native.Mathlib.Numerals.{add-one}
 use native.Mathlib.Omega.{arith}
 use Rattle.numbers.specs.law.Question.{Question, firstNo, orElse}
 use Rattle.numbers.specs.inside.QuestionLaws.{firstNo-append, orElse-first, orElse-second}
 use Rattle.numbers.specs.declared.answer.Answer.{Answer}
 use Rattle.numbers.specs.declared.answer.Answer.the-variants.{Yes, No}
 use Rattle.numbers.specs.law.Items.{over}
+use Rattle.numbers.specs.inside.Pieces.{rows-turn, rows-done}
 
 -- what a loop at item i of n still has to ask
 abbrev pub rest : (ℕ → List Question) → ℕ → ℕ → Answer
 rest f i n = firstNo (over f i (n - i))
 
 pub rest-turn : (f : ℕ → List Question) (i n : ℕ) → i < n → rest f i n ≡ orElse (firstNo (f i)) (rest f (i + 1) n)
-rest-turn f i n p =
-    let e : n - i ≡ suc (n - (i + 1)) = omega arith in
-    rw (e, add-one i) (firstNo-append (f i) (over f (suc i) (n - suc i)))
+rest-turn f i n p = ap firstNo (rows-turn f i n p) ∙ firstNo-append (f i) (over f (i + 1) (n - (i + 1)))
 
 pub rest-done : (f : ℕ → List Question) (i n : ℕ) → n ≤ i → rest f i n ≡ Yes
-rest-done f i n p = let e : n - i ≡ 0 = omega arith in rw e
+rest-done f i n p = ap firstNo (rows-done f i n p)
 
 module _ (f : ℕ → List Question) (i n : ℕ) {all : Answer} (so-far : all ≡ rest f i n) where
   -- one turn whose answer is yes
@@ -61,7 +59,8 @@ over-yes f i (suc c) e zero p =
     rw z (orElse-first (firstNo (f i)) (firstNo (over f (suc i) c)) (sym (firstNo-append (f i) (over f (suc i) c)) ∙ e))
 over-yes f i (suc c) e (suc j) p =
     let z : i + suc j ≡ suc i + j = omega arith in
-    rw z (over-yes f (suc i) c (orElse-second (firstNo (f i)) (firstNo (over f (suc i) c)) (sym (firstNo-append (f i) (over f (suc i) c)) ∙ e)) j (omega arith))
+    let s = orElse-second (firstNo (f i)) (firstNo (over f (suc i) c)) (sym (firstNo-append (f i) (over f (suc i) c)) ∙ e) in
+    rw z (over-yes f (suc i) c s j (omega arith))
 
 pub zero-add : (n : ℕ) → 0 + n ≡ n
 zero-add n = omega arith

@@ -1,10 +1,9 @@
--- The questions of one item after another.
+-- What each item has, its questions or its row, one item after another.
 -- Assumes nothing.
 use mathlib.Core.List.{List, [], _++_}
 use Prim.Native.Nat.{ℕ, zero, suc}
-use Rattle.numbers.specs.law.Question.{Question}
 
--- the questions of the c items from i on
-abbrev pub over : (ℕ → List Question) → ℕ → ℕ → List Question
+-- what the c items from i on have
+abbrev pub over {ℓ} : {A : Type ℓ} → (ℕ → List A) → ℕ → ℕ → List A
 over f i zero = []
 over f i (suc c) = f i ++ over f (suc i) c

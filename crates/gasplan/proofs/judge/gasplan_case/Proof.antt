@@ -32,7 +32,7 @@ returns-3 c =
     let a = d .before .before .args in
     let e = ap told (sym (r .a .given .1)) ∙ d .judge-case .ensures in
     let w = subst (Small limit) (case-answer _ _ (d .judge-case .ensures) ∙ r .a .given .1) (case-small (now (a .case))) in
-    rw (le-leb _ _ (d .before .if1 .left)) (coded (now (a .out)) e (omega (arith, w .0)) (k .refusal .ensures .0) (k .refusal .ensures .1))
+    coded (now (a .out)) (d .before .if1 .left) e (omega (arith, w .0)) (k .refusal .ensures .0) (k .refusal .ensures .1)
 
 pub gasplan-case-spec : {M : Type 1} → statement M
 gasplan-case-spec = tie.close (tie.spec

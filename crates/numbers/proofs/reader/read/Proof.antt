@@ -38,7 +38,7 @@ returns c =
 add-count : tie.Need-add-count Inv-loop μ-loop
 add-count c =
     let e = c .before .before .before .before .before in
-    omega (arith, e .if1 .left, e .before .before .loop .inv .whole)
+    omega (arith, e .if1 .left, e .before .before .loop .inv .placed .kept)
 
 add-at : tie.Need-add-at Inv-loop μ-loop
 add-at c =
@@ -60,7 +60,8 @@ loop-again c =
     let n = c .before .before in
     let e = n .before .before .before in
     let i = e .before in
-    let v : toZ w64 (ofZ w64 (c .signed .result)) ≡ signedOf (n .n .given .0 .0) = toZ-ofZ {w = w64} (record { sfits = c .signed .ok }) ∙ c .signed .ensures in
+    let v : toZ w64 (ofZ w64 (c .signed .result)) ≡ signedOf (n .n .given .0 .0) =
+    toZ-ofZ {w = w64} (record { sfits = c .signed .ok }) ∙ c .signed .ensures in
     rw v (store-turn (i .before .loop .inv) (i .loop-test .taken) (e .if1 .left) (number-is n))
 
 -- at least one byte was asked for, and at most one more than there are
@@ -75,7 +76,7 @@ place-fits c =
     record { fits = omega (arith, asked (c .before) .1, length-drop (l .loop .at) bytes, l .loop .inv .inside) }
 
 same-length-2 : tie.Need-same-length-2 Inv-loop μ-loop
-same-length-2 c = c .before .before .before .before .before .before .loop .inv .whole
+same-length-2 c = c .before .before .before .before .before .before .loop .inv .placed .kept
 
 returns-2 : tie.Need-returns-2 Inv-loop μ-loop
 returns-2 c =
@@ -93,7 +94,7 @@ returns-3 c =
 
 pub read-spec : {M : Type 1} → statement M
 read-spec = tie.close (tie.spec
-    Inv-loop μ-loop loop-holds (λ c. c .before .before .loop .inv .whole) returns (λ c κs. search needs)
+    Inv-loop μ-loop loop-holds (λ c. c .before .before .loop .inv .placed .kept) returns (λ c κs. search needs)
     (λ c. search needs) (λ c κs. search needs) (λ c. search needs) (λ c. search needs) add-count add-at loop-less
     loop-again (λ c. search needs) place-fits (λ c. omega (arith, asked (c .before) .0)) same-length-2 returns-2
-    (λ c. c .before .loop .inv .whole) returns-3)
+    (λ c. c .before .loop .inv .placed .kept) returns-3)

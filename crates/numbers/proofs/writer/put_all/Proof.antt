@@ -50,4 +50,4 @@ returns c = fill-end (c .before .loop .inv) (c .loop-test .left)
 pub put-all-spec : {M : Type 1} → statement M
 put-all-spec = tie.close (tie.spec
     Inv-loop μ-loop loop-holds (λ c. search needs) (λ c. search needs) (λ c κs. search needs) put-requires
-    (λ c. omega arith) (λ c. omega arith) loop-again (λ c. c .before .loop .inv .whole) returns)
+    (λ c. omega arith) (λ c. omega arith) loop-again (λ c. c .before .loop .inv .placed .kept) returns)
