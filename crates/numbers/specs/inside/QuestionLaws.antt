@@ -64,6 +64,14 @@ first-yes X Y e = orElse-first (firstNo X) (firstNo Y) (sym (firstNo-append X Y)
 pub second-yes : (X Y : List Question) → firstNo (X ++ Y) ≡ Yes → firstNo Y ≡ Yes
 second-yes X Y e = orElse-second (firstNo X) (firstNo Y) (sym (firstNo-append X Y) ∙ e)
 
+-- two groups, of which the code goes on to the second only past a yes to the first
+module _ (X Y : List Question) {a : Answer} (e : a ≡ firstNo X) where
+  pub went-on : {b : Answer} → a ≡ Yes → b ≡ firstNo Y → b ≡ firstNo (X ++ Y)
+  went-on y h = h ∙ rw (firstNo-append X Y, sym e ∙ y)
+
+  pub stopped : {n s p : ℕ} → a ≡ No n s p → a ≡ firstNo (X ++ Y)
+  stopped y = y ∙ rw (firstNo-append X Y, sym e ∙ y)
+
 -- a question of two tests
 pub and-first : (a b : Bool) → (a && b) ≡ true → a ≡ true
 and-first true b e = refl

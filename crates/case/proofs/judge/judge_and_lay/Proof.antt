@@ -6,7 +6,7 @@ use Rattle.numbers.specs.declared.answer.Answer.the-variants.{Yes, No}
 use Rattle.case.specs.law.Judged.{listQuestions, ruleQuestions, caseQuestions, judgedCase}
 use Rattle.case.specs.inside.CountsInRange.{list-counted, list-stations}
 use Rattle.case.specs.inside.CaseRows.{list-ranged}
-use Rattle.case.proofs.Asked.{stopped, went}
+use Rattle.case.proofs.Asked.{stopped, went-on}
 use Rattle.case.proofs.judge.judge_and_lay.Statement.{statement}
 use Rattle.case.proofs.judge.judge_and_lay.Tie as tie
 
@@ -34,7 +34,7 @@ returns c =
     let h = e .before .before in
     let l = now (h .before .args .case) in
     record {
-      told-is = ap told (went (listQuestions l) (ruleQuestions l) (h .list-answer .ensures) (e .enum-told .given .1) (c .rules .ensures));
+      told-is = ap told (went-on (listQuestions l) (ruleQuestions l) (h .list-answer .ensures) (e .enum-told .given .1) (c .rules .ensures));
       passed = λ y. d .lay .ensures;
       refused = λ n s p q. absurd (not-both (passes e) q);
     }

@@ -3,7 +3,7 @@ use Rattle.case.proofs.Common.{needs, _∙_, sym}
 use Rattle.case.specs.law.HeadFields.{headFields}
 use Rattle.case.specs.law.Judged.{rowQuestions, listQuestions}
 use Rattle.case.specs.inside.CountsInRange.{head-counted}
-use Rattle.case.proofs.Asked.{stopped, went}
+use Rattle.case.proofs.Asked.{stopped, went-on}
 use Rattle.case.proofs.judge.list_answer.Statement.{statement}
 use Rattle.case.proofs.judge.list_answer.Tie as tie
 
@@ -12,7 +12,7 @@ rows-requires c κs = head-counted _ (sym (c .before .before .head .ensures) ∙
 
 returns : tie.Need-returns
 unfolding listQuestions
-returns c = went (headFields _) (rowQuestions _) (c .before .before .before .head .ensures) (c .before .enum-told .given .1) (c .rows .ensures)
+returns c = went-on (headFields _) (rowQuestions _) (c .before .before .before .head .ensures) (c .before .enum-told .given .1) (c .rows .ensures)
 
 returns-2 : tie.Need-returns-2
 unfolding listQuestions

@@ -3,7 +3,7 @@ use Rattle.case.proofs.Common.{needs, _∙_, _≡_, sym, now, firstNo, 
 use Rattle.case.specs.law.Judged.{earlyRules, ruleQuestions}
 use Rattle.case.specs.inside.CountsInRange.{rules-sized}
 use Rattle.case.specs.law.States.{allStateSets}
-use Rattle.case.proofs.Asked.{chain, stopped, went}
+use Rattle.case.proofs.Asked.{chain, stopped, went-on}
 use Rattle.case.proofs.rules.rules.Statement.{statement}
 use Rattle.case.proofs.rules.rules.Tie as tie
 
@@ -24,7 +24,7 @@ state-sets-requires c κs =
 
 returns : tie.Need-returns
 unfolding ruleQuestions
-returns c = went (earlyRules _) (allStateSets _) (early (c .before .before .before)) (c .before .enum-told .given .1) (c .state-sets .ensures)
+returns c = went-on (earlyRules _) (allStateSets _) (early (c .before .before .before)) (c .before .enum-told .given .1) (c .state-sets .ensures)
 
 returns-2 : tie.Need-returns-2
 unfolding ruleQuestions

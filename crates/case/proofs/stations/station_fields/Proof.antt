@@ -2,7 +2,7 @@
 use Rattle.case.proofs.Common.{needs, _∙_, sym}
 use Rattle.case.specs.inside.CountsInRange.{station-counted}
 use Rattle.case.specs.law.StationFields.{stationHead, partFields, rowFields}
-use Rattle.case.proofs.Asked.{stopped, went}
+use Rattle.case.proofs.Asked.{stopped, went-on}
 use Rattle.case.proofs.stations.station_fields.Statement.{statement}
 use Rattle.case.proofs.stations.station_fields.Tie as tie
 
@@ -13,7 +13,7 @@ returns : tie.Need-returns
 unfolding rowFields
 returns c =
     let h = c .before .before .before in
-    went (stationHead _ _) (partFields _ (h .before .args .offset)) (h .station-head .ensures) (c .before .enum-told .given .1) (c .part-rows .ensures)
+    went-on (stationHead _ _) (partFields _ (h .before .args .offset)) (h .station-head .ensures) (c .before .enum-told .given .1) (c .part-rows .ensures)
 
 returns-2 : tie.Need-returns-2
 unfolding rowFields

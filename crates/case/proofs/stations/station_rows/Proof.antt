@@ -8,7 +8,7 @@ use Rattle.case.specs.law.Leftover.{leftover}
 use Rattle.case.specs.inside.CountsInRange.{row-counted}
 use Rattle.case.specs.inside.Places.{station-next, end-most}
 use Rattle.case.specs.law.StationFields.{rowFields, stationFields, allStationFields}
-use Rattle.case.proofs.Asked.{stopped, went}
+use Rattle.case.proofs.Asked.{stopped, went-on}
 use Rattle.case.specs.inside.Counts.{StationCounted}
 use Rattle.case.proofs.stations.station_rows.Statement.{statement}
 use Rattle.case.proofs.stations.station_rows.Tie as tie
@@ -64,7 +64,7 @@ returns-2 c =
     let left = c .before .loop-test .left in
     let l = now (h .before .args .case) in
     let e : h .loop .s ≡ stationsOf l = omega (arith, h .before .pre .3, left, v .2 .upto) in
-    went (allStationFields l) (leftover l) (asking-end (v .2) left) refl (c .ask .ensures ∙ rw (v .0 ∙ ap (stationAt l) e, orElse-yes))
+    went-on (allStationFields l) (leftover l) (asking-end (v .2) left) refl (c .ask .ensures ∙ rw (v .0 ∙ ap (stationAt l) e, orElse-yes))
 
 pub station-rows-spec : {M : Type 1} → statement M
 station-rows-spec = tie.close (tie.spec
