@@ -1,4 +1,5 @@
--- What a reader must believe: the definitions that public contracts rest on, and nothing else, in the order to read them in.
+-- What a reader must believe: the definitions that public contracts rest on, in the order to read them in, and beside them only the capacities and extents
+-- that contracts inside lean on.
 pub mod Layout
 pub mod Extents
 pub mod Records
