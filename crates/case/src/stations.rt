@@ -1,10 +1,10 @@
 // 10 and 11 of the station rows, and 12.
 ghost use mathlib.Core.Path.{_≡_};
 ghost use mathlib.Core.List.{_++_};
-ghost use Prim.Native.Nat.{_+_, _<_, _≤_};
+ghost use Prim.Native.Nat.{_+_, _*_, _<_, _≤_};
 ghost use Rattle.numbers.specs.law.Question.{firstNo};
 ghost use Rattle.numbers.specs.law.Items.{over};
-ghost use Rattle.case.specs.law.Extents.{stationExtent, stationsExtent, caseExtent};
+ghost use Rattle.case.specs.law.Extents.{machineExtent, stationExtent, stationsExtent, caseExtent};
 ghost use Rattle.case.specs.law.Layout.{directionCount, stateAt, machineAt, stationEnd, stationAt, stationsOf};
 ghost use Rattle.case.specs.inside.Counts.{StationCounted};
 ghost use Rattle.case.specs.law.StationFields.{firstItems, stationHead, directionFields, stateRowFields, stateFields, machineFields};
@@ -96,7 +96,7 @@ fn state_fields(case: &[i64], at: usize, sets: i64) -> Answer
 }
 
 fn state_rows(case: &[i64], offset: usize, first: usize, directions: usize, states: usize) -> Answer
-    requires { ⌜ (first + 64 ≤ caseExtent + stationExtent) × (first ≡ stateAt (now case) offset 0) × (directions ≤ 8) ×
+    requires { ⌜ (first + 16 * 4 ≤ caseExtent + stationExtent) × (first ≡ stateAt (now case) offset 0) × (directions ≤ 8) ×
         (directions ≡ directionCount (now case) offset) × (states ≤ 16) ⌝ }
     ensures { λ r. ⌜ r ≡ firstNo (over (stateFields (now (case .entry)) offset) 0 states) ⌝ }
 {
@@ -120,7 +120,7 @@ fn state_rows(case: &[i64], offset: usize, first: usize, directions: usize, stat
 }
 
 fn machine_rows(case: &[i64], offset: usize, first: usize, machines: usize) -> Answer
-    requires { ⌜ (first ≤ caseExtent + stationExtent) × (first ≡ machineAt (now case) offset 0) × (machines ≤ 12) ⌝ }
+    requires { ⌜ (first + 12 * machineExtent ≤ caseExtent + stationExtent) × (first ≡ machineAt (now case) offset 0) × (machines ≤ 12) ⌝ }
     ensures { λ r. ⌜ r ≡ firstNo (over (machineFields (now (case .entry)) offset) 0 machines) ⌝ }
 {
     let mut at = first;

@@ -88,16 +88,16 @@ module _ (case : List ℤ) where
   unfolding stationAt
   stations-begin c = arc-early c (arcsOf case) (c .arcs)
 
-  pub direction-early : (offset f : ℕ) → f ≤ 8 → directionAt case offset f ≤ offset + 77
+  pub direction-early : (offset f : ℕ) → f ≤ 8 → directionAt case offset f ≤ offset + 5 + 8 * directionExtent
   unfolding directionAt
   direction-early offset f h = omega (arith, mul-le-mul h direction-width)
 
   module _ (offset : ℕ) (c : StationCounted case offset) where
-    pub state-early : (z : ℕ) → z ≤ 16 → stateAt case offset z ≤ offset + 141
+    pub state-early : (z : ℕ) → z ≤ 16 → stateAt case offset z ≤ offset + 5 + 8 * directionExtent + 16 * 4
     unfolding stateAt
     state-early z h = omega (arith, direction-early offset (directionCount case offset) (c .directions))
 
-    pub machine-early : (m : ℕ) → machineAt case offset m ≤ offset + 141 + m * machineExtent
+    pub machine-early : (m : ℕ) → machineAt case offset m ≤ offset + 5 + 8 * directionExtent + 16 * 4 + m * machineExtent
     unfolding machineAt
     machine-early zero = omega (arith, state-early (stateCount case offset) (c .states))
     machine-early (suc m) = omega (arith, machine-early m, machine-width (machineAt case offset m))

@@ -3,7 +3,7 @@ use Rattle.case.proofs.Common.{needs, arith, _∙_, _≡_, ap, refl, no
 use Prim.Native.Nat.{_*_}
 use Rattle.numbers.specs.law.Items.{over}
 use Rattle.case.specs.law.Extents.{nodeExtent}
-use Rattle.case.specs.law.Layout.{nodeAt}
+use Rattle.case.specs.law.Layout.{headWidth, nodeAt}
 use Rattle.case.specs.law.NodeFields.{nodeRowFields, nodeFields}
 use Rattle.case.specs.inside.Places.{node-width, node-next}
 use Rattle.case.proofs.nodes.node_rows.Statement.{statement}
@@ -11,7 +11,7 @@ use Rattle.case.proofs.nodes.node_rows.Tie as tie
 
 abbrev Inv-loop : tie.InvT-loop
 Inv-loop case steps nodes width offset₀ v₀ offset v =
-    (offset ≡ nodeAt case v) × (offset ≤ 55 + v * nodeExtent) × Asking (nodeFields case) (firstNo (over (nodeFields case) 0 nodes)) v nodes
+    (offset ≡ nodeAt case v) × (offset ≤ headWidth + 48 + v * nodeExtent) × Asking (nodeFields case) (firstNo (over (nodeFields case) 0 nodes)) v nodes
 
 abbrev μ-loop : tie.MeasureT-loop
 μ-loop case steps nodes width offset₀ v₀ offset v = nodes - v

@@ -2,7 +2,7 @@
 use Rattle.case.proofs.Common.{needs, arith, _≡_, refl, now, _+_, _-_, _≤_, firstNo, firstNo-append, Asking, asking, asking-on, asking-no, asking-end}
 use Prim.Native.Nat.{_*_}
 use Rattle.numbers.specs.law.Items.{over}
-use Rattle.case.specs.law.Extents.{directionExtent}
+use Rattle.case.specs.law.Extents.{directionExtent, stationExtent, caseExtent}
 use Rattle.case.specs.law.Layout.{directionAt}
 use Rattle.case.specs.law.StationFields.{directionFields}
 use Rattle.case.specs.inside.Places.{direction-width, direction-next}
@@ -34,7 +34,7 @@ narrow : (c : tie.After-direction-width Inv-loop μ-loop) → c .direction-width
 narrow c = omega (arith, c .direction-width .ensures, direction-width (now (c .before .args .case)))
 
 -- the row begins early
-early : (t : tie.In-loop Inv-loop μ-loop) → t .before .loop .at ≤ 80000
+early : (t : tie.In-loop Inv-loop μ-loop) → t .before .loop .at ≤ caseExtent + stationExtent
 early t = let h = t .before in omega (arith, h .loop .inv .1, t .loop-test .taken, h .before .before .pre)
 
 returns : tie.Need-returns Inv-loop μ-loop

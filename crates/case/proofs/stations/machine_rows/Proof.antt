@@ -13,7 +13,7 @@ use Rattle.case.proofs.stations.machine_rows.Tie as tie
 
 abbrev Inv-loop : tie.InvT-loop
 Inv-loop case offset first machines at₀ m₀ at m =
-    (at ≡ machineAt case offset m) × (at ≤ caseExtent + stationExtent + m * machineExtent)
+    (at ≡ machineAt case offset m) × (at ≤ first + m * machineExtent)
     × Asking (machineFields case offset) (firstNo (over (machineFields case offset) 0 machines)) m machines
 
 abbrev μ-loop : tie.MeasureT-loop
@@ -27,11 +27,11 @@ asked b =
     rw (← h .loop .inv .0, firstNo-append) (chain (b .or-else .ensures) (b .before .before .field .ensures) (b .before .field2 .ensures))
 
 loop-holds : tie.Need-loop-holds Inv-loop μ-loop
-loop-holds c = (c .pre .1, omega (arith, c .pre .0), asking refl)
+loop-holds c = (c .pre .1, omega arith, asking refl)
 
 -- the row begins early
-early : (t : tie.In-loop Inv-loop μ-loop) → t .before .loop .at ≤ 80000
-early t = let h = t .before in omega (arith, h .loop .inv .1, t .loop-test .taken, h .before .pre .2)
+early : (t : tie.In-loop Inv-loop μ-loop) → t .before .loop .at ≤ caseExtent + stationExtent
+early t = let h = t .before in omega (arith, h .loop .inv .1, t .loop-test .taken, h .before .pre .0, h .before .pre .2)
 
 returns : tie.Need-returns Inv-loop μ-loop
 returns c =
