@@ -2,7 +2,7 @@
 ghost use mathlib.Core.Path.{_≡_};
 ghost use Prim.Native.Nat.{_+_, _*_, _<_, _^_, min};
 ghost use lib.ListN.{length};
-ghost use Rattle.case.specs.law.Layout.{numberAt, nodeWidth, nodeAt, arcAt, directionWidth, directionAt, stateAt, machineWidth};
+ghost use Rattle.case.specs.law.Layout.{numberAt, nodeWidth, nodeAt, boundsIn, demandIn, arcAt, directionWidth, directionAt, stateAt, machineWidth};
 ghost use Rattle.case.specs.inside.Counts.{Counts};
 ghost use Rattle.case.specs.law.Field.{lastOf};
 use numbers::compare::index;
@@ -16,7 +16,7 @@ pub(crate) const STATION: usize = 5;
 
 pub(crate) const STATE: usize = 4;
 
-// How far into a node's row its bounds begin, and its demands.
+// How far into a node's row its bounds begin, which hold in every step, and its demands.
 pub const BOUNDS: usize = 2;
 
 pub const DEMANDS: usize = 6;
@@ -77,6 +77,20 @@ pub(crate) fn node_at(case: &[i64], v: usize) -> usize
 {
     let steps = count(case, 0, 4);
     along(case.len(), HEAD + steps, v, node_width(case))
+}
+
+// Where the bounds of the node whose row begins at `offset` stand in the step with index `i`, and where its demand does.
+pub(crate) fn bounds_at(case: &[i64], offset: usize, i: usize) -> usize
+    ensures { λ r. ⌜ r ≡ min (offset + boundsIn (now (case .entry)) i) (length (now (case .entry))) ⌝ }
+{
+    along(case.len(), offset, BOUNDS, 1)
+}
+
+pub(crate) fn demand_at(case: &[i64], offset: usize, i: usize) -> usize
+    ensures { λ r. ⌜ r ≡ min (offset + demandIn (now (case .entry)) i) (length (now (case .entry))) ⌝ }
+{
+    let end = case.len();
+    along(end, along(end, offset, DEMANDS, 1), i, 1)
 }
 
 pub(crate) fn arc_at(case: &[i64], e: usize) -> usize

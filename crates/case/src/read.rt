@@ -2,14 +2,14 @@
 ghost use mathlib.Core.Path.{_≡_};
 ghost use Prim.Native.Nat.{_+_, min};
 ghost use lib.ListN.{length};
-ghost use Rattle.case.specs.law.Layout.{numberAt, demandIn, machineAt, machineWidth};
+ghost use Rattle.case.specs.law.Layout.{machineAt, machineWidth};
 ghost use Rattle.case.specs.law.Records.{timeOf, timeBefore, nodeOf, arcOf, artificialOf, stationRow, directionRow, stateRow, machineFrom};
-use super::offsets::BOUNDS;
-use super::offsets::DEMANDS;
 use super::offsets::HEAD;
 use super::offsets::along;
 use super::offsets::arc_at;
+use super::offsets::bounds_at;
 use super::offsets::count;
+use super::offsets::demand_at;
 use super::offsets::direction_at;
 use super::offsets::machine_width;
 use super::offsets::node_at;
@@ -41,25 +41,15 @@ pub fn node(case: &[i64], v: usize, i: usize) -> Node
     ensures { λ r. ⌜ r ≡ nodeOf (now (case .entry)) v i ⌝ }
 {
     let offset = node_at(case, v);
+    let bounds = bounds_at(case, offset, i);
     Node {
         kind: count(case, offset, 0),
         p0: number(case, offset, 1),
-        low: number(case, offset, BOUNDS),
-        high: number(case, offset, BOUNDS + 1),
-        actlow: number(case, offset, BOUNDS + 2),
-        acthigh: number(case, offset, BOUNDS + 3),
-        demand: demand(case, offset, i),
-    }
-}
-
-// The demand in the step with index `i` of the node whose row begins at `offset`.
-fn demand(case: &[i64], offset: usize, i: usize) -> i64
-    ensures { λ r. ⌜ r ≡ numberAt (now (case .entry)) (offset + demandIn (now (case .entry)) i) ⌝ }
-{
-    if i < case.len() {
-        number(case, offset, DEMANDS + i)
-    } else {
-        0
+        low: number(case, bounds, 0),
+        high: number(case, bounds, 1),
+        actlow: number(case, bounds, 2),
+        acthigh: number(case, bounds, 3),
+        demand: number(case, demand_at(case, offset, i), 0),
     }
 }
 

@@ -2,7 +2,7 @@
 ghost use mathlib.Core.Path.{_≡_};
 ghost use Prim.Native.Nat.{_+_, _<_, _≤_};
 ghost use lib.ListN.{length};
-ghost use Rattle.case.specs.law.Layout.{numberAt, countAt, nodesOf, arcsOf, stepsOf, nodeWidth, nodeAt, arcAt};
+ghost use Rattle.case.specs.law.Layout.{numberAt, countAt, nodesOf, arcsOf, stepsOf, nodeWidth, nodeAt, boundsIn, demandIn, arcAt};
 ghost use Rattle.case.specs.law.Records.{nodeOf, arcOf, pipeOf, artificialOf};
 ghost use Rattle.plan.specs.inside.StationPass.{ownStation};
 ghost use Rattle.plan.specs.inside.Preconditions.{AcceptedCase};
@@ -53,19 +53,35 @@ fn arc_at(case: &[i64], e: usize) -> usize
     node_at(case, count(case, 0, 1)) + e * ARC
 }
 
+// Where the bounds of the node whose row begins at `offset` stand in the step with index `i`, and where its demand does.
+fn bounds_at(case: &[i64], offset: usize, i: usize) -> usize
+    requires { ⌜ offset + demandIn (now case) i < length (now case) ⌝ }
+    ensures { λ r. ⌜ r ≡ offset + boundsIn (now (case .entry)) i ⌝ }
+{
+    offset + BOUNDS
+}
+
+fn demand_at(case: &[i64], offset: usize, i: usize) -> usize
+    requires { ⌜ offset + demandIn (now case) i < length (now case) ⌝ }
+    ensures { λ r. ⌜ r ≡ offset + demandIn (now (case .entry)) i ⌝ }
+{
+    offset + DEMANDS + i
+}
+
 pub(crate) fn node(case: &[i64], v: usize, i: usize) -> Node
     requires { ⌜ (AcceptedCase (now case)) × (v < nodesOf (now case)) × (i < stepsOf (now case)) ⌝ }
     ensures { λ r. ⌜ r ≡ nodeOf (now (case .entry)) v i ⌝ }
 {
     let offset = node_at(case, v);
+    let bounds = bounds_at(case, offset, i);
     Node {
         kind: count(case, offset, 0),
         p0: number(case, offset, 1),
-        low: number(case, offset, BOUNDS),
-        high: number(case, offset, BOUNDS + 1),
-        actlow: number(case, offset, BOUNDS + 2),
-        acthigh: number(case, offset, BOUNDS + 3),
-        demand: number(case, offset, DEMANDS + i),
+        low: number(case, bounds, 0),
+        high: number(case, bounds, 1),
+        actlow: number(case, bounds, 2),
+        acthigh: number(case, bounds, 3),
+        demand: number(case, demand_at(case, offset, i), 0),
     }
 }
 

@@ -1,5 +1,6 @@
-//! The calls that are made with an edit: those of the library, the program, and three functions by themselves.
+//! The calls that are made with an edit: those of the library, the program, and four functions by themselves.
 
+use case::read::node;
 use checker::main as program;
 use gasplan::codec::{gasplan_read, gasplan_write};
 use gasplan::judge::{gasplan_case, gasplan_judge, gasplan_judge_bytes};
@@ -71,8 +72,9 @@ fn printed(case: Option<&[u8]>, plan: Option<&[u8]>) -> String {
     }
 }
 
-/// The functions that have a promise for what no call of the library hands to them: a place past a list's end, a negative number
-/// that is to be an index, and numbers that are copied behind others or past the end. Their callers keep these away.
+/// The functions that have a promise for what no call of the library hands to them or takes from them: a place past a list's end, a
+/// negative number that is to be an index, numbers that are copied behind others or past the end, and a node's bounds and demand, of
+/// which the plan's judge has a reader of its own.
 pub fn by_themselves(edited: &Edited, seed: u64) {
     let list = any_list(&mut Rng::new(seed), 6);
     for i in 0..list.len() + 2 {
@@ -90,5 +92,16 @@ pub fn by_themselves(edited: &Edited, seed: u64) {
             (copy(&list[list.len() / 2..], &mut to, place), to)
         };
         copied.held(call, |a, b| format!("leaves {a:?}, for {b:?}"));
+    }
+    // two steps; each number is its own index, but for their count
+    let mut rows: Vec<i64> = (0..30).collect();
+    rows[4] = 2;
+    for (v, i) in [(0, 0), (0, 1), (1, 0), (2, 1), (3, 0)] {
+        let read = edited.named("case::read::node");
+        let call = || {
+            let n = node(&rows, v, i);
+            [n.p0, n.low, n.high, n.actlow, n.acthigh, n.demand]
+        };
+        read.held(call, |a, b| format!("reads {a:?}, for {b:?}"));
     }
 }

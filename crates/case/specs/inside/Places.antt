@@ -9,7 +9,8 @@ use native.Mathlib.Omega.{arith}
 use lib.IntN.{ℤ}
 use Rattle.case.specs.law.Extents.{mostNodes, mostArcs, nodeCapacity, arcCapacity, nodeExtent, directionExtent, machineExtent, stationExtent}
 use Rattle.case.specs.law.Extents.{setRoom, arcsExtent, stationsExtent}
-use Rattle.case.specs.law.Layout.{nodesOf, arcsOf, stepsOf, nodeWidth, nodeAt, arcAt, directionWidth, directionAt, stateAt, machineWidth, machineAt}
+use Rattle.case.specs.law.Layout.{nodesOf, arcsOf, stepsOf, nodeWidth, nodeAt, boundsIn}
+use Rattle.case.specs.law.Layout.{demandIn, arcAt, directionWidth, directionAt, stateAt, machineWidth, machineAt}
 use Rattle.case.specs.law.Layout.{directionCount, stateCount, machineCount, stationEnd, stationAt}
 use Rattle.case.specs.inside.Counts.{Counted, StationCounted}
 
@@ -35,6 +36,11 @@ module _ (case : List ℤ) where
   pub some-width : 1 ≤ nodeWidth case
   unfolding nodeWidth
   some-width = omega arith
+
+  -- a step's bounds stand before its demand, and the demand in the row
+  pub bounds-before : (i : ℕ) → boundsIn case i + 4 ≤ demandIn case i
+  unfolding boundsIn demandIn
+  bounds-before i = omega arith
 
   pub direction-width : directionWidth case ≤ directionExtent
   unfolding directionWidth
