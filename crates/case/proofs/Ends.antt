@@ -1,4 +1,4 @@
--- The ends of the arcs that w names, gathered arc by arc: the set so far is `endsOf` of the arcs so far, and has only the items of 60 nodes.
+-- The ends of the arcs that w names, gathered arc by arc: the set so far is `endsOf` of the arcs so far, and has only items that a set has room for.
 -- Assumes nothing.
 use mathlib.Core.Bool.{Bool, true, false}
 use mathlib.Core.List.{List}

@@ -1,4 +1,4 @@
--- Reading at places that may lie past the end, where every number is 0: so a row may be read from its own beginning or from the end if that is nearer.
+-- What is read at a place that was found from the list's beginning or from its end is what stands in the row (`Near.antt`), in a local of the code too.
 -- Assumes nothing.
 use Rattle.case.proofs.Common.{arith, _∙_, _≡_, ap, kept-is, w64, toZ, ofZ}
 use mathlib.Core.List.{List}
@@ -9,7 +9,7 @@ use lib.Signed.{mag}
 use lib.ListN.{length, getD}
 use Rattle.numbers.specs.law.Signed.{posPart}
 pub use Rattle.case.specs.inside.Near.{past}
-use Rattle.case.specs.inside.Near.{near}
+use Rattle.case.specs.inside.Near.{row-number, row-first}
 use Rattle.case.specs.inside.Counts.{Counts}
 
 -- rows that do not fit before the end
@@ -27,18 +27,15 @@ count-small (negsuc n) h = omega arith
 
 -- a number j places into a row, read from where `r` says that the row begins
 module _ (case : List ℤ) (offset : ℕ) {r : ℕ} (e : r ≡ min offset (length case)) where
-  row-number : (j : ℕ) → getD case (r + j) (pos 0) ≡ getD case (offset + j) (pos 0)
-  row-number j = ap (λ (i : ℕ). getD case (i + j) (pos 0)) e ∙ near case offset j
-
   first : getD case (r + 0) (pos 0) ≡ getD case offset (pos 0)
-  first = row-number 0 ∙ ap (λ (i : ℕ). getD case i (pos 0)) (add-zero offset)
+  first = ap (λ (i : ℕ). getD case i (pos 0)) (add-zero r) ∙ row-first case offset e
 
   -- a signed number in a local, and a count; the same of a row's first number
   pub number-in : (j : ℕ) {z : ℤ} → mag z < 2 ^ 63 → z ≡ getD case (r + j) (pos 0) → toZ w64 (ofZ w64 z) ≡ getD case (offset + j) (pos 0)
-  number-in j f h = kept-is f (h ∙ row-number j)
+  number-in j f h = kept-is f (h ∙ row-number case offset e j)
 
   pub count-in : (j : ℕ) {n : ℕ} → Counts case (r + j) n → n ≡ posPart (getD case (offset + j) (pos 0))
-  count-in j c = c .value ∙ ap posPart (row-number j)
+  count-in j c = c .value ∙ ap posPart (row-number case offset e j)
 
   pub first-number : {z : ℤ} → mag z < 2 ^ 63 → z ≡ getD case (r + 0) (pos 0) → toZ w64 (ofZ w64 z) ≡ getD case offset (pos 0)
   first-number f h = kept-is f (h ∙ first)

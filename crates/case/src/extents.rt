@@ -1,4 +1,4 @@
-// How many items the judge's arrays have room for, and the limits of the head's counts, which go by the case's edition.
+// How many items the judge's arrays have room for, and the limits of the head's counts.
 ghost use mathlib.Core.Path.{_≡_};
 ghost use lib.IntN.{pos};
 ghost use Rattle.case.specs.law.Extents.{mostNodes, mostArcs};

@@ -13,7 +13,7 @@ use super::pressures::pressure_answer;
 use case::records::Layout;
 use numbers::answer::Answer;
 
-// 26 to 29. 24 has let the arc pass, so that no sum or product is too large; 28 and 29 are asked only past 26 and 27.
+// 26 to 29, past 24 and 25. 28 and 29 are asked only past 26 and 27, and lean on 24, by which no product of theirs is too large.
 fn past_flows(
     case: &[i64],
     old: &[i64],

@@ -233,7 +233,7 @@ module _ (case : List ℤ) where
       append-read case (allStationFields case) (leftover case) (le-refl _)
       (over-read case (stationAt case) (stationFields case) (stationsOf case) station-read next t) (λ t r. left-read t)))))
 
-  -- what 16 leans on: node sets have only the items of 60 nodes
+  -- what 16 leans on: node sets have only items that a set has room for
   pub list-ranged : firstNo (listQuestions case) ≡ Yes → StationsRanged case
   list-ranged y = record {
     each = λ s p. record { each = λ f q. let d = list-read .0 y .1 .1 .1 .1 .1 .0 s p .1 .0 f q in record { entry = d .entry; exit = d .exit } };

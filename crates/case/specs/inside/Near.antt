@@ -30,6 +30,14 @@ near case offset j = go (leb offset (length case)) refl
         let m : min offset (length case) ≡ length case = omega arith in
         rw m (sym (past case (length case + j) (omega arith)) ∙ past case (offset + j) (omega arith))
 
+-- a number j places into a row, and its first, read from where `r` says that the row begins
+module _ (case : List ℤ) (offset : ℕ) {r : ℕ} (e : r ≡ min offset (length case)) where
+  pub row-number : (j : ℕ) → getD case (r + j) (pos 0) ≡ getD case (offset + j) (pos 0)
+  row-number j = ap (λ (i : ℕ). getD case (i + j) (pos 0)) e ∙ near case offset j
+
+  pub row-first : getD case r (pos 0) ≡ getD case offset (pos 0)
+  row-first = rw (add-zero r, add-zero offset) at (row-number 0)
+
 -- ---- where the row of the station's machine m begins, or the end if that is nearer
 
 pub record MachineHere (case : List ℤ) (offset m at : ℕ) : Type 0 where
@@ -42,13 +50,10 @@ width-near case offset = refl
 
 module _ {case : List ℤ} {offset m at : ℕ} (h : MachineHere case offset m at) where
   pub machine-here : machineFrom case at ≡ machineRow case offset m
-  machine-here =
-      let e : (j : ℕ) → getD case (at + j) (pos 0) ≡ getD case (machineAt case offset m + j) (pos 0) =
-      λ j. ap (λ (i : ℕ). getD case (i + j) (pos 0)) (h .is) ∙ near case (machineAt case offset m) j in
-      let first = rw (add-zero at, add-zero (machineAt case offset m)) at (e 0) in
-      rw (first, e 1)
+  machine-here = let row = machineAt case offset m in rw (row-first case row (h .is), row-number case row (h .is) 1)
 
   pub machine-on : {next : ℕ} → next ≡ min (at + machineWidth case at) (length case) → MachineHere case offset (m + 1) next
   machine-on e =
-      let w : machineWidth case at ≡ machineWidth case (machineAt case offset m) = ap (machineWidth case) (h .is) ∙ width-near case (machineAt case offset m) in
+      let row = machineAt case offset m in
+      let w : machineWidth case at ≡ machineWidth case row = ap (machineWidth case) (h .is) ∙ width-near case row in
       record { is = omega (arith, e, w, h .is, machine-next case offset m) }

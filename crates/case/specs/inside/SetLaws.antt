@@ -87,7 +87,8 @@ module _ (case : List ℤ) (w : ℕ → Bool) where
           rw e (omega (arith, node-keeps (endsOf case w n) from v, node-keeps (withNode (endsOf case w n) from) (arcOf case n .to) v))
       go false e = rw e (omega arith)
 
-  pub ends-in : (n e v : ℕ) → e < n → w e ≡ true → v < setRoom → (arcOf case e .from ≡ v) ⊎ (arcOf case e .to ≡ v) → bit (endsOf case w n) v ≡ 1
+  pub ends-in : (n e v : ℕ) → e < n → w e ≡ true → v < setRoom → (arcOf case e .from ≡ v) ⊎ (arcOf case e .to ≡ v)
+      → bit (endsOf case w n) v ≡ 1
   unfolding endsOf
   ends-in zero e v p h l d = let f : ⊥ = omega arith in absurd f
   ends-in (suc n) e v p h l d = go (λ q. ends-in n e v q h l d) (ltb e n) refl

@@ -12,7 +12,7 @@ use Rattle.case.specs.law.Layout.{arcsOf}
 use Rattle.case.specs.law.Records.{arcOf}
 use Rattle.case.specs.law.StationArcs.{belongs}
 
--- a node set with the node v in it. A node set has room for 60 nodes, as many as a case may have.
+-- a node set with the node v in it. A node set has room for as many nodes as a case may have.
 unfoldable pub withNode : ℕ → ℕ → ℕ
 withNode set v = cond (ltb v setRoom) (bitOr set (2 ^ v)) set
 

@@ -1,4 +1,4 @@
--- A one shifted by fewer than 64 places is the set of one item; a node from 60 on is left out.
+-- A one shifted by fewer than 64 places is the set of one item; a node that a set has no room for is left out.
 use Rattle.case.proofs.Common.{needs, arith}
 use borrow.Author.Tests.{lt-ltb, le-ltb}
 use Rattle.case.specs.law.StationNodes.{withNode}

@@ -1,5 +1,6 @@
 -- The rows of the nodes before `v` have no "no" (`Asking`), and `offset` is where the row of `v` begins.
-use Rattle.case.proofs.Common.{needs, arith, _∙_, _≡_, ap, refl, now, ℕ, _+_, _-_, _≤_, firstNo, Asking, asking, asking-on, asking-no, asking-end}
+use Rattle.case.proofs.Common.{needs, arith, _∙_, _≡_, ap, refl, now, ℕ, _+_, _-_, _≤_, firstNo}
+use Rattle.case.proofs.Common.{Asking, asking, asking-on, asking-no, asking-end}
 use Prim.Native.Nat.{_*_}
 use Rattle.numbers.specs.law.Items.{over}
 use Rattle.case.specs.law.Extents.{nodeExtent}

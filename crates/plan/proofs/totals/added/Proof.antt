@@ -47,7 +47,7 @@ residuals p =
     let v = node-residuals-le (now (s .args .rows)) (s .pre .0 .accepted) (s .pre .1) in
     omega (arith, p .pipe-residuals .ensures, s .pre .3)
 
--- the pressures are an array of 60, as `good` of `previous` says
+-- the pressures are an array with a place for each node, as `good` of `previous` says
 slice-aggregate-pipe-residuals : tie.Need-slice-aggregate-pipe-residuals
 slice-aggregate-pipe-residuals c =
     let s = c .before .before .before .before .before .before .before .before in
