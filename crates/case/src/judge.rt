@@ -6,7 +6,7 @@ ghost use Rattle.numbers.specs.law.Question.{firstNo, told};
 ghost use Rattle.case.specs.law.Extents.{stationsExtent};
 ghost use Rattle.case.specs.law.Layout.{arcAt, arcsOf, stationsOf, stationAt};
 ghost use Rattle.case.specs.law.StationNodes.{stationNodes};
-ghost use Rattle.case.specs.inside.Counts.{Counted, StationsCounted};
+ghost use Rattle.case.specs.inside.Counts.{Counted, StationsCounted, StationsNarrow};
 ghost use Rattle.case.specs.law.LayoutOf.{Holds, Clear, LayoutOf};
 ghost use Rattle.case.specs.law.Judged.{rowQuestions, listQuestions, judgedCase};
 ghost use Rattle.case.specs.law.LayoutOf.{LayingOf};
@@ -77,7 +77,7 @@ fn list_answer(case: &[i64]) -> Answer
 // Where each station's rows begin.
 fn station_firsts(case: &[i64], first: usize, stations: usize) -> [usize; STATIONS]
     requires { ⌜ (first ≤ stationsExtent) × (first ≡ stationAt (now case) 0) × (stations ≤ 8) ×
-        (stations ≡ stationsOf (now case)) × (StationsCounted (now case)) ⌝ }
+        (stations ≡ stationsOf (now case)) × (StationsCounted (now case)) × (StationsNarrow (now case)) ⌝ }
     ensures { λ r. ⌜ (Holds 0 r (stationAt (now (case .entry))) stations) × (Clear 0 r stations) ⌝ }
 {
     let mut offsets = [0usize; STATIONS];
@@ -107,7 +107,7 @@ fn insides(case: &[i64], arcs: usize, stations: usize) -> [i64; STATIONS]
 
 // The layout of a case whose fields are all there and in range.
 fn lay(case: &[i64]) -> Layout
-    requires { ⌜ (Counted (now case)) × (StationsCounted (now case)) ⌝ }
+    requires { ⌜ (Counted (now case)) × (StationsCounted (now case)) × (StationsNarrow (now case)) ⌝ }
     ensures { λ r. ⌜ LayoutOf (now (case .entry)) r ⌝ }
 {
     let nodes = count(case, 0, 1);

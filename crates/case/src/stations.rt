@@ -6,7 +6,7 @@ ghost use Rattle.numbers.specs.law.Question.{firstNo};
 ghost use Rattle.numbers.specs.law.Items.{over};
 ghost use Rattle.case.specs.law.Extents.{machineExtent, stationExtent, stationsExtent, caseExtent};
 ghost use Rattle.case.specs.law.Layout.{directionCount, stateAt, machineAt, stationEnd, stationAt, stationsOf};
-ghost use Rattle.case.specs.inside.Counts.{StationCounted};
+ghost use Rattle.case.specs.inside.Counts.{StationCounted, MachinesNarrow};
 ghost use Rattle.case.specs.law.StationFields.{firstItems, stationHead, directionFields, stateRowFields, stateFields, machineFields};
 ghost use Rattle.case.specs.law.StationFields.{partFields, rowFields, allStationFields};
 ghost use Rattle.case.specs.law.Leftover.{leftover};
@@ -196,7 +196,7 @@ fn station_fields(case: &[i64], offset: usize) -> Answer
 
 // The index past the station's last row: each machine's row begins where the one before it ends.
 pub(crate) fn station_end(case: &[i64], offset: usize) -> usize
-    requires { ⌜ (offset ≤ caseExtent) × (StationCounted (now case) offset) ⌝ }
+    requires { ⌜ (offset ≤ caseExtent) × (StationCounted (now case) offset) × (MachinesNarrow (now case) offset) ⌝ }
     ensures { λ r. ⌜ r ≡ stationEnd (now (case .entry)) offset ⌝ }
 {
     let machines = count(case, offset, 2);

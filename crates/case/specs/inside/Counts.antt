@@ -4,8 +4,9 @@ use mathlib.Core.Path.{_≡_}
 use mathlib.Core.List.{List}
 use Prim.Native.Nat.{ℕ, _<_, _≤_, _^_}
 use lib.IntN.{ℤ}
-use Rattle.case.specs.law.Extents.{nodeCapacity, arcCapacity}
+use Rattle.case.specs.law.Extents.{nodeCapacity, arcCapacity, machineExtent}
 use Rattle.case.specs.law.Layout.{countAt, nodesOf, arcsOf, stationsOf, stepsOf, directionCount, stateCount, machineCount, stationAt}
+use Rattle.case.specs.law.Layout.{machineWidth, machineAt}
 use Rattle.case.specs.law.Records.{directionRow}
 use Rattle.case.specs.inside.Ranges.{DirectionRanges}
 use Rattle.case.specs.law.StationArcs.{stationArcs}
@@ -34,6 +35,13 @@ pub record StationCounted (case : List ℤ) (offset : ℕ) : Type 0 where
 
 pub record StationsCounted (case : List ℤ) : Type 0 where
   pub each : (s : ℕ) → s < stationsOf case → StationCounted case (stationAt case s)
+
+-- the machines' rows of the station whose rows begin at `offset`, and of every station: none is wider than the extent
+pub record MachinesNarrow (case : List ℤ) (offset : ℕ) : Type 0 where
+  pub each : (m : ℕ) → m < machineCount case offset → machineWidth case (machineAt case offset m) ≤ machineExtent
+
+pub record StationsNarrow (case : List ℤ) : Type 0 where
+  pub each : (s : ℕ) → s < stationsOf case → MachinesNarrow case (stationAt case s)
 
 -- the directions of the station whose rows begin at `offset`, and of every station
 pub record DirectionsRanged (case : List ℤ) (offset : ℕ) : Type 0 where

@@ -2,20 +2,23 @@
 -- Assumes nothing.
 use mathlib.Core.Path.{_≡_}
 use mathlib.Core.List.{List, _++_}
-use Prim.Native.Nat.{ℕ, _+_, _<_}
+use Prim.Native.Nat.{ℕ, _+_, _<_, _≤_}
+use native.Mathlib.Omega.{arith}
 use native.Mathlib.Nat.{le-trans}
 use borrow.Author.Tests.{leb-true}
 use lib.IntN.{ℤ, pos}
 use Rattle.numbers.specs.law.Question.{firstNo}
+use Rattle.numbers.specs.law.Items.{over}
 use Rattle.numbers.specs.inside.QuestionLaws.{all-yes}
 use Rattle.numbers.specs.declared.answer.Answer.the-variants.{Yes}
-use Rattle.case.specs.law.Extents.{lastEdition, mostNodes, mostArcs}
-use Rattle.case.specs.law.Layout.{stationsOf, stationAt}
+use Rattle.case.specs.law.Extents.{lastEdition, mostNodes, mostArcs, machineExtent}
+use Rattle.case.specs.law.Layout.{stationsOf, stationAt, directionCount, stateCount, machineCount, machineWidth, machineAt}
 use Rattle.case.specs.law.HeadFields.{countFields, toleranceFields, headFields}
 use Rattle.case.specs.law.TimeFields.{timeFields}
 use Rattle.case.specs.law.NodeFields.{allNodeFields}
 use Rattle.case.specs.law.ArcFields.{allArcFields}
 use Rattle.case.specs.law.StationFields.{stationHead, partFields, rowFields, stationFields, allStationFields}
+use Rattle.case.specs.law.StationFields.{directionFields, stateFields, machineFields}
 use Rattle.case.specs.law.Leftover.{leftover}
 use Rattle.case.specs.law.ArcEnds.{allArcEnds}
 use Rattle.case.specs.law.OneStation.{allOneStation}
@@ -23,7 +26,7 @@ use Rattle.case.specs.law.StationSize.{stationSize, allStationSizes}
 use Rattle.case.specs.law.Judged.{rowQuestions, listQuestions, earlyRules}
 use Rattle.case.specs.inside.FieldLaws.{first-yes, second-yes, item-yes, field-yes, field-then, count-most, count-least}
 use Rattle.case.specs.inside.Places.{nodes-fit, arcs-fit}
-use Rattle.case.specs.inside.Counts.{Counted, StationCounted, StationsCounted, Sized}
+use Rattle.case.specs.inside.Counts.{Counted, StationCounted, StationsCounted, MachinesNarrow, StationsNarrow, Sized}
 
 module _ (case : List ℤ) where
   -- ---- the head
@@ -65,6 +68,20 @@ module _ (case : List ℤ) where
   unfolding rowFields
   row-counted offset e = station-counted offset (first-yes (stationHead case offset) (partFields case offset) e)
 
+  -- ---- a station's machines
+
+  pub machine-narrow : (offset m : ℕ) → firstNo (machineFields case offset m) ≡ Yes → machineWidth case (machineAt case offset m) ≤ machineExtent
+  unfolding machineWidth
+  machine-narrow offset m e = omega arith
+
+  pub row-narrow : (offset : ℕ) → firstNo (rowFields case offset) ≡ Yes → MachinesNarrow case offset
+  unfolding rowFields partFields
+  row-narrow offset e =
+      let d = second-yes (stationHead case offset) (partFields case offset) e in
+      let z = second-yes (over (directionFields case offset) 0 (directionCount case offset)) _ d in
+      let y = second-yes (over (stateFields case offset) 0 (stateCount case offset)) _ z in
+      record { each = λ m l. machine-narrow offset m (item-yes (machineFields case offset) (machineCount case offset) y m l) }
+
   -- ---- the list's groups
 
   module _ (e : firstNo (listQuestions case) ≡ Yes) where
@@ -98,6 +115,9 @@ module _ (case : List ℤ) where
 
     pub list-stations : StationsCounted case
     list-stations = record { each = λ s p. row-counted (stationAt case s) (station-yes s p) }
+
+    pub list-narrow : StationsNarrow case
+    list-narrow = record { each = λ s p. row-narrow (stationAt case s) (station-yes s p) }
 
   -- ---- 15
 

@@ -2,7 +2,7 @@
 -- Assumes nothing.
 use mathlib.Core.Path.{_≡_}
 use mathlib.Core.List.{List}
-use Prim.Native.Nat.{ℕ, zero, suc, _+_, _*_, _≤_}
+use Prim.Native.Nat.{ℕ, zero, suc, _+_, _*_, _<_, _≤_}
 use native.Mathlib.Nat.{mul-le-mul}
 use native.Mathlib.Numerals.{add-one}
 use native.Mathlib.Omega.{arith}
@@ -12,7 +12,7 @@ use Rattle.case.specs.law.Extents.{setRoom, arcsExtent, stationsExtent}
 use Rattle.case.specs.law.Layout.{nodesOf, arcsOf, stepsOf, nodeWidth, nodeAt, boundsIn}
 use Rattle.case.specs.law.Layout.{demandIn, arcAt, directionWidth, directionAt, stateAt, machineWidth, machineAt}
 use Rattle.case.specs.law.Layout.{directionCount, stateCount, machineCount, stationEnd, stationAt}
-use Rattle.case.specs.inside.Counts.{Counted, StationCounted}
+use Rattle.case.specs.inside.Counts.{Counted, StationCounted, MachinesNarrow}
 
 module _ (case : List ℤ) where
   -- ---- an edition's limits, and the widths of rows
@@ -49,10 +49,6 @@ module _ (case : List ℤ) where
   pub some-direction : 1 ≤ directionWidth case
   unfolding directionWidth
   some-direction = omega arith
-
-  pub machine-width : (offset : ℕ) → machineWidth case offset ≤ machineExtent
-  unfolding machineWidth
-  machine-width offset = omega arith
 
   pub some-machine : (offset : ℕ) → 1 ≤ machineWidth case offset
   unfolding machineWidth
@@ -103,13 +99,19 @@ module _ (case : List ℤ) where
     unfolding stateAt
     state-early z h = omega (arith, direction-early offset (directionCount case offset) (c .directions))
 
-    pub machine-early : (m : ℕ) → machineAt case offset m ≤ offset + 5 + 8 * directionExtent + 16 * 4 + m * machineExtent
+    pub machines-begin : machineAt case offset 0 ≤ offset + 5 + 8 * directionExtent + 16 * 4
     unfolding machineAt
-    machine-early zero = omega (arith, state-early (stateCount case offset) (c .states))
-    machine-early (suc m) = omega (arith, machine-early m, machine-width (machineAt case offset m))
+    machines-begin = state-early (stateCount case offset) (c .states)
 
-    pub end-most : stationEnd case offset ≤ offset + stationExtent
-    end-most = omega (arith, machine-early (machineCount case offset), c .machines)
+    -- where no machine's row before that of m is wider than the extent
+    pub machine-early : (m : ℕ) → ((j : ℕ) → j < m → machineWidth case (machineAt case offset j) ≤ machineExtent)
+        → machineAt case offset m ≤ offset + 5 + 8 * directionExtent + 16 * 4 + m * machineExtent
+    unfolding machineAt
+    machine-early zero h = omega (arith, machines-begin)
+    machine-early (suc m) h = omega (arith, machine-early m (λ j l. h j (omega arith)), h m (omega arith))
+
+    pub end-most : MachinesNarrow case offset → stationEnd case offset ≤ offset + stationExtent
+    end-most n = omega (arith, machine-early (machineCount case offset) (n .each), c .machines)
 
   pub machine-late : (offset m : ℕ) → stateAt case offset (stateCount case offset) ≤ machineAt case offset m
   unfolding machineAt

@@ -23,7 +23,7 @@ use Rattle.case.specs.law.StationFields.{directionFields, stateFields, s
 use Rattle.case.specs.inside.FieldLaws.{zero-add, item-yes}
 use Rattle.case.specs.inside.NodeRows.{demands-are}
 use Rattle.case.specs.inside.Counts.{Counted, StationCounted}
-use Rattle.case.specs.inside.CountsInRange.{head-counted, station-counted, row-counted, list-counted}
+use Rattle.case.specs.inside.CountsInRange.{head-counted, station-counted, row-counted, machine-narrow, row-narrow, list-counted}
 use Rattle.case.specs.inside.Places.{node-early, arc-early, direction-early, state-early, machine-early, end-most}
 use Rattle.case.specs.law.Leftover.{leftover}
 use Rattle.case.specs.law.ArcEnds.{allArcEnds, arcEnds}
@@ -70,17 +70,37 @@ module _ (case : List ℤ) where
       go false false false = search needs
 
   -- a station's parts, each of few rows
-  parts-small : (offset : ℕ) → offset ≤ caseExtent → StationCounted case offset → AllSmall limit (partFields case offset)
-  unfolding partFields directionFields stateFields stateRowFields machineFields fields field
-  parts-small offset h d =
-      all-append limit (over (directionFields case offset) 0 (directionCount case offset)) _
-      (all-over limit (directionFields case offset) 0 (directionCount case offset) (λ f l.
-      let e = direction-early case offset (0 + f) (omega (arith, l, d .directions)) in search needs))
-      (all-append limit (over (stateFields case offset) 0 (stateCount case offset)) _
-      (all-over limit (stateFields case offset) 0 (stateCount case offset) (λ z l.
-      let e = state-early case offset d (0 + z) (omega (arith, l, d .states)) in search needs))
-      (all-over limit (machineFields case offset) 0 (machineCount case offset) (λ m l.
-      let e = machine-early case offset d (0 + m) in let w = d .machines in search needs)))
+  module _ (offset : ℕ) (h : offset ≤ caseExtent) (d : StationCounted case offset) where
+    directions-small : AllSmall limit (over (directionFields case offset) 0 (directionCount case offset))
+    unfolding directionFields fields field
+    directions-small = all-over limit (directionFields case offset) 0 (directionCount case offset) (λ f l.
+        let e = direction-early case offset (0 + f) (omega (arith, l, d .directions)) in search needs)
+
+    states-small : AllSmall limit (over (stateFields case offset) 0 (stateCount case offset))
+    unfolding stateFields stateRowFields fields field
+    states-small = all-over limit (stateFields case offset) 0 (stateCount case offset) (λ z l.
+        let e = state-early case offset d (0 + z) (omega (arith, l, d .states)) in search needs)
+
+    -- a machine's row, where those before it have no "no"
+    machine-small : (m : ℕ) → m < machineCount case offset → ((j : ℕ) → j < m → firstNo (machineFields case offset j) ≡ Yes)
+        → Small limit (firstNo (machineFields case offset m))
+    unfolding machineFields field
+    machine-small m l before =
+        let e = machine-early case offset d m (λ j k. machine-narrow case offset j (before j k)) in
+        let w = d .machines in
+        all-small limit (machineFields case offset m) (search needs)
+
+    machines-small : Small limit (firstNo (over (machineFields case offset) 0 (machineCount case offset)))
+    machines-small = small-over limit (machineFields case offset) 0 (machineCount case offset) (λ m l before.
+        rw (zero-add m) (machine-small m l (λ j k. rw (zero-add j) at (before j k))))
+
+    parts-small : Small limit (firstNo (partFields case offset))
+    unfolding partFields
+    parts-small =
+        let directions = over (directionFields case offset) 0 (directionCount case offset) in
+        let states = over (stateFields case offset) 0 (stateCount case offset) in
+        small-append limit directions _ (all-small limit directions directions-small) (λ f.
+        small-append limit states _ (all-small limit states states-small) (λ z. machines-small))
 
   -- ---- all rows, once the counts before have passed
 
@@ -104,21 +124,26 @@ module _ (case : List ℤ) where
         let r = arc-early case c (0 + e) (omega (arith, c .arcs)) in
         all-append limit (endFields case (arcAt case (0 + e))) _ (ends-small _ (omega arith)) (kind-small _ (omega arith)))
 
-    -- where every station before s has its counts in range
-    station-early : (s : ℕ) → ((m : ℕ) → m < s → StationCounted case (stationAt case m)) → stationAt case s ≤ stationsExtent + s * stationExtent
+    -- where the stations before s have no "no"
+    station-early : (s : ℕ) → ((m : ℕ) → m < s → firstNo (rowFields case (stationAt case m)) ≡ Yes)
+        → stationAt case s ≤ stationsExtent + s * stationExtent
     unfolding stationAt
     station-early zero h = omega (arith, arc-early case c (arcsOf case) (c .arcs))
-    station-early (suc s) h = omega (arith, end-most case (stationAt case s) (h s (omega arith)), station-early s (λ m l. h m (omega arith)))
+    station-early (suc s) h =
+        let offset = stationAt case s in
+        let y = h s (omega arith) in
+        omega (arith, end-most case offset (row-counted case offset y) (row-narrow case offset y), station-early s (λ m l. h m (omega arith)))
 
     -- a station's rows, where those before it have no "no"
-    station-small : (s : ℕ) → s < stationsOf case → ((m : ℕ) → m < s → firstNo (stationFields case m) ≡ Yes) → Small limit (firstNo (stationFields case s))
+    station-small : (s : ℕ) → s < stationsOf case → ((m : ℕ) → m < s → firstNo (stationFields case m) ≡ Yes)
+        → Small limit (firstNo (stationFields case s))
     unfolding stationFields rowFields stationHead field
     station-small s h before =
         let offset = stationAt case s in
-        let r = station-early s (λ m l. row-counted case (stationAt case m) (before m l)) in
+        let r = station-early s before in
         let low : offset ≤ caseExtent = omega (arith, r, h, c .stations) in
         small-append limit (stationHead case offset) (partFields case offset) (all-small limit (stationHead case offset) (search needs))
-        (λ e. all-small limit (partFields case offset) (parts-small offset low (station-counted case offset e)))
+        (λ e. parts-small offset low (station-counted case offset e))
 
     stations-small : Small limit (firstNo (allStationFields case))
     unfolding allStationFields
@@ -128,7 +153,7 @@ module _ (case : List ℤ) where
     leftover-small : firstNo (allStationFields case) ≡ Yes → Small limit (firstNo (leftover case))
     unfolding allStationFields stationFields leftover
     leftover-small e =
-        let r = station-early (stationsOf case) (λ m l. row-counted case (stationAt case m) (item-yes (stationFields case) (stationsOf case) e m l)) in
+        let r = station-early (stationsOf case) (item-yes (stationFields case) (stationsOf case) e) in
         all-small limit (leftover case) (omega arith, omega arith, omega (arith, r, c .stations), omega arith, tt)
 
     rows-small : Small limit (firstNo (rowQuestions case))

@@ -4,7 +4,7 @@ use Rattle.numbers.specs.law.Question.{firstNo, told}
 use Rattle.numbers.specs.declared.answer.Answer.{Answer}
 use Rattle.numbers.specs.declared.answer.Answer.the-variants.{Yes, No}
 use Rattle.case.specs.law.Judged.{listQuestions, ruleQuestions, caseQuestions, judgedCase}
-use Rattle.case.specs.inside.CountsInRange.{list-counted, list-stations}
+use Rattle.case.specs.inside.CountsInRange.{list-counted, list-stations, list-narrow}
 use Rattle.case.specs.inside.CaseRows.{list-ranged}
 use Rattle.case.proofs.Asked.{stopped, went-on}
 use Rattle.case.proofs.judge.judge_and_lay.Statement.{statement}
@@ -18,7 +18,9 @@ passes : (c : tie.After-enum-told) → firstNo (listQuestions (now (c .before .b
 passes c = sym (c .before .before .list-answer .ensures) ∙ c .enum-told .given .1
 
 lay-requires : tie.Need-lay-requires
-lay-requires c κs = let l = now (c .before .before .before .args .case) in (list-counted l (passes c), list-stations l (passes c))
+lay-requires c κs =
+    let l = now (c .before .before .before .args .case) in
+    (list-counted l (passes c), list-stations l (passes c), list-narrow l (passes c))
 
 rules-requires : tie.Need-rules-requires
 rules-requires c κs =

@@ -19,7 +19,7 @@ station-firsts-requires : tie.Need-station-firsts-requires
 station-firsts-requires c κs =
     let b = begun c in
     let p = c .before .before .before .before .before .pre in
-    (omega arith, b .station, omega (arith, p .0 .stations), b .stations, p .1)
+    (omega arith, b .station, omega (arith, p .0 .stations), b .stations, p .1, p .2)
 
 returns : tie.Need-returns
 unfolding plainNodes

@@ -25,8 +25,11 @@ station-end-requires : tie.Need-station-end-requires Inv-loop μ-loop
 station-end-requires c κs =
     let h = c .before in
     let s = h .before in
-    let p : h .loop .s < stationsOf (now (s .args .case)) = omega (arith, s .pre .3, c .loop-test .taken) in
-    (omega (arith, h .loop .inv .2, s .pre .2, c .loop-test .taken), rw (h .loop .inv .1) (s .pre .4 .each (h .loop .s) p))
+    let p : h .loop .s < stationsOf (now (s .args .case)) = omega (arith, s .pre .3, c .loop-test .taken) in (
+      omega (arith, h .loop .inv .2, s .pre .2, c .loop-test .taken),
+      rw (h .loop .inv .1) (s .pre .4 .each (h .loop .s) p),
+      rw (h .loop .inv .1) (s .pre .5 .each (h .loop .s) p),
+    )
 
 loop-again : tie.Need-loop-again Inv-loop μ-loop
 loop-again c =
@@ -35,9 +38,9 @@ loop-again c =
     let l = now (s .args .case) in
     let i = h .loop .s in
     let v = h .loop .inv in
-    let k = s .pre .4 .each i (omega (arith, s .pre .3, c .before .loop-test .taken)) in
+    let p : i < stationsOf l = omega (arith, s .pre .3, c .before .loop-test .taken) in
     let e = c .station-end .ensures ∙ ap (stationEnd l) (v .1) in
-    let m = end-most l (stationAt l i) k in (
+    let m = end-most l (stationAt l i) (s .pre .4 .each i p) (s .pre .5 .each i p) in (
       omega arith,
       e ∙ sym (station-next l i),
       omega (arith, e, m, v .1, v .2),

@@ -1,12 +1,14 @@
--- The rows of the machines before `m` have no "no" (`Asking`), and `at` is where the row of `m` begins; a row has a flow and a ratio.
-use Rattle.case.proofs.Common.{needs, arith, _∙_, _≡_, ap, refl, now, _+_, _-_, _≤_, firstNo, firstNo-append}
+-- The rows of the machines before `m` have no "no" (`Asking`), and `at` is where the row of `m` begins; a row has a flow and a ratio,
+-- and is narrow once they have passed.
+use Rattle.case.proofs.Common.{needs, arith, _∙_, _≡_, ap, sym, refl, now, _+_, _-_, _≤_, firstNo, firstNo-append}
 use Rattle.case.proofs.Common.{Asking, asking, asking-on, asking-no, asking-end}
 use Prim.Native.Nat.{_*_}
 use Rattle.numbers.specs.law.Items.{over}
 use Rattle.case.specs.law.Extents.{machineExtent, stationExtent, caseExtent}
 use Rattle.case.specs.law.Layout.{machineAt, machineWidth}
 use Rattle.case.specs.law.StationFields.{machineFields}
-use Rattle.case.specs.inside.Places.{machine-width, machine-next}
+use Rattle.case.specs.inside.Places.{machine-next}
+use Rattle.case.specs.inside.CountsInRange.{machine-narrow}
 use Rattle.case.proofs.Asked.{chain}
 use Rattle.case.proofs.stations.machine_rows.Statement.{statement}
 use Rattle.case.proofs.stations.machine_rows.Tie as tie
@@ -39,10 +41,18 @@ returns c =
     let t = b .before .before .before in
     asking-no (t .before .loop .inv .2) (t .loop-test .taken) (asked b) (c .enum-told2 .given .1)
 
+-- past a yes to the row, it is not far to the next one
+narrow : (c : tie.After-machine-width Inv-loop μ-loop) → c .machine-width .result ≤ machineExtent
+narrow c =
+    let e = c .before in
+    let b = e .before .before in
+    let h = b .before .before .before .before in
+    let l = now (h .before .args .case) in
+    let n = machine-narrow l (h .before .args .offset) (h .loop .m) (sym (asked b) ∙ e .enum-told .given .1) in
+    omega (arith, c .machine-width .ensures ∙ ap (machineWidth l) (h .loop .inv .0), n)
+
 add-at : tie.Need-add-at Inv-loop μ-loop
-add-at c =
-    let t = c .before .before .before .before .before .before in
-    omega (arith, early t, c .machine-width .ensures, machine-width (now (t .before .before .args .case)) (t .before .loop .at))
+add-at c = omega (arith, early (c .before .before .before .before .before .before), narrow c)
 
 loop-again : tie.Need-loop-again Inv-loop μ-loop
 loop-again c =
@@ -54,7 +64,7 @@ loop-again c =
     let i = h .loop .inv in
     let w = c .machine-width .ensures in (
       omega (arith, i .0, w ∙ ap (machineWidth l) (i .0), machine-next l (h .before .args .offset) (h .loop .m)),
-      omega (arith, i .1, w, machine-width l (h .loop .at)),
+      omega (arith, i .1, narrow c),
       asking-on (i .2) (t .loop-test .taken) (asked b) (e .enum-told .given .1),
     )
 

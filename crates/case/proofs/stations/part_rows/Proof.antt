@@ -1,6 +1,6 @@
 -- The counts that were read are the station's and in range (`StationRead`); the answers of the three groups are put together.
 use Rattle.case.proofs.Common.{needs, arith, now, firstNo-append}
-use Rattle.case.specs.inside.Places.{state-early, machine-early}
+use Rattle.case.specs.inside.Places.{state-early, machines-begin}
 use Rattle.case.specs.law.StationFields.{partFields}
 use Rattle.case.proofs.Asked.{chain}
 use Rattle.case.proofs.Counting.{StationRead, station-read}
@@ -28,7 +28,7 @@ machine-rows-requires c κs =
     let d = c .before .before .before .before in
     let s = d .before .before .before in
     let e = c .machines-at .ensures in
-    let early = machine-early (now (s .args .case)) (s .args .offset) (s .pre .1) 0 in
+    let early = machines-begin (now (s .args .case)) (s .args .offset) (s .pre .1) in
     (omega (arith, e, early, s .pre .0), e, omega (arith, read d))
 
 returns : tie.Need-returns

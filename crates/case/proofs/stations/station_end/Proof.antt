@@ -1,7 +1,7 @@
--- `at` is where the row of machine `m` begins, each where the one before it ends; a station has few machines, so the sum fits.
-use Rattle.case.proofs.Common.{needs, arith, _∙_, _≡_, ap, now, _-_, _≤_}
-use Rattle.case.specs.law.Layout.{machineAt, machineWidth}
-use Rattle.case.specs.inside.Places.{machine-width, machine-next, machine-early}
+-- `at` is where the row of machine `m` begins, each where the one before it ends; a station has few machines, whose rows are narrow, so the sum fits.
+use Rattle.case.proofs.Common.{needs, arith, _∙_, _≡_, ap, now, _-_, _<_, _≤_}
+use Rattle.case.specs.law.Layout.{machineCount, machineAt, machineWidth}
+use Rattle.case.specs.inside.Places.{machine-next, machine-early}
 use Rattle.case.proofs.stations.station_end.Statement.{statement}
 use Rattle.case.proofs.stations.station_end.Tie as tie
 
@@ -20,8 +20,10 @@ add-at c =
     let n = h .before .before in
     let s = n .before in
     let l = now (s .args .case) in
-    let few = machine-early l (s .args .offset) (s .pre .1) (h .loop .m) in
-    omega (arith, h .loop .inv, few, n .count .ensures .value, s .pre .1 .machines, s .pre .0, c .machine-width .ensures, machine-width l (h .loop .at))
+    let few : h .loop .m < machineCount l (s .args .offset) = omega (arith, c .before .loop-test .taken, n .count .ensures .value) in
+    let early = machine-early l (s .args .offset) (s .pre .1) (h .loop .m) (λ j q. s .pre .2 .each j (omega (arith, q, few))) in
+    let w = c .machine-width .ensures ∙ ap (machineWidth l) (h .loop .inv .1) in
+    omega (arith, h .loop .inv .1, few, early, s .pre .1 .machines, s .pre .0, w, s .pre .2 .each (h .loop .m) few)
 
 loop-again : tie.Need-loop-again Inv-loop μ-loop
 loop-again c =

@@ -5,17 +5,18 @@ use Rattle.numbers.specs.inside.QuestionLaws.{orElse-yes}
 use Rattle.case.specs.law.Extents.{stationExtent, stationsExtent}
 use Rattle.case.specs.law.Layout.{stationsOf, stationEnd, stationAt}
 use Rattle.case.specs.law.Leftover.{leftover}
-use Rattle.case.specs.inside.CountsInRange.{row-counted}
+use Rattle.case.specs.inside.CountsInRange.{row-counted, row-narrow}
 use Rattle.case.specs.inside.Places.{station-next, end-most}
 use Rattle.case.specs.law.StationFields.{rowFields, stationFields, allStationFields}
 use Rattle.case.proofs.Asked.{stopped, went-on}
-use Rattle.case.specs.inside.Counts.{StationCounted}
+use Rattle.numbers.specs.declared.answer.Answer.the-variants.{Yes}
 use Rattle.case.proofs.stations.station_rows.Statement.{statement}
 use Rattle.case.proofs.stations.station_rows.Tie as tie
 
 abbrev Inv-loop : tie.InvT-loop
 Inv-loop case first stations row₀ s₀ offset s =
-    (offset ≡ stationAt case s) × (offset ≤ stationsExtent + stationExtent * s) × Asking (stationFields case) (firstNo (allStationFields case)) s stations
+    (offset ≡ stationAt case s) × (offset ≤ stationsExtent + stationExtent * s)
+    × Asking (stationFields case) (firstNo (allStationFields case)) s stations
 
 abbrev μ-loop : tie.MeasureT-loop
 μ-loop case first stations row₀ s₀ offset s = stations - s
@@ -37,12 +38,13 @@ returns c =
     let n = c .enum-told2 .given .1 in
     stopped (allStationFields _) (leftover _) (asking-no (b .before .before .loop .inv .2) (b .before .loop-test .taken) (asked b) n) n
 
-counted : (c : tie.After-enum-told Inv-loop μ-loop) → let h = c .before .before .before .before in
-    StationCounted (now (h .before .args .case)) (h .loop .offset)
-counted c = row-counted _ _ (sym (c .before .before .station-fields .ensures) ∙ c .enum-told .given .1)
+-- the station's rows have no "no"
+passes : (c : tie.After-enum-told Inv-loop μ-loop) → let h = c .before .before .before .before in
+    firstNo (rowFields (now (h .before .args .case)) (h .loop .offset)) ≡ Yes
+passes c = sym (c .before .before .station-fields .ensures) ∙ c .enum-told .given .1
 
 station-end-requires : tie.Need-station-end-requires Inv-loop μ-loop
-station-end-requires c κs = (omega arith, counted c)
+station-end-requires c κs = (omega arith, row-counted _ _ (passes c), row-narrow _ _ (passes c))
 
 loop-again : tie.Need-loop-again Inv-loop μ-loop
 loop-again c =
@@ -50,9 +52,10 @@ loop-again c =
     let h = b .before .before in
     let l = now (h .before .args .case) in
     let v = h .loop .inv in
-    let e = c .station-end .ensures in (
+    let e = c .station-end .ensures in
+    let y = passes (c .before) in (
       e ∙ ap (stationEnd l) (v .0) ∙ sym (station-next l (h .loop .s)),
-      omega (arith, e, end-most l (h .loop .offset) (counted (c .before)), v .1),
+      omega (arith, e, end-most l (h .loop .offset) (row-counted _ _ y) (row-narrow _ _ y), v .1),
       asking-on (v .2) (b .before .loop-test .taken) (asked b) (c .before .enum-told .given .1),
     )
 
