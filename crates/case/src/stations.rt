@@ -199,14 +199,14 @@ pub(crate) fn station_end(case: &[i64], offset: usize) -> usize
     requires { ⌜ (offset ≤ caseExtent) × (StationCounted (now case) offset) × (MachinesNarrow (now case) offset) ⌝ }
     ensures { λ r. ⌜ r ≡ stationEnd (now (case .entry)) offset ⌝ }
 {
-    let machines = count(case, offset, 2);
-    let mut at = machines_at(case, offset);
+    let rows = count(case, offset, 2);
+    let mut end = machines_at(case, offset);
     let mut m: usize = 0;
-    while m < machines {
-        at += machine_width(case, at);
+    while m < rows {
+        end += machine_width(case, end);
         m += 1;
     }
-    at
+    end
 }
 
 // All stations' rows, and then 12.

@@ -4,7 +4,7 @@ use mathlib.Core.Path.{_≡_}
 use mathlib.Core.List.{List}
 use Prim.Native.Nat.{ℕ, _<_, _≤_, _^_}
 use lib.IntN.{ℤ}
-use Rattle.case.specs.law.Extents.{nodeCapacity, arcCapacity, machineExtent}
+use Rattle.case.specs.law.Extents.{mostNodes, nodeCapacity, arcCapacity, machineExtent}
 use Rattle.case.specs.law.Layout.{countAt, nodesOf, arcsOf, stationsOf, stepsOf, directionCount, stateCount, machineCount, stationAt}
 use Rattle.case.specs.law.Layout.{machineWidth, machineAt}
 use Rattle.case.specs.law.Records.{directionRow}
@@ -18,6 +18,7 @@ pub record Counts (case : List ℤ) (i r : ℕ) : Type 0 where
 
 -- the head's counts
 pub record Counted (case : List ℤ) : Type 0 where
+  pub in-limit : nodesOf case ≤ mostNodes case
   pub nodes : nodesOf case ≤ nodeCapacity
   pub some-node : 1 ≤ nodesOf case
   pub arcs : arcsOf case ≤ arcCapacity

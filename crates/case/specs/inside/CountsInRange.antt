@@ -40,6 +40,7 @@ module _ (case : List ℤ) where
       let s = field-then case 3 (pos 0) (pos 8) _ (a .1) in
       let k = field-yes case 4 (pos 1) (pos 48) (s .1) in
       record {
+        in-limit = count-most (n .0);
         nodes = le-trans (count-most (n .0)) (nodes-fit case);
         some-node = count-least (n .0);
         arcs = le-trans (count-most (a .0)) (arcs-fit case);

@@ -1,6 +1,6 @@
 -- Where rows begin, each where the one before it ends, and that no row reaches past the extents: places are sums and products of counts that are in range.
 -- Assumes nothing.
-use mathlib.Core.Path.{_≡_}
+use mathlib.Core.Path.{_≡_, refl}
 use mathlib.Core.List.{List}
 use Prim.Native.Nat.{ℕ, zero, suc, _+_, _*_, _<_, _≤_}
 use native.Mathlib.Nat.{mul-le-mul}
@@ -27,7 +27,8 @@ module _ (case : List ℤ) where
 
   -- a set has room for every node
   pub nodes-in-set : Counted case → nodesOf case ≤ setRoom
-  nodes-in-set c = omega (arith, c .nodes)
+  unfolding mostNodes
+  nodes-in-set c = omega (arith, c .in-limit)
 
   pub node-width : stepsOf case ≤ 48 → nodeWidth case ≤ nodeExtent
   unfolding nodeWidth
@@ -37,7 +38,11 @@ module _ (case : List ℤ) where
   unfolding nodeWidth
   some-width = omega arith
 
-  -- a step's bounds stand before its demand, and the demand in the row
+  pub same-bounds : (i : ℕ) → boundsIn case i ≡ boundsIn case 0
+  unfolding boundsIn
+  same-bounds i = refl
+
+  -- a step's bounds stand before its demand
   pub bounds-before : (i : ℕ) → boundsIn case i + 4 ≤ demandIn case i
   unfolding boundsIn demandIn
   bounds-before i = omega arith

@@ -35,9 +35,9 @@ use Rattle.case.specs.law.Judged.{caseQuestions, listQuestions, rowQuest
 use Rattle.case.specs.law.TimeFields.{timeFields, timeField}
 use Rattle.case.specs.law.NodeFields.{allNodeFields, nodeFields, nodeRowFields, nodeHead, boundFields}
 
--- far above every index of a case
+-- above every index of a case
 abbrev pub limit : ℕ
-limit = 100000
+limit = caseExtent + stationExtent
 
 -- ---- the fields of one row: a field's place is its index, which is small where the row begins early
 

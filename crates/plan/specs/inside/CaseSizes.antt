@@ -12,7 +12,7 @@ use Rattle.numbers.specs.inside.SignedBounds.{Bounded}
 use Rattle.numbers.specs.law.Question.{firstNo}
 use Rattle.numbers.specs.law.Sets.{subsetOf}
 use Rattle.numbers.specs.declared.answer.Answer.the-variants.{Yes}
-use Rattle.case.specs.law.Layout.{nodesOf, arcsOf, stationsOf, stepsOf, massTolerance, pressureTolerance, boundsIn, demandAt, arcAt, stationAt}
+use Rattle.case.specs.law.Layout.{nodesOf, arcsOf, stationsOf, stepsOf, massTolerance, pressureTolerance, demandAt, arcAt, stationAt}
 use Rattle.case.specs.law.Records.{nodeOf, arcOf, pipeOf, artificialOf, stationOf, directionOf, stateOf}
 use Rattle.case.specs.law.Field.{mostFlow}
 use Rattle.case.specs.law.StationFields.{firstItems}
@@ -20,6 +20,7 @@ use Rattle.case.specs.law.StationArcs.{belongs, stationArcs}
 use Rattle.case.specs.law.Judged.{listQuestions}
 use Rattle.case.specs.inside.Counts.{Counted}
 use Rattle.case.specs.claims.Says.{Between}
+use Rattle.case.specs.inside.Places.{same-bounds}
 use Rattle.case.specs.inside.NodeRows.{demand-iff}
 use Rattle.case.specs.inside.CaseRows.{four}
 use Rattle.case.specs.claims.CaseRules.{CaseRules}
@@ -67,11 +68,10 @@ module _ {case : List ℤ} (c : AcceptedCase case) where
 
   module _ (v : ℕ) (p : v < nodesOf case) where
     pub node-sized : (i : ℕ) → i < stepsOf case → NodeSized (nodeOf case v i)
-    unfolding boundsIn
     node-sized i q =
         let r = facts .nodes v p in
         let d = demand-iff (nodeOf case v i) (laws.at-most (r .kind)) .1 (facts .demands v i p q) in
-        record {
+        rw (same-bounds case i) (record {
           p0 = laws.between-bounded (r .p0);
           low = laws.between-bounded (r .low);
           high = laws.between-bounded (r .high);
@@ -81,7 +81,7 @@ module _ {case : List ℤ} (c : AcceptedCase case) where
               let k = nodeOf case v i .kind in
               let least = cond-sized (eqb k 2) (negsuc 9999999) (pos 0) {n = 10000000} (omega arith) (omega arith) in
               sized 10000000 d least (cond-sized (eqb k 1) mostFlow (pos 0) (omega arith) (omega arith));
-        }
+        })
 
     pub node-there : (i : ℕ) → i < stepsOf case → demandAt case v i < length case
     node-there i q = laws.node-there case (c .yes) v i p q

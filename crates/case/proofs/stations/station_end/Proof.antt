@@ -1,4 +1,4 @@
--- `at` is where the row of machine `m` begins, each where the one before it ends; a station has few machines, whose rows are narrow, so the sum fits.
+-- `end` is where the row of machine `m` begins, each where the one before it ends; a station has few machines, whose rows are narrow, so the sum fits.
 use Rattle.case.proofs.Common.{needs, arith, _∙_, _≡_, ap, now, _-_, _<_, _≤_}
 use Rattle.case.specs.law.Layout.{machineCount, machineAt, machineWidth}
 use Rattle.case.specs.inside.Places.{machine-next, machine-early}
@@ -6,16 +6,16 @@ use Rattle.case.proofs.stations.station_end.Statement.{statement}
 use Rattle.case.proofs.stations.station_end.Tie as tie
 
 abbrev Inv-loop : tie.InvT-loop
-Inv-loop case offset machines at₀ m₀ at m = (m ≤ machines) × (at ≡ machineAt case offset m)
+Inv-loop case offset rows end₀ m₀ end m = (m ≤ rows) × (end ≡ machineAt case offset m)
 
 abbrev μ-loop : tie.MeasureT-loop
-μ-loop case offset machines at₀ m₀ at m = machines - m
+μ-loop case offset rows end₀ m₀ end m = rows - m
 
 loop-holds : tie.Need-loop-holds Inv-loop μ-loop
 loop-holds c = (omega arith, c .machines-at .ensures)
 
-add-at : tie.Need-add-at Inv-loop μ-loop
-add-at c =
+add-end : tie.Need-add-end Inv-loop μ-loop
+add-end c =
     let h = c .before .before in
     let n = h .before .before in
     let s = n .before in
@@ -46,5 +46,5 @@ returns c =
 
 pub station-end-spec : {M : Type 1} → statement M
 station-end-spec = tie.close (tie.spec
-    Inv-loop μ-loop (λ c κs. search needs) (λ c κs. search needs) loop-holds (λ c κs. search needs) add-at (λ c. omega arith) (λ c. omega arith)
+    Inv-loop μ-loop (λ c κs. search needs) (λ c κs. search needs) loop-holds (λ c κs. search needs) add-end (λ c. omega arith) (λ c. omega arith)
     loop-again returns)
