@@ -3,9 +3,10 @@ ghost use mathlib.Core.Path.{_≡_};
 ghost use mathlib.Core.Bool.{true};
 ghost use Prim.Native.Nat.{_-_, _≤_};
 ghost use lib.IntN.{pos};
-ghost use Rattle.numbers.specs.law.Sets.{memberOf};
+ghost use Rattle.numbers.specs.law.Sets.{memberOf, subsetOf};
+ghost use Rattle.numbers.specs.law.Sums.{count};
 ghost use Rattle.numbers.specs.law.Question.{firstNo};
-ghost use Rattle.case.specs.law.Extents.{setRoom};
+ghost use Rattle.case.specs.law.Extents.{nodeCapacity, setRoom};
 ghost use Rattle.case.specs.law.Layout.{nodesOf, stepsOf};
 ghost use Rattle.case.specs.law.LayoutOf.{Holds};
 ghost use Rattle.case.specs.law.StationFields.{firstItems};
@@ -13,6 +14,7 @@ ghost use Rattle.plan.specs.law.BeforeStep.{pressureAt};
 ghost use Rattle.plan.specs.inside.Preconditions.{AcceptedCase};
 ghost use Rattle.plan.specs.claims.Acceptance.{PlanRules};
 ghost use Rattle.plan.specs.law.RegionFigures.{figuresOf};
+ghost use Rattle.plan.specs.inside.RegionSet.{insideOf};
 ghost use Rattle.plan.specs.inside.RegionPreconditions.{RegionLaid, RegionTimes};
 ghost use Rattle.plan.specs.inside.RegionLoop.{Gathering};
 ghost use Rattle.plan.specs.law.Vouched.{Vouched};
@@ -115,6 +117,20 @@ fn region_answer(case: &[i64], set: i64, s: i64, t: i64) -> Answer
     }
 }
 
+// Which nodes are in the set, once it is known to name nodes alone.
+fn members(set: i64, nodes: usize) -> [bool; NODES]
+    requires { ⌜ (nodes ≤ nodeCapacity) × (subsetOf set (firstItems nodes) ≡ true) ⌝ }
+    ensures { λ r. ⌜ insideOf r ≡ memberOf set ⌝ }
+{
+    let mut inside = [false; NODES];
+    let mut v: usize = 0;
+    while v < nodes {
+        inside[v] = member(set, v);
+        v += 1;
+    }
+    inside
+}
+
 // The pressures at a time: p0 at 0, and those of the step that ends then.
 fn pressures_at(case: &[i64], plan: &[i64], nodes: usize, width: usize, time: usize) -> [i64; NODES]
     requires { ⌜ (RegionLaid (now case) (now plan) nodes width) × (time ≤ stepsOf (now case)) ⌝ }
@@ -133,7 +149,7 @@ fn pressures_at(case: &[i64], plan: &[i64], nodes: usize, width: usize, time: us
 fn gather(
     case: &[i64],
     plan: &[i64],
-    set: i64,
+    inside: &[bool],
     nodes: usize,
     arcs: usize,
     width: usize,
@@ -141,7 +157,7 @@ fn gather(
     t: usize,
 ) -> Gathered
     requires { ⌜ RegionTimes (now case) (now plan) nodes arcs width s t ⌝ }
-    ensures { λ r. ⌜ Gathering (now (case .entry)) (now (plan .entry)) (memberOf set) s t r ⌝ }
+    ensures { λ r. ⌜ Gathering (now (case .entry)) (now (plan .entry)) (insideOf (now (inside .entry))) s t r ⌝ }
 {
     let opening = pressures_at(case, plan, nodes, width, s);
     let mut g = Gathered {
@@ -153,33 +169,35 @@ fn gather(
     while i < t {
         let offset = 2 + i * width;
         let rows = &plan[offset..offset + width];
-        g = with_step(g, case, set, rows, nodes, arcs, i);
+        g = with_step(g, case, inside, rows, nodes, arcs, i);
         i += 1;
     }
     g
 }
 
+// The figures of the region `inside`, which has `size` nodes.
 fn figures(
     case: &[i64],
     plan: &[i64],
-    set: i64,
+    inside: &[bool],
+    size: usize,
     nodes: usize,
     arcs: usize,
     width: usize,
     s: usize,
     t: usize,
 ) -> Figures
-    requires { ⌜ (RegionTimes (now case) (now plan) nodes arcs width s t) × (namesNodes (now case) set ≡ true) ⌝ }
-    ensures { λ r. ⌜ r ≡ figuresOf (now (case .entry)) (now (plan .entry)) (memberOf set) s t ⌝ }
+    requires { ⌜ (RegionTimes (now case) (now plan) nodes arcs width s t) × (size ≡ count (nodesOf (now case)) (insideOf (now inside))) ⌝ }
+    ensures { λ r. ⌜ r ≡ figuresOf (now (case .entry)) (now (plan .entry)) (insideOf (now (inside .entry))) s t ⌝ }
 {
     let old = pressures_at(case, plan, nodes, width, s);
-    let opening = region_gas(case, set, &old, arcs);
-    let g = gather(case, plan, set, nodes, arcs, width, s, t);
+    let opening = region_gas(case, inside, &old, arcs);
+    let g = gather(case, plan, inside, nodes, arcs, width, s, t);
     let last = g.pressures;
-    let closing = region_gas(case, set, &last, arcs);
+    let closing = region_gas(case, inside, &last, arcs);
     Figures {
-        nodes: count(set),
-        pipes: inner_pipes(case, set, arcs),
+        nodes: size,
+        pipes: inner_pipes(case, inside, arcs),
         opening: opening,
         closing: closing,
         brought: g.brought,
@@ -201,7 +219,9 @@ fn region_ledger(case: &[i64], plan: &[i64], set: i64, s: i64, t: i64) -> Ledger
             let width = nodes * 6 + arcs * 4 + index(at(case, 3)) * 2;
             let first = index(s);
             let last = index(t);
-            Ledger::Given(figures(case, plan, set, nodes, arcs, width, first, last))
+            let inside = members(set, nodes);
+            let size = count(set);
+            Ledger::Given(figures(case, plan, &inside, size, nodes, arcs, width, first, last))
         }
         Answer::No {
             number,

@@ -1,28 +1,31 @@
--- What it is that a set names only nodes, by its items.
-use mathlib.Core.Path.{_≡_, refl, _∙_}
-use mathlib.Core.Bool.{true}
+-- What it is that a set names only nodes, by its items; and the array that says of each node whether it is in the set.
+use mathlib.Core.Path.{_≡_, refl, _∙_, fun-ext}
+use mathlib.Core.Bool.{Bool, true, false}
 use mathlib.Core.List.{List}
 use Prim.Native.Nat.{ℕ, zero, suc, _^_, _≤_, _<_}
 use native.Mathlib.Omega.{arith}
-use lib.Dec.{eqb}
+use borrow.Author.Tests.{leb-true, leb-false}
+use lib.Dec.{leb, eqb}
+use lib.ListN.{getD}
 use lib.Pow.{pow-mono}
 use lib.IntN.{ℤ, pos}
 use lib.Signed.{leZ}
 use Rattle.numbers.specs.law.Signed.{posPart}
 use Rattle.numbers.specs.inside.SignedParts.{size, ints}
 use Rattle.numbers.specs.law.Sets.{bit, memberOf, countOf, subsetOf}
-use Rattle.numbers.specs.inside.SetLaws.{ones-sum}
+use Rattle.numbers.specs.inside.SetLaws.{bit-high, ones-sum}
 use Rattle.numbers.specs.law.Sums.{onlyN, count}
 use Rattle.numbers.specs.inside.SumLaws.{sumN-cong}
 use Rattle.case.specs.law.Extents.{setRoom}
 use Rattle.case.specs.law.Layout.{nodesOf}
+use Rattle.case.specs.law.LayoutOf.{Holds, Clear}
 use Rattle.case.specs.inside.FieldLaws.{and-second}
 use Rattle.case.specs.law.StationFields.{firstItems}
 use Rattle.case.specs.inside.SaysLaws.{first-says, first-below}
 use Rattle.plan.specs.law.Ledger.{isNodeSet, namesNodes}
 
 module _ (case : List ℤ) (set : ℤ) (kept : namesNodes case set ≡ true) where
-  within : subsetOf set (firstItems (nodesOf case)) ≡ true
+  pub within : subsetOf set (firstItems (nodesOf case)) ≡ true
   unfolding namesNodes
   within = and-second (isNodeSet set) (subsetOf set (firstItems (nodesOf case))) kept
 
@@ -53,3 +56,21 @@ nodes-pass case set few whole items = rw (whole, top, inside)
         let p : 2 ^ nodesOf case ≤ 2 ^ setRoom = pow-mono few in
         let q : posPart set ≤ 1152921504606846975 = omega (arith, first-below set (nodesOf case) inside) in
         omega (ints, size set)
+
+-- ---- the test that an array of bools is: no node past its end is inside
+
+unfoldable pub insideOf : List Bool → ℕ → Bool
+insideOf xs v = getD xs v false
+
+-- an array that holds the first n answers for a set of such items is the set's test
+pub members-are : (set : ℤ) (n : ℕ) {xs : List Bool} → subsetOf set (firstItems n) ≡ true → Holds false xs (memberOf set) n → Clear false xs n
+    → insideOf xs ≡ memberOf set
+unfolding insideOf
+members-are set n {xs} few holds clear = fun-ext (λ v. at v (leb n v) refl)
+  where
+    at : (v : ℕ) (b : Bool) → leb n v ≡ b → getD xs v false ≡ memberOf set v
+    at v true e =
+        let l : n ≤ v = leb-true n v e in
+        let z : bit (posPart set) v ≡ 0 = bit-high n (posPart set) v (first-below set n few) l in
+        rw z (clear .each v l)
+    at v false e = holds .each v (leb-false n v e)

@@ -1,26 +1,27 @@
 -- The code asks the law's three tests in the law's order, and stops at the first no.
-use Rattle.plan.proofs.Common.{_≡_, sym, ap, ap₂, _∙_, true, needs, eq-eqb, ne-eqb, now, eqb, ℤ, toZ-ofZ}
+use Rattle.plan.proofs.Common.{_≡_, sym, ap, _∙_, true, needs, eq-eqb, ne-eqb, now, eqb}
 use Rattle.case.specs.declared.records.Arc.{Arc}
-use Rattle.numbers.specs.law.Sets.{memberOf}
+use Rattle.plan.specs.inside.RegionSet.{insideOf}
 use Rattle.plan.specs.law.Pipes.{isPipe}
 use Rattle.plan.specs.law.Region.{beginsIn}
 use Rattle.plan.proofs.region.inner_pipe.Statement.{statement}
 use Rattle.plan.proofs.region.inner_pipe.Tie as tie
 
-piped : (t : tie.Then1) → let s = t .before .before .before in isPipe (now (s .args .case)) (s .args .e) ≡ true
+piped : (t : tie.Then1) → let s = t .before .before .before .before in isPipe (now (s .args .case)) (s .args .e) ≡ true
 piped t = ap (λ (x : Arc). eqb (x .kind) 2) (sym (t .before .before .arc .ensures)) ∙ eq-eqb _ _ (t .if1 .taken)
 
-begins : (m : tie.After-member) → let a = m .before .before .before .before .args in beginsIn (now (a .case)) (memberOf (a .set)) (a .e) ≡ m .member .result
+begins : (m : tie.After-is-inside) → let a = m .before .before .before .before .before .args in
+    beginsIn (now (a .case)) (insideOf (now (a .inside))) (a .e) ≡ m .is-inside .result
 begins m =
     let a = m .before .before .before in
-    sym (m .member .ensures ∙ ap₂ (λ (z : ℤ) (x : Arc). memberOf z (x .from)) (toZ-ofZ (a .before .fits .set)) (a .arc .ensures))
+    sym (m .is-inside .ensures ∙ ap (λ (x : Arc). insideOf (now (a .before .before .args .inside)) (x .from)) (a .arc .ensures))
 
 returns : tie.Need-returns
 returns c =
     let m = c .before .before in
     let a = m .before .before .before in
-    let e = ap₂ (λ (z : ℤ) (x : Arc). memberOf z (x .to)) (toZ-ofZ (a .before .fits .set)) (a .arc .ensures) in
-    rw (piped (m .before), begins m ∙ c .before .if2 .taken) (c .member2 .ensures ∙ e)
+    let e = ap (λ (x : Arc). insideOf (now (a .before .before .args .inside)) (x .to)) (a .arc .ensures) in
+    rw (piped (m .before), begins m ∙ c .before .if2 .taken) (c .is-inside2 .ensures ∙ e)
 
 returns-2 : tie.Need-returns-2
 returns-2 c = rw (piped (c .before .before), begins (c .before) ∙ c .if2 .left)

@@ -1,21 +1,21 @@
 -- The sum so far is that of the nodes passed, and no node supplies more than a bound by which the whole sum fits.
-use Rattle.plan.proofs.Common.{ap, _∙_, _-_, arith, now, ℤ, w64, toZ, toZ-ofZ}
-use Rattle.numbers.specs.law.Sets.{memberOf}
+use Rattle.plan.proofs.Common.{_-_, arith}
 use Rattle.case.specs.law.Layout.{nodesOf}
 use Rattle.plan.specs.law.Region.{regionSupply, suppliesIn}
+use Rattle.plan.specs.inside.RegionSet.{insideOf}
 use Rattle.plan.specs.inside.RegionSizes.{supply-small}
 use Rattle.plan.proofs.Adding.{Summing, begun, one-fits, one-more, whole}
 use Rattle.plan.proofs.region.supplies.Statement.{statement}
 use Rattle.plan.proofs.region.supplies.Tie as tie
 
 abbrev Inv-loop : tie.InvT-loop
-Inv-loop case set rows nodes sum₀ v₀ sum v = Summing (sum .value) (regionSupply (memberOf (toZ w64 set)) rows) 10000000 (nodesOf case) v
+Inv-loop case inside rows nodes sum₀ v₀ sum v = Summing (sum .value) (regionSupply (insideOf inside) rows) 10000000 (nodesOf case) v
 
 abbrev μ-loop : tie.MeasureT-loop
-μ-loop case set rows nodes sum₀ v₀ sum v = nodes - v
+μ-loop case inside rows nodes sum₀ v₀ sum v = nodes - v
 
 loop-holds : tie.Need-loop-holds Inv-loop μ-loop
-loop-holds c = begun (supply-small (c .pre .2) _) (omega arith)
+loop-holds c = begun (supply-small (c .before .pre .2) _) (omega arith)
 
 add-sum : tie.Need-add-sum Inv-loop μ-loop
 add-sum c = one-fits (c .before .before .before .before .loop .inv) (c .before .before .supply .ensures) (omega arith)
@@ -25,10 +25,7 @@ loop-again c = one-more (c .before .before .before .before .loop .inv) (c .befor
 
 returns : tie.Need-returns Inv-loop μ-loop
 unfolding suppliesIn
-returns c =
-    let l = c .before .before in
-    let a = l .before .args in
-    whole (l .loop .inv) (omega arith) ∙ ap (λ (y : ℤ). suppliesIn (now (a .case)) (memberOf y) (now (a .rows))) (toZ-ofZ (l .before .fits .set))
+returns c = whole (c .before .before .loop .inv) (omega arith)
 
 pub supplies-spec : {M : Type 1} → statement M
 supplies-spec = tie.close (tie.spec
