@@ -205,6 +205,25 @@ fn figures(
     }
 }
 
+// The same of a set that names nodes alone. From here on it is an array.
+fn set_figures(
+    case: &[i64],
+    plan: &[i64],
+    set: i64,
+    nodes: usize,
+    arcs: usize,
+    width: usize,
+    s: usize,
+    t: usize,
+) -> Figures
+    requires { ⌜ (RegionTimes (now case) (now plan) nodes arcs width s t) × (namesNodes (now case) set ≡ true) ⌝ }
+    ensures { λ r. ⌜ r ≡ figuresOf (now (case .entry)) (now (plan .entry)) (memberOf set) s t ⌝ }
+{
+    let inside = members(set, nodes);
+    let size = count(set);
+    figures(case, plan, &inside, size, nodes, arcs, width, s, t)
+}
+
 // The figures of an accepted plan, or the refusal by 40 or 41.
 fn region_ledger(case: &[i64], plan: &[i64], set: i64, s: i64, t: i64) -> Ledger
     requires { ⌜ PlanRules (now case) (now plan) ⌝ }
@@ -219,9 +238,7 @@ fn region_ledger(case: &[i64], plan: &[i64], set: i64, s: i64, t: i64) -> Ledger
             let width = nodes * 6 + arcs * 4 + index(at(case, 3)) * 2;
             let first = index(s);
             let last = index(t);
-            let inside = members(set, nodes);
-            let size = count(set);
-            Ledger::Given(figures(case, plan, &inside, size, nodes, arcs, width, first, last))
+            Ledger::Given(set_figures(case, plan, set, nodes, arcs, width, first, last))
         }
         Answer::No {
             number,

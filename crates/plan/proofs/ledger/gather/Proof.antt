@@ -23,8 +23,7 @@ inside : (c : tie.In-loop Inv-loop μ-loop) → c .before .loop .i < stepsOf (no
 inside c = omega (arith, c .before .before .before .before .pre .last, c .loop-test .taken)
 
 -- the step's part lies in the plan's list, and not far in
-within : (c : tie.In-loop Inv-loop μ-loop) → let s = c .before .before .before .before in
-    StepWithin (now (s .args .plan)) (c .before .loop .i) (s .args .width)
+within : (c : tie.In-loop Inv-loop μ-loop) → let a = c .before .before .before .before .args in StepWithin (now (a .plan)) (c .before .loop .i) (a .width)
 within c = let l = c .before .before .before .before .pre .laid in step-within (l .rules) (l .wide) _ (inside c)
 
 with-step-requires : tie.Need-with-step-requires Inv-loop μ-loop

@@ -1,16 +1,14 @@
--- Once 40 and 41 are answered yes the array is the test of the set and the times are in order, and so the figures may be computed; a no is the answer itself.
+-- Once 40 and 41 are answered yes the times are in order, and so the figures may be computed; a no is the answer itself.
 use Rattle.case.specs.law.Extents.{arcCapacity, nodeCapacity}
-use Rattle.plan.proofs.Common.{_≡_, sym, ap, _∙_, true, _≤_, arith, needs, now, toZ-ofZ, counted}
+use Rattle.plan.proofs.Common.{_≡_, sym, ap, _∙_, _≤_, arith, needs, now, toZ-ofZ, counted}
 use Rattle.numbers.specs.law.Signed.{posPart}
 use Rattle.numbers.specs.law.Sets.{memberOf}
-use Rattle.numbers.specs.law.Sums.{count}
 use Rattle.numbers.specs.law.Question.{firstNo}
 use Rattle.numbers.specs.declared.answer.Answer.the-variants.{Yes}
 use Rattle.case.specs.law.Layout.{nodesOf, arcsOf, stationsOf}
 use Rattle.plan.specs.declared.figures.Ledger.the-variants.{Given}
 use Rattle.plan.specs.law.PlanLayout.{stepWidth}
-use Rattle.plan.specs.law.Ledger.{namesNodes, regionQuestions}
-use Rattle.plan.specs.inside.RegionSet.{insideOf, within, nodes-counted}
+use Rattle.plan.specs.law.Ledger.{regionQuestions}
 use Rattle.plan.specs.inside.LedgerVerdict.{nodes-kept, times-kept}
 use Rattle.plan.specs.inside.LedgerAnswer.{in-order}
 use Rattle.plan.proofs.RegionTests.{same-figures}
@@ -59,51 +57,29 @@ first-is c = c .before .index4 .ensures ∙ ap posPart (toZ-ofZ (begin (told c) 
 last-is : (c : tie.After-index5) → c .index5 .result ≡ posPart (begin (told c) .args .t)
 last-is c = c .index5 .ensures ∙ ap posPart (toZ-ofZ (begin (told c) .fits .t))
 
-named : (c : tie.After-index5) → let a = begin (told c) .args in namesNodes (now (a .case)) (a .set) ≡ true
-named c = let a = begin (told c) .args in nodes-kept (now (a .case)) (now (a .plan)) (a .set) (a .s) (a .t) (asked-yes (told c))
-
-members-requires : tie.Need-members-requires
-members-requires c κs =
-    let s = begin (told c) in
-    let m = c .before .before .before .before in
-    (few-arcs m .0, rw (toZ-ofZ (s .fits .set), nodes-is (m .before .before)) (within (now (s .args .case)) (s .args .set) (named c)))
-
--- the array is the test of the set, and so has as many nodes
-inside-is : (c : tie.After-members) → insideOf (c .members .result) ≡ memberOf (begin (told (c .before)) .args .set)
-inside-is c = c .members .ensures ∙ ap memberOf (toZ-ofZ (begin (told (c .before)) .fits .set))
-
-size-is : (c : tie.After-count) → let m = c .before in
-    c .count .result ≡ count (nodesOf (now (begin (told (m .before)) .args .case))) (insideOf (m .members .result))
-size-is c =
-    let m = c .before in
-    let s = begin (told (m .before)) in
-    (rw (toZ-ofZ (s .fits .set)) at (c .count .ensures))
-    ∙ nodes-counted (now (s .args .case)) (s .args .set) (named (m .before))
-    ∙ ap (count (nodesOf (now (s .args .case)))) (sym (inside-is m))
-
-figures-requires : tie.Need-figures-requires
+set-figures-requires : tie.Need-set-figures-requires
 unfolding stepWidth
-figures-requires c κs =
-    let d = c .before .before .before in
-    let s = begin (told d) in
+set-figures-requires c κs =
+    let s = begin (told c) in
     let a = s .args in
-    let n = nodes-is (d .before .before .before .before .before .before) in
-    let m = arcs-is (d .before .before .before .before) in
-    let o = in-order (now (a .case)) (a .s) (a .t) (times-kept (now (a .case)) (now (a .plan)) (a .set) (a .s) (a .t) (asked-yes (told d))) in (
+    let n = nodes-is (c .before .before .before .before .before .before) in
+    let m = arcs-is (c .before .before .before .before) in
+    let y = asked-yes (told c) in
+    let o = in-order (now (a .case)) (a .s) (a .t) (times-kept (now (a .case)) (now (a .plan)) (a .set) (a .s) (a .t) y) in (
       record {
-        laid = record { rules = s .pre; counted = n; wide = omega (arith, n, m, stations-is (d .before .before)) };
+        laid = record { rules = s .pre; counted = n; wide = omega (arith, n, m, stations-is (c .before .before)) };
         counted = m;
-        order = omega (arith, first-is d, last-is d, o .order);
-        last = omega (arith, last-is d, o .last);
+        order = omega (arith, first-is c, last-is c, o .order);
+        last = omega (arith, last-is c, o .last);
       },
-      size-is (c .before),
+      rw (toZ-ofZ (s .fits .set)) (nodes-kept (now (a .case)) (now (a .plan)) (a .set) (a .s) (a .t) y),
     )
 
 returns : tie.Need-returns
 returns c =
-    let m = c .before .before .before in
-    let f = same-figures _ _ (inside-is m) (first-is (m .before)) (last-is (m .before)) in
-    rw (asked-yes (told (m .before))) (ap Given (c .figures .ensures ∙ f))
+    let t = told (c .before) in
+    let f = same-figures _ _ (ap memberOf (toZ-ofZ (begin t .fits .set))) (first-is (c .before)) (last-is (c .before)) in
+    rw (asked-yes t) (ap Given (c .set-figures .ensures ∙ f))
 
 returns-2 : tie.Need-returns-2
 returns-2 c =
@@ -119,5 +95,4 @@ region-ledger-spec = tie.close (tie.spec
     (λ c κs. record { yes = c .pre .case-yes }) (λ c. search needs) (λ c κs. search needs) (λ c κs. search needs)
     (λ c κs. search needs) (λ c κs. search needs) (λ c. omega (arith, few-arcs c)) (λ c. omega (arith, few-arcs c))
     (λ c. omega (arith, few-arcs c)) (λ c κs. search needs) (λ c κs. search needs) (λ c. omega (arith, few-stations c))
-    add-width-2 (λ c κs. search needs) (λ c κs. search needs) members-requires (λ c κs. search needs) (λ c. search needs)
-    figures-requires (λ c. search needs) returns returns-2)
+    add-width-2 (λ c κs. search needs) (λ c κs. search needs) set-figures-requires (λ c. search needs) returns returns-2)

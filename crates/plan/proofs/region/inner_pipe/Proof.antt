@@ -19,8 +19,7 @@ begins m =
 returns : tie.Need-returns
 returns c =
     let m = c .before .before in
-    let a = m .before .before .before in
-    let e = ap (λ (x : Arc). insideOf (now (a .before .before .args .inside)) (x .to)) (a .arc .ensures) in
+    let e = ap (λ (x : Arc). insideOf (now (m .before .before .before .before .before .args .inside)) (x .to)) (m .before .before .before .arc .ensures) in
     rw (piped (m .before), begins m ∙ c .before .if2 .taken) (c .is-inside2 .ensures ∙ e)
 
 returns-2 : tie.Need-returns-2
