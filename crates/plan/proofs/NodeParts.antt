@@ -1,4 +1,4 @@
--- A node's net flow is the sum of what each arc puts to it, so it is bounded by what 120 arcs can put.
+-- A node's net flow is the sum of what each arc puts to it, so it is bounded by what the arcs can put.
 use Rattle.plan.specs.inside.SumSizes.{mostNet, mostNodeResidual}
 use Rattle.plan.proofs.Common.{_≡_, refl, sym, _∙_, Bool, true, false, ℕ, _+_, _<_, _≤_, arith, eqb, ℤ, pos, natAbs, _-ℤ_, leZ, counted}
 use mathlib.Core.Bool.{cond}

@@ -1,5 +1,5 @@
 -- 13 to 17, both ways: none is answered no exactly where its facts of `CaseRules` hold. Sets go by their items (`SaysLaws`), and an item of a set of
--- a station's arcs is one of them. That node sets have only the items of 60 nodes, which 16 leans on, is known from 11.
+-- a station's arcs is one of them. That node sets have only items that a set has room for, which 16 leans on, is known from 11.
 -- Assumes nothing.
 use mathlib.Core.Path.{_≡_}
 use mathlib.Core.Bool.{Bool, true}

@@ -1,4 +1,4 @@
--- The three tests are made in the law's order, on the two sets that were read; a direction in range has only the items of 60 nodes.
+-- The three tests are made in the law's order, on the two sets that were read; a direction in range has only items that a set has room for.
 use Rattle.case.proofs.Common.{needs, _∙_, _≡_, ap, sym, now, kept-is, w64, toZ, ofZ, toZ-ofZ}
 use Rattle.numbers.specs.law.Sets.{disjointOf}
 use Rattle.case.specs.law.Directions.{onlyFence, setsKept}

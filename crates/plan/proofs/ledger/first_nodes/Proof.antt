@@ -1,4 +1,4 @@
--- One bit shifted by n and less 1 is the set of the first n items, and 60 of them fit a signed number.
+-- One bit shifted by n and less 1 is the set of the first n items, and as many as a set has room for fit a signed number.
 use Rattle.plan.proofs.Common.{arith, needs, w64, toZ-pos}
 use lib.Pow.{pow-pos}
 use Rattle.numbers.specs.inside.ItemBits.{shifted, items-fit}

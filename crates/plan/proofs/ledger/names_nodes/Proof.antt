@@ -1,4 +1,4 @@
--- The set is first held against all 60 items, and then against the case's nodes: the two tests of the law, in its order.
+-- The set is first held against all items that it has room for, and then against the case's nodes: the two tests of the law, in its order.
 use Rattle.case.specs.law.Extents.{setRoom}
 use Rattle.plan.proofs.Common.{_≡_, sym, ap, _∙_, _≤_, arith, needs, now, toZ-ofZ, kept}
 use Rattle.case.specs.law.Layout.{nodesOf}
