@@ -5,7 +5,7 @@ use Rattle.numbers.proofs.compare.same.Statement.{statement}
 use Rattle.numbers.proofs.compare.same.Tie as tie
 
 returns : tie.Need-returns
-returns c = let f = c.before.ranges in simp (to_z-of_z f.a, to_z-of_z f.b) at c.within.ensures
+returns c = let f = c.ranges in simp (to_z-of_z f.a, to_z-of_z f.b) at c.within.ensures
 
 pub same_spec : {M : Type 1} → statement M
 same_spec = tie.close (tie.spec (λ c κs. search rules) returns)

@@ -7,14 +7,14 @@ use borrow.Author.Rules.{rules}
 use Rattle.numbers.proofs.compare.within.Statement.{statement}
 use Rattle.numbers.proofs.compare.within.Tie as tie
 
-returns : tie.Need-returns
+returns : tie.Need-returns-then-at_most
 returns c =
     let s = c.before.before.before in
     let f = s.ranges in
     let e : le_z s.args.low s.args.x ≡ true = cc (to_z-of_z f.low, to_z-of_z f.x) in
     rw e (cc (to_z-of_z f.x, to_z-of_z f.high))
 
-returns_2 : tie.Need-returns-2
+returns_2 : tie.Need-returns-else-at_most
 returns_2 c =
     let s = c.before.before in
     let e : le_z s.args.low s.args.x ≡ false = cc (to_z-of_z s.ranges.low, to_z-of_z s.ranges.x) in

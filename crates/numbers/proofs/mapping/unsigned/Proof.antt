@@ -37,29 +37,29 @@ unsigned_neg (negsuc n) e = refl
 signed_pos : (z : ℤ) → lt_z z (pos 0) ≡ false → z ≡ pos (mag z)
 signed_pos z e = omega (ints, mags z)
 
-neg : (c : tie.Then1) → lt_z c.before.args.x (pos 0) ≡ true
-neg c = lt← c.before.ranges.x (sfits_lit {z = pos 0} tt) c.if1.true
+neg : (c : tie.Then-x-lt0) → lt_z c.args.x (pos 0) ≡ true
+neg c = lt← c.ranges.x (sfits_lit {z = pos 0} tt) c.if-x-lt0.true
 
-nonneg : (c : tie.Else1) → c.before.args.x ≡ pos (mag c.before.args.x)
-nonneg c = signed_pos _ (lt← c.before.ranges.x (sfits_lit {z = pos 0} tt) c.if1.false)
+nonneg : (c : tie.Else-x-lt0) → c.args.x ≡ pos (mag c.args.x)
+nonneg c = signed_pos _ (lt← c.ranges.x (sfits_lit {z = pos 0} tt) c.if-x-lt0.false)
 
 -- `m` of the two arms
-size_neg : (c : tie.Then1) → to_z w64 (of_z w64 (pos 0 -ℤ to_z w64 (of_z w64 (to_z w64 (of_z w64 c.before.args.x) +ℤ pos 1)))) ≡ pos (mag c.before.args.x)
-size_neg c = size_is _ c.before.ranges.x (neg c)
+size_neg : (c : tie.Then-x-lt0) → to_z w64 (of_z w64 (pos 0 -ℤ to_z w64 (of_z w64 (to_z w64 (of_z w64 c.args.x) +ℤ pos 1)))) ≡ pos (mag c.args.x)
+size_neg c = size_is _ c.ranges.x (neg c)
 
-size_pos : (c : tie.Else1) → to_z w64 (of_z w64 c.before.args.x) ≡ pos (mag c.before.args.x)
-size_pos c = to_z-of_z c.before.ranges.x ∙ nonneg c
+size_pos : (c : tie.Else-x-lt0) → to_z w64 (of_z w64 c.args.x) ≡ pos (mag c.args.x)
+size_pos c = to_z-of_z c.ranges.x ∙ nonneg c
 
-add_size : tie.Need-overflow-add-size
-add_size c = rw (to_z-of_z c.before.ranges.x) (up_fits _ c.before.ranges.x (neg c))
+add_size : tie.Need-overflow_add-size
+add_size c = rw (to_z-of_z c.ranges.x) (up_fits _ c.ranges.x (neg c))
 
-sub_size : tie.Need-overflow-sub-size
-sub_size c = let f = c.before.ranges.x in rw (to_z-of_z f, to_z-of_z (up_fits _ f (neg c))) (neg_fits _ f (neg c))
+sub_size : tie.Need-overflow_sub-size
+sub_size c = let f = c.ranges.x in rw (to_z-of_z f, to_z-of_z (up_fits _ f (neg c))) (neg_fits _ f (neg c))
 
-returns : tie.Need-returns
+returns : tie.Need-returns-then-x-lt0
 returns c = rw (size_neg c, unsigned_neg _ (neg c))
 
-returns_2 : tie.Need-returns-2
+returns_2 : tie.Need-returns-else-x-lt0
 returns_2 c = rw (size_pos c) (ap unsigned_of (sym (nonneg c)))
 
 pub unsigned_spec : {M : Type 1} → statement M

@@ -8,73 +8,73 @@ use Rattle.numbers.proofs.Gathered.{Gathering, gathering, gather_none, scale_mos
 use Rattle.numbers.proofs.reader.later.Statement.{statement}
 use Rattle.numbers.proofs.reader.later.Tie as tie
 
-abbrev invariant-loop : tie.invariant-loop
-invariant-loop bytes start group value₀ scale₀ at₀ more₀ value scale at more = Gathering bytes start group value scale at more
+abbrev invariant-loop-more : tie.invariant-loop-more
+invariant-loop-more bytes start group value₀ scale₀ at₀ more₀ value scale at more = Gathering bytes start group value scale at more
 
-abbrev decreases-loop : tie.decreases-loop
-decreases-loop bytes start group value₀ scale₀ at₀ more₀ value scale at more = more
+abbrev decreases-loop-more : tie.decreases-loop-more
+decreases-loop-more bytes start group value₀ scale₀ at₀ more₀ value scale at more = more
 
-byte_small : (w : tie.After-wide invariant-loop decreases-loop)
-    → let l = w.before.before.before.before in get_or l.before.before.args.bytes.now l.loop.at 0 < 256
-byte_small w = let l = w.before.before.before.before in omega (arith, w.before.shared_slice_known2.given l.loop.at)
+byte_small : (w : tie.After-wide-b invariant-loop-more decreases-loop-more)
+    → let l = w.before.before.before.before in get_or l.args.bytes.now l.loop-more.at 0 < 256
+byte_small w = let l = w.before.before.before.before in omega (arith, w.shared_slice_known-in-loop-more-1.given l.loop-more.at)
 
 -- the group of a byte that is not the last
-group_small : (c : tie.Else2 invariant-loop decreases-loop) → c.before.before.before.before.before.loop.scale * (c.before.wide.result - 128) ≤ 2 ^ 56 * 127
+group_small : (c : tie.Else-b-lt128 invariant-loop-more decreases-loop-more) → c.loop-more.scale * (c.wide-b.result - 128) ≤ 2 ^ 56 * 127
 group_small c =
     let w = c.before in
     let i = w.before.before.before in
-    let g : w.wide.result - 128 < 128 = omega (arith, byte_small w, w.wide.ensures) in
-    product_small g (omega (arith, scale_most _ i.before.loop.invariant i.loop-test.true))
+    let g : w.wide-b.result - 128 < 128 = omega (arith, byte_small w, w.wide-b.ensures) in
+    product_small g (omega (arith, scale_most _ i.loop-more.invariant i.loop-more-test.true))
 
-loop_holds : tie.Need-loop-init invariant-loop decreases-loop
-loop_holds c = let p = c.before.requires in gathering _ _ _ p.0 p.1
+loop_holds : tie.Need-loop-more-init invariant-loop-more decreases-loop-more
+loop_holds c = let p = c.requires in gathering _ _ _ p.0 p.1
 
-returns : tie.Need-returns invariant-loop decreases-loop
-returns c = gather_none c.before.before.loop.invariant c.if1.true
+returns : tie.Need-returns-then-bytes-at invariant-loop-more decreases-loop-more
+returns c = gather_none c.loop-more.invariant c.if-bytes-at.true
 
-last_requires : tie.Need-last-requires invariant-loop decreases-loop
+last_requires : tie.Need-last-requires invariant-loop-more decreases-loop-more
 last_requires c κs =
     let i = c.before.before.before.before in
-    let g = i.before.loop.invariant in
-    (c.if2.true, g.below, omega (arith, scale_most _ g i.loop-test.true), omega arith)
+    let g = i.loop-more.invariant in
+    (c.if-b-lt128.true, g.below, omega (arith, scale_most _ g i.loop-more-test.true), omega arith)
 
-returns_2 : tie.Need-returns-2 invariant-loop decreases-loop
+returns_2 : tie.Need-returns-then-b-lt128 invariant-loop-more decreases-loop-more
 returns_2 c =
     let w = c.before.before in
     let e = w.before.before in
     let i = e.before in
-    let b = w.wide.ensures in
-    c.last.ensures ∙ rw b (gathered _ i.before.loop.invariant i.loop-test.true e.if1.false (subst (λ (n : ℕ). n < 128) b c.before.if2.true))
+    let b = w.wide-b.ensures in
+    c.last.ensures ∙ rw b (gathered _ i.loop-more.invariant i.loop-more-test.true e.if-bytes-at.false (subst (λ (n : ℕ). n < 128) b c.if-b-lt128.true))
 
-add_value : tie.Need-overflow-add-value invariant-loop decreases-loop
+add_value : tie.Need-overflow_add-value invariant-loop-more decreases-loop-more
 add_value c =
     let i = c.before.before.before.before in
-    let g = i.before.loop.invariant in
-    record { fits = omega (arith, group_small c, g.below, scale_most _ g i.loop-test.true) }
+    let g = i.loop-more.invariant in
+    record { fits = omega (arith, group_small c, g.below, scale_most _ g i.loop-more-test.true) }
 
-mul_scale : tie.Need-overflow-mul-scale invariant-loop decreases-loop
+mul_scale : tie.Need-overflow_mul-scale invariant-loop-more decreases-loop-more
 mul_scale c =
     let i = c.before.before.before.before in
-    record { fits = omega (arith, scale_most _ i.before.loop.invariant i.loop-test.true) }
+    record { fits = omega (arith, scale_most _ i.loop-more.invariant i.loop-more-test.true) }
 
-loop_again : tie.Need-loop-preserved invariant-loop decreases-loop
+loop_again : tie.Need-loop-more-preserved invariant-loop-more decreases-loop-more
 loop_again c =
     let w = c.before in
     let e = w.before.before in
     let i = e.before in
-    let b = w.wide.ensures in
-    rw b (gather_on _ i.before.loop.invariant i.loop-test.true e.if1.false (subst (λ (n : ℕ). 128 ≤ n) b c.if2.false) (byte_small w))
+    let b = w.wide-b.ensures in
+    rw b (gather_on _ i.loop-more.invariant i.loop-more-test.true e.if-bytes-at.false (subst (λ (n : ℕ). 128 ≤ n) b c.if-b-lt128.false) (byte_small w))
 
-tenth_requires : tie.Need-tenth-requires invariant-loop decreases-loop
+tenth_requires : tie.Need-tenth-requires invariant-loop-more decreases-loop-more
 tenth_requires c κs =
-    let g = c.before.loop.invariant in
-    omega (arith, g.below, scale_last _ g c.loop-test.false)
+    let g = c.loop-more.invariant in
+    omega (arith, g.below, scale_last _ g c.loop-more-test.false)
 
-returns_3 : tie.Need-returns-3 invariant-loop decreases-loop
-returns_3 c = c.tenth.ensures ∙ gather_tenth _ c.before.before.loop.invariant c.before.loop-test.false
+returns_3 : tie.Need-returns invariant-loop-more decreases-loop-more
+returns_3 c = c.tenth.ensures ∙ gather_tenth _ c.loop-more.invariant c.loop-more-test.false
 
 pub later_spec : {M : Type 1} → statement M
 later_spec = tie.close (tie.spec
-    invariant-loop decreases-loop loop_holds (λ c. omega (arith, c.before.before.loop.invariant.few)) returns (λ c. omega arith) (λ c κs. search rules)
+    invariant-loop-more decreases-loop-more loop_holds (λ c. omega (arith, c.loop-more.invariant.few)) returns (λ c. omega arith) (λ c κs. search rules)
     (λ c. omega arith) last_requires returns_2 (λ c. record { fits = omega (arith, group_small c) }) add_value mul_scale (λ c. omega arith)
     (λ c. omega arith) (λ c. omega arith) loop_again tenth_requires returns_3)

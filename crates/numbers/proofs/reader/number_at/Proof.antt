@@ -7,25 +7,25 @@ use Rattle.numbers.proofs.Gathered.{number_one, number_more}
 use Rattle.numbers.proofs.reader.number_at.Statement.{statement}
 use Rattle.numbers.proofs.reader.number_at.Tie as tie
 
-returns : tie.Need-returns
+returns : tie.Need-returns-then-first-lt128
 returns c =
     let w = c.before in
     let a = w.before.before.before in
-    let b = w.wide.ensures in
-    rw b (sym (number_one _ _ a.requires (subst (λ (n : ℕ). n < 128) b c.if1.true)))
+    let b = w.wide-first.ensures in
+    rw b (sym (number_one _ _ a.requires (subst (λ (n : ℕ). n < 128) b c.if-first-lt128.true)))
 
 later_requires : tie.Need-later-requires
 later_requires c κs =
     let w = c.before in
     let a = w.before.before.before in
-    (omega (arith, a.requires), omega (arith, w.wide.ensures, w.before.shared_slice_known2.given a.args.at))
+    (omega (arith, a.requires), omega (arith, w.wide-first.ensures, w.shared_slice_known-2-1.given a.args.at))
 
-returns_2 : tie.Need-returns-2
+returns_2 : tie.Need-returns
 returns_2 c =
     let w = c.before.before in
     let a = w.before.before.before in
-    let b = w.wide.ensures in
-    c.later.ensures ∙ rw b (sym (number_more _ _ a.requires (subst (λ (n : ℕ). 128 ≤ n) b c.before.if1.false)))
+    let b = w.wide-first.ensures in
+    c.later.ensures ∙ rw b (sym (number_more _ _ a.requires (subst (λ (n : ℕ). 128 ≤ n) b c.if-first-lt128.false)))
 
 pub number_at_spec : {M : Type 1} → statement M
 number_at_spec = tie.close (tie.spec

@@ -7,20 +7,20 @@ use Rattle.numbers.proofs.Gathered.{later_none, tenth_one, tenth_other}
 use Rattle.numbers.proofs.reader.tenth.Statement.{statement}
 use Rattle.numbers.proofs.reader.tenth.Tie as tie
 
-returns : tie.Need-returns
+returns : tie.Need-returns-then-b-eq1
 returns c =
     let w = c.before in
     let e = w.before.before in
-    sym (ap (shifted _ (2 ^ 63) 9) (tenth_one _ _ e.if1.true (sym w.wide.ensures ∙ c.if2.true)))
+    sym (ap (shifted _ (2 ^ 63) 9) (tenth_one _ _ e.if-at-bytes.true (sym w.wide-b.ensures ∙ c.if-b-eq1.true)))
 
-returns_2 : tie.Need-returns-2
+returns_2 : tie.Need-returns-else-b-eq1
 returns_2 c =
     let w = c.before in
     let e = w.before.before in
-    sym (ap (shifted _ (2 ^ 63) 9) (tenth_other _ _ e.if1.true (λ o. c.if2.false (w.wide.ensures ∙ o))))
+    sym (ap (shifted _ (2 ^ 63) 9) (tenth_other _ _ e.if-at-bytes.true (λ o. c.if-b-eq1.false (w.wide-b.ensures ∙ o))))
 
-returns_3 : tie.Need-returns-3
-returns_3 c = sym (ap (shifted _ (2 ^ 63) 9) (later_none 0 _ _ c.if1.false))
+returns_3 : tie.Need-returns-else-at-bytes
+returns_3 c = sym (ap (shifted _ (2 ^ 63) 9) (later_none 0 _ _ c.if-at-bytes.false))
 
 pub tenth_spec : {M : Type 1} → statement M
 tenth_spec = tie.close (tie.spec

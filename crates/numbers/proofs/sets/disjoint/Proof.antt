@@ -6,8 +6,8 @@ use Rattle.numbers.proofs.sets.disjoint.Tie as tie
 
 returns : tie.Need-returns
 returns c =
-    let f = c.before.before.ranges in
-    rw (index_is f.a c.before.index.ensures, index_is f.b c.index2.ensures)
+    let f = c.ranges in
+    rw (index_is f.a c.index.ensures, index_is f.b c.index-2.ensures)
 
 pub disjoint_spec : {M : Type 1} → statement M
 disjoint_spec = tie.close (tie.spec (λ c κs. search rules) (λ c κs. search rules) returns)

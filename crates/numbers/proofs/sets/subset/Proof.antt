@@ -6,8 +6,8 @@ use Rattle.numbers.proofs.sets.subset.Tie as tie
 
 returns : tie.Need-returns
 returns c =
-    let f = c.before.before.ranges in
-    rw (index_is f.a c.before.index.ensures, index_is f.b c.index2.ensures)
+    let f = c.ranges in
+    rw (index_is f.a c.index-all.ensures, index_is f.b c.index.ensures)
 
 pub subset_spec : {M : Type 1} → statement M
 subset_spec = tie.close (tie.spec (λ c κs. search rules) (λ c κs. search rules) returns)

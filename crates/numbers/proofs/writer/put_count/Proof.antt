@@ -12,10 +12,10 @@ use Rattle.numbers.proofs.writer.put_count.Tie as tie
 returns : tie.Need-returns
 returns c =
     let p = c.before.before in
-    let s = p.before.before.before.args in
+    let s = p.args in
     let e : s.at + s.count ≡ s.at + length (leading s.count s.m) = rw (leading_length s.count s.m) in (
       refl,
-      rw (p.put_leading.ensures.1, p.put_leading.ensures.0, e)
+      rw (p.put_leading-last.ensures.1, p.put_leading-last.ensures.0, e)
           (sym (sets_append s.bytes.now s.at (leading s.count s.m) (past s.count s.m ∷ []))),
     )
 

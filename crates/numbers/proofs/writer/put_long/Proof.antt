@@ -13,38 +13,38 @@ use Rattle.numbers.proofs.writer.put_long.Statement.{statement}
 use Rattle.numbers.proofs.writer.put_long.Tie as tie
 
 -- three to six groups stand before the last four
-record Shares (w : tie.After-width) : Type 0 where
-  some : 3 ≤ w.width.result - 4
-  few : w.width.result - 4 ≤ 6
-  count : length (groups w.before.before.args.m) ≡ (w.width.result - 4) + 4
-  parts : Ends (w.width.result - 4) 3 w.before.before.args.m
+record Shares (w : tie.After-width-before) : Type 0 where
+  some : 3 ≤ w.width-before.result - 4
+  few : w.width-before.result - 4 ≤ 6
+  count : length (groups w.args.m) ≡ (w.width-before.result - 4) + 4
+  parts : Ends (w.width-before.result - 4) 3 w.args.m
 
-shares : (w : tie.After-width) → Shares w
+shares : (w : tie.After-width-before) → Shares w
 shares w =
-    let m = w.before.before.args.m in
-    let least = seven_or_more m w.before.before.requires.0 in
+    let m = w.args.m in
+    let least = seven_or_more m w.requires.0 in
     let most = at_most_ten m in
-    let e = w.width.ensures in
-    let z = grouped (w.width.result - 4 + 3) m (search rules) (omega (arith, e, least)) in
+    let e = w.width-before.ensures in
+    let z = grouped (w.width-before.result - 4 + 3) m (search rules) (omega (arith, e, least)) in
     record {
       some = omega (arith, e, least);
       few = omega (arith, e, most);
       count = omega (arith, e, least);
-      parts = ends (w.width.result - 4) 3 m z;
+      parts = ends (w.width-before.result - 4) 3 m z;
     }
 
 -- the bytes after the first six
-first : (p : tie.After-put-leading)
-    → let s = p.before.before.before.before.args in p.put_leading.new.0 ≡ sets s.bytes.now s.at (leading 6 s.m)
+first : (p : tie.After-put_leading)
+    → let s = p.args in p.put_leading.new.bytes ≡ sets s.bytes.now s.at (leading 6 s.m)
 first p = p.put_leading.ensures.1
 
-sub_before : tie.Need-overflow-sub-before
-sub_before c = omega (arith, c.width.ensures, seven_or_more c.before.before.args.m c.before.before.requires.0)
+sub_before : tie.Need-overflow_sub-before
+sub_before c = omega (arith, c.width-before.ensures, seven_or_more c.args.m c.requires.0)
 
-put_leading_requires : tie.Need-put-leading-requires
-put_leading_requires c κs = let h = shares c.before in omega (arith, h.some, h.count, c.before.before.before.requires.1)
+put_leading_requires : tie.Need-put_leading-requires
+put_leading_requires c κs = let h = shares c.before in omega (arith, h.some, h.count, c.requires.1)
 
-put_count_requires : tie.Need-put-count-requires
+put_count_requires : tie.Need-put_count-requires
 put_count_requires c κs =
     let p = c.before.before.before in
     let w = p.before.before in
@@ -53,13 +53,13 @@ put_count_requires c κs =
     ((shares w).parts.small, omega (arith, (shares w).count, s.requires.1, whole))
 
 -- the last four are placed over the first six
-second : (q : tie.After-put-count)
+second : (q : tie.After-put_count)
     → let p = q.before.before.before.before in
     let w = p.before.before in
-    let s = w.before.before.args in
-    let before = w.width.result - 4 in
+    let s = w.args in
+    let before = w.width-before.result - 4 in
     (q.put_count.result ≡ s.at + before + 3 + 1)
-    × (q.put_count.new.0 ≡ sets p.put_leading.new.0 (s.at + before) (in_groups 3 (left_after before s.m)))
+    × (q.put_count.new.bytes ≡ sets p.put_leading.new.bytes (s.at + before) (in_groups 3 (left_after before s.m)))
 second q = q.put_count.ensures
 
 returns : tie.Need-returns
