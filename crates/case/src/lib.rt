@@ -1,4 +1,6 @@
 // The middle layer: a case is a list of numbers. What it holds, as records, and whether it is a case at all.
+#![tactic(auto)]
+
 pub mod extents; // extents.rt: the limits of a case's counts, and the capacities of arrays
 pub mod offsets; // offsets.rt: where rows begin, for reading
 pub mod records; // records.rt: nodes, arcs and stations as records

@@ -1,4 +1,6 @@
 // The upper layer: a plan judged against its case, rules 20 to 33, the six totals, and the ledger of a region.
+#![tactic(auto)]
+
 pub mod bools; // bools.rt: two tests as one
 pub mod accepted; // accepted.rt: nodes and arcs of an accepted case
 pub mod rows; // rows.rt: the rows of one step as records

@@ -1,4 +1,6 @@
 // Settlement of two meters at a border point: one figure from what the sender's meter and the receiver's recorded.
+#![tactic(auto)]
+
 ghost use Rattle.std.specs.Prelude.{◌≡◌};
 ghost use Rattle.settlement.specs.law.Settling.{settlement_told, settle_of};
 
