@@ -3,7 +3,7 @@ use super::extents::STATIONS;
 use numbers::answer::Answer;
 
 // A node, with its bounds and its demand in one step.
-#[derive(Drop)]
+#[derive(Clone, Copy)]
 pub struct Node {
     pub kind: usize, // 0 inner, 1 source, 2 sink
     pub p0: i64,
@@ -15,7 +15,7 @@ pub struct Node {
 }
 
 // What an arc of every kind has.
-#[derive(Drop)]
+#[derive(Clone, Copy)]
 pub struct Arc {
     pub kind: usize, // 0 valve, 1 regulator, 2 pipe, 3 shortcut, 4 regulating, 5 compressor, 6 combined
     pub from: usize,
@@ -24,7 +24,7 @@ pub struct Arc {
 }
 
 // What a pipe has besides.
-#[derive(Drop)]
+#[derive(Clone, Copy)]
 pub struct Pipe {
     pub c: i64, // g per mbar
     pub f: i64, // friction at from, millionths of a mbar per g/s
@@ -33,7 +33,7 @@ pub struct Pipe {
 }
 
 // What an artificial arc has besides.
-#[derive(Drop)]
+#[derive(Clone, Copy)]
 pub struct Artificial {
     pub station: usize,
     pub bothways: usize,
@@ -44,7 +44,7 @@ pub struct Artificial {
     pub outbound: i64,
 }
 
-#[derive(Drop)]
+#[derive(Clone, Copy)]
 pub struct Station {
     pub directions: usize,
     pub states: usize,
@@ -53,14 +53,14 @@ pub struct Station {
     pub state: usize, // at step 0
 }
 
-#[derive(Drop)]
+#[derive(Clone, Copy)]
 pub struct Direction {
     pub entry: i64, // a node set
     pub exit: i64, // a node set
     pub weight: usize,
 }
 
-#[derive(Drop)]
+#[derive(Clone, Copy)]
 pub struct State {
     pub directions: i64, // a set of the station's directions
     pub on: i64, // a set of the station's arcs
@@ -68,14 +68,14 @@ pub struct State {
     pub weight: usize,
 }
 
-#[derive(Drop)]
+#[derive(Clone, Copy)]
 pub struct Machine {
     pub flow: i64,
     pub ratio: i64, // thousandths
 }
 
 // What is found once for a case, so that no judge of a step looks for it again.
-#[derive(Drop)]
+#[derive(Clone, Copy)]
 pub struct Layout {
     pub steps: usize,
     pub nodes: usize,
@@ -87,7 +87,7 @@ pub struct Layout {
 }
 
 // The answer on a case, and its layout where 10 to 12 have let the list pass.
-#[derive(Drop)]
+#[derive(Clone, Copy)]
 pub struct Laying {
     pub answer: Answer,
     pub layout: Layout,

@@ -7,14 +7,14 @@ ghost use Rattle.numbers.specs.law.Told.{overlay};
 
 // What stands at the front of some bytes: a number and how many bytes it takes, or the question that has a "no" and how many bytes were asked for, the
 // last of them the one that is wrong or missing.
-#[derive(Drop)]
+#[derive(Clone, Copy)]
 pub enum Number {
     Whole { value: u64, used: usize },
     Refused { number: usize, asked: usize },
 }
 
 // What a reading of all bytes answers: the count of numbers, or a refusal.
-#[derive(Drop)]
+#[derive(Clone, Copy)]
 pub enum Reading {
     Count(usize),
     Refused { number: usize, place: usize },

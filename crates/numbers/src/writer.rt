@@ -9,14 +9,14 @@ ghost use Rattle.numbers.specs.law.CodecTold.{writing_told};
 use crate::mapping::unsigned;
 
 // What a writing answers: the count of bytes, or a refusal.
-#[derive(Drop)]
+#[derive(Clone, Copy)]
 pub enum Writing {
     Count(usize),
     Refused { number: usize, place: usize },
 }
 
 // How many bytes a list takes, where they fit.
-#[derive(Drop)]
+#[derive(Clone, Copy)]
 pub enum Size {
     Fits(usize),
     Over,

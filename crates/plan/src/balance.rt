@@ -34,7 +34,7 @@ pub(crate) fn moved(net: &mut [i64], from: usize, to: usize, out: i64, into: i64
 }
 
 // A pipe's flow is a at from and b at to, any other arc's a - b at both.
-#[derive(Drop)]
+#[derive(Clone, Copy)]
 pub struct Ends {
     pub from: i64,
     pub to: i64,

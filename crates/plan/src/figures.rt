@@ -1,7 +1,7 @@
 // What the ledger answers.
 
 // The six figures of a region, from time s to time t.
-#[derive(Drop)]
+#[derive(Clone, Copy)]
 pub struct Figures {
     pub nodes: usize,
     pub pipes: usize, // inner pipes
@@ -11,7 +11,7 @@ pub struct Figures {
     pub residual: usize,
 }
 
-#[derive(Drop)]
+#[derive(Clone, Copy)]
 pub enum Ledger {
     Given(Figures),
     Refused {

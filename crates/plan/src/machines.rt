@@ -9,7 +9,7 @@ use case::records::Machine;
 use numbers::sets::member;
 
 // A sum in the making.
-#[derive(Drop)]
+#[derive(Clone, Copy)]
 pub struct Sum {
     pub value: i64,
 }

@@ -16,7 +16,7 @@ use case::read::{node, station};
 use case::records::Layout;
 use numbers::compare::{at_most, index};
 
-#[derive(Drop)]
+#[derive(Clone, Copy)]
 pub struct Previous {
     pub pressures: [i64; NODES],
     pub active: [bool; ARCS],
@@ -25,7 +25,7 @@ pub struct Previous {
 }
 
 // The choices of every station.
-#[derive(Drop)]
+#[derive(Clone, Copy)]
 pub struct Choices {
     pub directions: [usize; STATIONS],
     pub states: [usize; STATIONS],

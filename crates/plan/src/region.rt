@@ -40,7 +40,7 @@ fn inner_pipe(case: &[i64], inside: &[bool], e: usize) -> bool
 }
 
 // The inner pipes: how many they are, and their gas before and after.
-#[derive(Drop)]
+#[derive(Clone, Copy)]
 pub struct Inner {
     pub pipes: usize,
     pub opening: i64,
@@ -192,7 +192,7 @@ fn own_pipes(
 }
 
 // What is carried from step to step: the pressures, the gas brought in and the residual so far.
-#[derive(Drop)]
+#[derive(Clone, Copy)]
 pub struct Gathered {
     pub pressures: [i64; NODES],
     pub brought: i64,

@@ -6,7 +6,7 @@ ghost use Rattle.plan.specs.law.PlanRecords.{node_row, pressure_in, arc_row, cho
 
 use numbers::compare::{at, index};
 
-#[derive(Drop)]
+#[derive(Clone, Copy)]
 pub struct NodeRow {
     pub p: i64,
     pub d: i64,
@@ -16,7 +16,7 @@ pub struct NodeRow {
     pub uminus: i64,
 }
 
-#[derive(Drop)]
+#[derive(Clone, Copy)]
 pub struct ArcRow {
     pub a: i64,
     pub b: i64,
@@ -25,7 +25,7 @@ pub struct ArcRow {
 }
 
 // A station's row.
-#[derive(Drop)]
+#[derive(Clone, Copy)]
 pub struct Choice {
     pub direction: i64,
     pub state: i64,

@@ -4,13 +4,13 @@ ghost use Rattle.plan.specs.law.Setting.{directed, combined_of, valve_of, active
 
 use numbers::compare::{at_most, index};
 
-#[derive(Drop)]
+#[derive(Clone, Copy)]
 pub enum Way {
     Forward,
     Backward,
 }
 
-#[derive(Drop)]
+#[derive(Clone, Copy)]
 pub enum Mode {
     Open,
     Regulating,
@@ -18,7 +18,7 @@ pub enum Mode {
 }
 
 // A number that stands for nothing at the arc's kind is unknown.
-#[derive(Drop)]
+#[derive(Clone, Copy)]
 pub enum Setting {
     Unknown,
     Off,

@@ -4,7 +4,7 @@ ghost use Rattle.plan.specs.inside.StepAnswer.{stepped_by};
 
 use numbers::answer::Answer;
 
-#[derive(Drop)]
+#[derive(Clone, Copy)]
 pub enum Stepped {
     Kept {
         residual: usize,

@@ -19,7 +19,7 @@ use case::read::{direction, state};
 use case::records::Layout;
 use numbers::compare::{at, at_most, index};
 
-#[derive(Drop)]
+#[derive(Clone, Copy)]
 pub struct Totals {
     pub pressure: i64, // pressure slack
     pub demand: i64, // demand slack
@@ -30,7 +30,7 @@ pub struct Totals {
 }
 
 // The two slacks of a step.
-#[derive(Drop)]
+#[derive(Clone, Copy)]
 pub struct Slacks {
     pub pressure: i64,
     pub demand: i64,

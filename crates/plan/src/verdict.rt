@@ -2,7 +2,7 @@
 use super::totals::Totals;
 
 // Accepted with the six totals, or refused with the number, the step and the place of the first "no".
-#[derive(Drop)]
+#[derive(Clone, Copy)]
 pub enum Verdict {
     Accepted(Totals),
     Refused {

@@ -1,7 +1,7 @@
 // What a settlement answers.
 
 // The settled total in grams, and how many rows were settled in each way, a matched pair as one.
-#[derive(Drop)]
+#[derive(Clone, Copy)]
 pub struct Figures {
     pub total: i64,
     pub agreed: usize,
@@ -10,7 +10,7 @@ pub struct Figures {
     pub receiver: usize, // only in the receiver's record
 }
 
-#[derive(Drop)]
+#[derive(Clone, Copy)]
 pub enum Settlement {
     Settled(Figures),
     Refused {

@@ -10,7 +10,7 @@ use super::figures::Figures;
 use super::records::{grams, time};
 
 // Which record has the earliest of the rows that are left.
-#[derive(Drop)]
+#[derive(Clone, Copy)]
 pub enum Which {
     Both,
     Sender,
@@ -18,7 +18,7 @@ pub enum Which {
 }
 
 // How many rows of each record have been settled, and their figures.
-#[derive(Drop)]
+#[derive(Clone, Copy)]
 pub struct Merged {
     pub i: usize, // of the sender's record
     pub j: usize, // of the receiver's

@@ -8,9 +8,9 @@ use Rattle.case.proofs.arcs.compressor_fields.Tie as tie
 returns : tie.Need-returns
 unfolding compressor_fields
 returns c = simp first_no_append
-    (chain c.or_else2.ensures c.before.before.before.before.field.ensures
-    (chain c.before.or_else.ensures c.before.before.before.field2.ensures
-    c.before.before.field3.ensures))
+    (chain c.or_else-2.ensures c.field.ensures
+    (chain c.or_else.ensures c.field-2.ensures
+    c.field-3.ensures))
 
 pub compressor_fields_spec : {M : Type 1} → statement M
 compressor_fields_spec = tie.close (tie.spec

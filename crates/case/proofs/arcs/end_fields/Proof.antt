@@ -10,11 +10,11 @@ returns : tie.Need-returns
 unfolding end_fields
 returns c =
     let t = c.before.before.before.before.before in
-    let e = kept_is t.last.type_inv t.last.ensures ∙ ap last_of t.before.count.ensures.value in
+    let e = kept_is t.last-last_node.type_inv t.last-last_node.ensures ∙ ap last_of t.count.ensures.value in
     simp first_no_append
-    (chain c.or_else2.ensures c.before.before.before.before.field.ensures
-    (chain c.before.or_else.ensures (simp e at c.before.before.before.fields.ensures)
-    c.before.before.field2.ensures))
+    (chain c.or_else-2.ensures c.field.ensures
+    (chain c.or_else.ensures (simp e at c.fields.ensures)
+    c.field-2.ensures))
 
 pub end_fields_spec : {M : Type 1} → statement M
 end_fields_spec = tie.close (tie.spec

@@ -11,13 +11,13 @@ unfolding member_fields
 returns c =
     let u = c.before.before.before.before.before.before.before in
     let t = u.before in
-    let e = kept_is t.last.type_inv t.last.ensures ∙ ap last_of t.before.count.ensures.value in
-    let d = kept_is u.least_both_ways.type_inv u.least_both_ways.ensures ∙ ap least_both_ways t.before.before.requires.1 in
+    let e = kept_is t.last-last_station.type_inv t.last-last_station.ensures ∙ ap last_of t.count.ensures.value in
+    let d = kept_is u.least_both_ways-least.type_inv u.least_both_ways-least.ensures ∙ ap least_both_ways t.requires.1 in
     simp first_no_append
-    (chain c.or_else3.ensures (simp e at c.before.before.before.before.before.before.field.ensures)
-    (chain c.before.or_else2.ensures (simp d at c.before.before.before.before.before.field2.ensures)
-    (chain c.before.before.or_else.ensures c.before.before.before.before.field3.ensures
-    c.before.before.before.field4.ensures)))
+    (chain c.or_else-3.ensures (simp e at c.field.ensures)
+    (chain c.or_else-2.ensures (simp d at c.field-2.ensures)
+    (chain c.or_else.ensures c.field-3.ensures
+    c.field-4.ensures)))
 
 pub member_fields_spec : {M : Type 1} → statement M
 member_fields_spec = tie.close (tie.spec

@@ -8,10 +8,10 @@ use Rattle.case.proofs.arcs.pipe_fields.Tie as tie
 returns : tie.Need-returns
 unfolding pipe_fields
 returns c = simp first_no_append
-    (chain c.or_else3.ensures c.before.before.before.before.before.before.field.ensures
-    (chain c.before.or_else2.ensures c.before.before.before.before.before.fields.ensures
-    (chain c.before.before.or_else.ensures c.before.before.before.before.field2.ensures
-    c.before.before.before.fields2.ensures)))
+    (chain c.or_else-3.ensures c.field.ensures
+    (chain c.or_else-2.ensures c.fields.ensures
+    (chain c.or_else.ensures c.field-2.ensures
+    c.fields-2.ensures)))
 
 pub pipe_fields_spec : {M : Type 1} → statement M
 pipe_fields_spec = tie.close (tie.spec

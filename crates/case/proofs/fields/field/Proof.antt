@@ -10,19 +10,19 @@ use Rattle.numbers.specs.inside.SignedLocals.{kept}
 use Rattle.case.proofs.fields.field.Statement.{statement}
 use Rattle.case.proofs.fields.field.Tie as tie
 
-returns : tie.Need-returns
+returns : tie.Need-returns-then-i-case
 unfolding field
 returns c =
     let w = c.before in
     let s = w.before.before.before in
     let x = number_at s.args.case.now s.args.i in
     let e : w.within.result ≡ (le_z s.args.low x && le_z x s.args.high) =
-    simp (to_z-of_z s.ranges.low, to_z-of_z s.ranges.high, kept x w.before.x.given) at w.within.ensures in
-    c.ask.ensures ∙ rw (lt-ltb _ _ w.before.before.if1.true, or_else_yes, e)
+    simp (to_z-of_z s.ranges.low, to_z-of_z s.ranges.high, kept x w.x-1.given) at w.within.ensures in
+    c.ask.ensures ∙ rw (lt-ltb _ _ w.if-i-case.true, or_else_yes, e)
 
-returns_2 : tie.Need-returns-2
+returns_2 : tie.Need-returns-else-i-case
 unfolding field
-returns_2 c = rw (le-ltb _ _ c.if1.false)
+returns_2 c = rw (le-ltb _ _ c.if-i-case.false)
 
 pub field_spec : {M : Type 1} → statement M
 field_spec = tie.close (tie.spec

@@ -13,12 +13,12 @@ returns c =
     let f2 = f3.before.before in
     let m = f2.before in
     let nodes = kept_is m.most_nodes.type_inv m.most_nodes.ensures in
-    let arcs = kept_is f3.before.most_arcs.type_inv f3.before.most_arcs.ensures in
+    let arcs = kept_is f3.most_arcs.type_inv f3.most_arcs.ensures in
     simp first_no_append
-    (chain c.or_else4.ensures m.before.field.ensures
-    (chain c.before.or_else3.ensures (simp nodes at f2.field2.ensures)
-    (chain c.before.before.or_else2.ensures (simp arcs at f3.field3.ensures)
-    (chain c.before.before.before.or_else.ensures f4.field4.ensures c.before.before.before.before.field5.ensures))))
+    (chain c.or_else-4.ensures m.field.ensures
+    (chain c.or_else-3.ensures (simp nodes at f2.field-2.ensures)
+    (chain c.or_else-2.ensures (simp arcs at f3.field-3.ensures)
+    (chain c.or_else.ensures f4.field-4.ensures c.field-5.ensures))))
 
 pub counts_spec : {M : Type 1} → statement M
 counts_spec = tie.close (tie.spec

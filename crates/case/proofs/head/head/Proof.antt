@@ -8,9 +8,9 @@ use Rattle.case.proofs.head.head.Tie as tie
 returns : tie.Need-returns
 unfolding head_fields tolerance_fields
 returns c = simp first_no_append
-    (chain c.or_else2.ensures c.before.before.before.before.counts.ensures
-    (chain c.before.or_else.ensures c.before.before.before.field.ensures
-    c.before.before.field2.ensures))
+    (chain c.or_else-2.ensures c.counts.ensures
+    (chain c.or_else.ensures c.field.ensures
+    c.field-2.ensures))
 
 pub head_spec : {M : Type 1} → statement M
 head_spec = tie.close (tie.spec

@@ -7,9 +7,9 @@ use Rattle.case.proofs.head.time_field.Statement.{statement}
 use Rattle.case.proofs.head.time_field.Tie as tie
 
 -- what the local of the time before holds
-time_is : (t : tie.After-time-before)
-    → Held (to_z w64 (of_z w64 t.time_before.result)) (time_before t.before.args.case.now t.before.args.i) 4147200
-time_is t = held (record { val = t.time_before.ensures; bound = t.before.requires.1.bound }) tt
+time_is : (t : tie.After-time_before-before)
+    → Held (to_z w64 (of_z w64 t.time_before-before.result)) (time_before t.args.case.now t.args.i) 4147200
+time_is t = held (record { val = t.time_before-before.ensures; bound = t.requires.1.bound }) tt
 
 returns : tie.Need-returns
 unfolding time_field

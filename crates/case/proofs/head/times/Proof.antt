@@ -9,35 +9,35 @@ use Rattle.case.proofs.Counting.{time_grows}
 use Rattle.case.proofs.head.times.Statement.{statement}
 use Rattle.case.proofs.head.times.Tie as tie
 
-abbrev invariant-loop : tie.invariant-loop
-invariant-loop case steps i₀ i = Asking (time_field case) (first_no (over (time_field case) 0 steps)) i steps × Bounded (time_before case i) (i * 86400)
+abbrev invariant-loop-i : tie.invariant-loop-i
+invariant-loop-i case steps i₀ i = Asking (time_field case) (first_no (over (time_field case) 0 steps)) i steps × Bounded (time_before case i) (i * 86400)
 
-abbrev decreases-loop : tie.decreases-loop
-decreases-loop case steps i₀ i = steps - i
+abbrev decreases-loop-i : tie.decreases-loop-i
+decreases-loop-i case steps i₀ i = steps - i
 
-loop_holds : tie.Need-loop-init invariant-loop decreases-loop
+loop_holds : tie.Need-loop-i-init invariant-loop-i decreases-loop-i
 loop_holds c = (asking refl, record { bound = omega arith })
 
-time_field_requires : tie.Need-time-field-requires invariant-loop decreases-loop
-time_field_requires c κs = (omega arith, record { bound = omega (arith, c.before.loop.invariant.1.bound) })
+time_field_requires : tie.Need-time_field-a-requires invariant-loop-i decreases-loop-i
+time_field_requires c κs = (omega arith, record { bound = omega (arith, c.loop-i.invariant.1.bound) })
 
-returns : tie.Need-returns invariant-loop decreases-loop
+returns : tie.Need-returns-in-No invariant-loop-i decreases-loop-i
 returns c =
-    let b = c.before.before in
-    asking_no b.before.before.loop.invariant.0 b.before.loop-test.true b.time_field.ensures c.enum_told2.given.1
+    let b = c.before in
+    asking_no b.loop-i.invariant.0 b.loop-i-test.true b.time_field-a.ensures c.in-No.is
 
-loop_again : tie.Need-loop-preserved invariant-loop decreases-loop
+loop_again : tie.Need-loop-i-preserved invariant-loop-i decreases-loop-i
 loop_again c =
-    let b = c.before.before in
+    let b = c.before in
     let h = b.before.before in
-    let y = c.enum_told.given.1 in
-    let g = time_grows h.before.args.case.now h.loop.i h.loop.invariant.1 (sym b.time_field.ensures ∙ y) in
-    (asking_on h.loop.invariant.0 b.before.loop-test.true b.time_field.ensures y, record { bound = omega (arith, g.bound) })
+    let y = c.in-Yes.is in
+    let g = time_grows h.args.case.now h.loop-i.i h.loop-i.invariant.1 (sym b.time_field-a.ensures ∙ y) in
+    (asking_on h.loop-i.invariant.0 b.loop-i-test.true b.time_field-a.ensures y, record { bound = omega (arith, g.bound) })
 
-returns_2 : tie.Need-returns-2 invariant-loop decreases-loop
-returns_2 c = asking_end c.before.loop.invariant.0 c.loop-test.false
+returns_2 : tie.Need-returns invariant-loop-i decreases-loop-i
+returns_2 c = asking_end c.loop-i.invariant.0 c.loop-i-test.false
 
 pub times_spec : {M : Type 1} → statement M
 times_spec = tie.close (tie.spec
-    invariant-loop decreases-loop loop_holds time_field_requires (λ c. search needs) (λ c. search needs) returns (λ c. omega arith)
+    invariant-loop-i decreases-loop-i loop_holds time_field_requires (λ c. search needs) (λ c. search needs) returns (λ c. omega arith)
     (λ c. omega arith) loop_again returns_2)

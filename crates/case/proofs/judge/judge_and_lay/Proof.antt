@@ -14,41 +14,41 @@ not_both : {a : Answer} {n s p : ℕ} → a ≡ Yes → a ≡ No n s p → ⊥
 not_both y h = let z : ◌≡◌ {A = ℕ} 0 1 = cc in omega arith
 
 -- 10 to 12 let the list pass
-passes : (c : tie.After-enum-told) → first_no (list_questions c.before.before.before.args.case.now) ≡ Yes
-passes c = sym c.before.before.list_answer.ensures ∙ c.enum_told.given.1
+passes : (c : tie.In-Yes) → first_no (list_questions c.args.case.now) ≡ Yes
+passes c = sym c.list_answer-a.ensures ∙ c.in-Yes.is
 
-lay_requires : tie.Need-lay-requires
+lay_requires : tie.Need-lay-layout-requires
 lay_requires c κs =
-    let l = c.before.before.before.args.case.now in
+    let l = c.args.case.now in
     (list_counted l (passes c), list_stations l (passes c), list_narrow l (passes c))
 
 rules_requires : tie.Need-rules-requires
 rules_requires c κs =
     let e = c.before in
-    let l = e.before.before.before.args.case.now in
-    (list_counted l (passes e), c.lay.ensures, list_stations l (passes e), list_ranged l (passes e))
+    let l = e.args.case.now in
+    (list_counted l (passes e), c.lay-layout.ensures, list_stations l (passes e), list_ranged l (passes e))
 
-returns : tie.Need-returns
+returns : tie.Need-returns-in-Yes
 unfolding judged_case case_questions
 returns c =
     let d = c.before in
     let e = d.before in
-    let h = e.before.before in
-    let l = h.before.args.case.now in
+    let h = e.before in
+    let l = h.args.case.now in
     record {
-      told_is = ap told (went_on (list_questions l) (rule_questions l) h.list_answer.ensures e.enum_told.given.1 c.rules.ensures);
-      passed = λ y. d.lay.ensures;
+      told_is = ap told (went_on (list_questions l) (rule_questions l) h.list_answer-a.ensures e.in-Yes.is c.rules.ensures);
+      passed = λ y. d.lay-layout.ensures;
       refused = λ n s p q. absurd (not_both (passes e) q);
     }
 
-returns_2 : tie.Need-returns-2
+returns_2 : tie.Need-returns-in-No
 unfolding judged_case case_questions
 returns_2 c =
-    let h = c.before.before in
-    let l = h.before.args.case.now in
+    let h = c.before in
+    let l = h.args.case.now in
     record {
-      told_is = ap told (stopped (list_questions l) (rule_questions l) h.list_answer.ensures c.enum_told2.given.1);
-      passed = λ y. absurd (not_both y (sym h.list_answer.ensures ∙ c.enum_told2.given.1));
+      told_is = ap told (stopped (list_questions l) (rule_questions l) h.list_answer-a.ensures c.in-No.is);
+      passed = λ y. absurd (not_both y (sym h.list_answer-a.ensures ∙ c.in-No.is));
       refused = λ n s p q. refl;
     }
 

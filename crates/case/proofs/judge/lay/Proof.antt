@@ -6,19 +6,19 @@ use Rattle.case.proofs.judge.lay.Statement.{statement}
 use Rattle.case.proofs.judge.lay.Tie as tie
 
 -- the head's counts, and where rows begin
-begun : (d : tie.After-first-arc) → let c = d.before in let n = c.before.before.before in
-    Begins n.before.args.case.now n.count.result c.before.before.count2.result c.before.count3.result c.count4.result
+begun : (d : tie.After-first_arc) → let c = d.before in let n = c.before.before.before in
+    Begins n.args.case.now n.count-nodes.result c.count-arcs.result c.count-stations.result c.count-steps.result
     d.first_arc.result
 begun d =
     let c = d.before in
     let n = c.before.before.before in
-    begins n.before.requires.0 n.count.ensures c.before.before.count2.ensures c.before.count3.ensures c.count4.ensures
+    begins n.requires.0 n.count-nodes.ensures c.count-arcs.ensures c.count-stations.ensures c.count-steps.ensures
     d.first_arc.ensures
 
-station_firsts_requires : tie.Need-station-firsts-requires
+station_firsts_requires : tie.Need-station_firsts-offsets-requires
 station_firsts_requires c κs =
     let b = begun c in
-    let p = c.before.before.before.before.before.requires in
+    let p = c.requires in
     (omega arith, b.station, omega (arith, p.0.stations), b.stations, p.1, p.2)
 
 returns : tie.Need-returns
@@ -27,16 +27,16 @@ returns c =
     let f = c.before.before in
     let b = begun f.before in
     let t = b.stations in
-    let l = f.before.before.before.before.before.before.args.case.now in
+    let l = f.args.case.now in
     record {
       steps = b.steps;
       nodes = b.nodes;
       arcs = b.arcs;
       stations = t;
-      offsets = rw t at f.station_firsts.ensures.0;
-      offsets_past = rw t at f.station_firsts.ensures.1;
-      inside = rw t at c.before.insides.ensures.0;
-      inside_past = rw t at c.before.insides.ensures.1;
+      offsets = rw t at f.station_firsts-offsets.ensures.0;
+      offsets_past = rw t at f.station_firsts-offsets.ensures.1;
+      inside = rw t at c.insides-inside.ensures.0;
+      inside_past = rw t at c.insides-inside.ensures.1;
       plain = kept_is c.plain_nodes.type_inv c.plain_nodes.ensures ∙ ap (λ (x : ℕ). pos (ends_of l (plain l) x)) b.arcs;
     }
 

@@ -8,15 +8,15 @@ use Rattle.case.proofs.judge.list_answer.Statement.{statement}
 use Rattle.case.proofs.judge.list_answer.Tie as tie
 
 rows_requires : tie.Need-rows-requires
-rows_requires c κs = head_counted _ (sym c.before.before.head.ensures ∙ c.enum_told.given.1)
+rows_requires c κs = head_counted _ (sym c.head-a.ensures ∙ c.in-Yes.is)
 
-returns : tie.Need-returns
+returns : tie.Need-returns-in-Yes
 unfolding list_questions
-returns c = went_on (head_fields _) (row_questions _) c.before.before.before.head.ensures c.before.enum_told.given.1 c.rows.ensures
+returns c = went_on (head_fields _) (row_questions _) c.head-a.ensures c.in-Yes.is c.rows.ensures
 
-returns_2 : tie.Need-returns-2
+returns_2 : tie.Need-returns-in-No
 unfolding list_questions
-returns_2 c = stopped (head_fields _) (row_questions _) c.before.before.head.ensures c.enum_told2.given.1
+returns_2 c = stopped (head_fields _) (row_questions _) c.head-a.ensures c.in-No.is
 
 pub list_answer_spec : {M : Type 1} → statement M
 list_answer_spec = tie.close (tie.spec

@@ -10,25 +10,25 @@ use Rattle.case.proofs.judge.rows.Statement.{statement}
 use Rattle.case.proofs.judge.rows.Tie as tie
 
 -- the head's counts, and where rows begin
-begun : (d : tie.After-first-arc) → let c = d.before in let n = c.before.before.before in
-    Begins n.before.args.case.now n.count.result c.before.before.count2.result c.before.count3.result c.count4.result
-    d.first_arc.result
+begun : (d : tie.After-first_arc-first) → let c = d.before in let n = c.before.before.before in
+    Begins n.args.case.now n.count-nodes.result c.count-arcs.result c.count-stations.result c.count-steps.result
+    d.first_arc-first.result
 begun d =
     let c = d.before in
     let n = c.before.before.before in
-    begins n.before.requires n.count.ensures c.before.before.count2.ensures c.before.count3.ensures c.count4.ensures
-    d.first_arc.ensures
+    begins n.requires n.count-nodes.ensures c.count-arcs.ensures c.count-stations.ensures c.count-steps.ensures
+    d.first_arc-first.ensures
 
-arc_rows_requires : tie.Need-arc-rows-requires
+arc_rows_requires : tie.Need-arc_rows-requires
 arc_rows_requires c κs =
     let b = begun c.before.before in
-    (omega arith, omega (arith, c.before.before.before.before.before.before.before.requires.arcs), b.arc)
+    (omega arith, omega (arith, c.requires.arcs), b.arc)
 
-station_rows_requires : tie.Need-station-rows-requires
+station_rows_requires : tie.Need-station_rows-requires
 station_rows_requires c κs =
     let k = c.before.before.before in
     let b = begun k in
-    (omega arith, b.station, omega (arith, k.before.before.before.before.before.requires.stations), b.stations)
+    (omega arith, b.station, omega (arith, k.requires.stations), b.stations)
 
 returns : tie.Need-returns
 unfolding row_questions time_fields all_node_fields all_arc_fields
@@ -39,9 +39,9 @@ returns c =
     let t = n.before in
     let b = begun t.before in
     simp first_no_append
-    (chain c.or_else3.ensures (simp b.steps at t.times.ensures)
-    (chain c.before.or_else2.ensures (simp b.nodes at n.node_rows.ensures)
-    (chain c.before.before.or_else.ensures (simp b.arcs at a.arc_rows.ensures) (simp first_no_append at s.station_rows.ensures))))
+    (chain c.or_else-3.ensures (simp b.steps at t.times.ensures)
+    (chain c.or_else-2.ensures (simp b.nodes at n.node_rows.ensures)
+    (chain c.or_else.ensures (simp b.arcs at a.arc_rows.ensures) (simp first_no_append at s.station_rows.ensures))))
 
 pub rows_spec : {M : Type 1} → statement M
 rows_spec = tie.close (tie.spec

@@ -6,7 +6,7 @@ use Rattle.case.proofs.members.active.Statement.{statement}
 use Rattle.case.proofs.members.active.Tie as tie
 
 returns : tie.Need-returns
-returns c = let u = c.before in rw (count_in_lem _ (arc_at _ u.before.args.e) u.arc_at.ensures 7 c.count.ensures)
+returns c = let u = c.before in rw (count_in_lem _ (arc_at _ u.args.e) u.arc_at-offset.ensures 7 c.count.ensures)
 
 pub active_spec : {M : Type 1} → statement M
 active_spec = tie.close (tie.spec (λ c κs. search rules) (λ c κs. search rules) returns)

@@ -8,17 +8,17 @@ use Rattle.case.proofs.members.belongs.Statement.{statement}
 use Rattle.case.proofs.members.belongs.Tie as tie
 
 -- the kind that was read
-kind_is : (c : tie.After-count) → c.count.result ≡ (arc_of c.before.before.args.case.now c.before.before.args.e).kind
-kind_is c = let u = c.before in first_count _ (arc_at _ u.before.args.e) u.arc_at.ensures c.count.ensures
+kind_is : (c : tie.After-count) → c.count.result ≡ (arc_of c.args.case.now c.args.e).kind
+kind_is c = let u = c.before in first_count _ (arc_at _ u.args.e) u.arc_at-offset.ensures c.count.ensures
 
-returns : tie.Need-returns
+returns : tie.Need-returns-then-count-ge3
 returns c =
     let k = c.before.before in
     let u = k.before in
-    rw (← kind_is k, le-leb _ _ c.before.if1.true, count_in_lem _ (arc_at _ u.before.args.e) u.arc_at.ensures 4 c.count2.ensures)
+    rw (← kind_is k, le-leb _ _ c.if-count-ge3.true, count_in_lem _ (arc_at _ u.args.e) u.arc_at-offset.ensures 4 c.count-then-count-ge3.ensures)
 
-returns_2 : tie.Need-returns-2
-returns_2 c = rw (← kind_is c.before, lt-leb _ _ c.if1.false)
+returns_2 : tie.Need-returns-else-count-ge3
+returns_2 c = rw (← kind_is c.before, lt-leb _ _ c.if-count-ge3.false)
 
 pub belongs_spec : {M : Type 1} → statement M
 belongs_spec = tie.close (tie.spec

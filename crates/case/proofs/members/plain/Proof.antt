@@ -6,7 +6,7 @@ use Rattle.case.proofs.members.plain.Statement.{statement}
 use Rattle.case.proofs.members.plain.Tie as tie
 
 returns : tie.Need-returns
-returns c = let u = c.before in rw (first_count _ (arc_at _ u.before.args.e) u.arc_at.ensures c.count.ensures)
+returns c = let u = c.before in rw (first_count _ (arc_at _ u.args.e) u.arc_at-offset.ensures c.count.ensures)
 
 pub plain_spec : {M : Type 1} → statement M
 plain_spec = tie.close (tie.spec (λ c κs. search rules) (λ c κs. search rules) returns)

@@ -20,62 +20,62 @@ set_fits l s e n h k p =
     let q : 2 ^ arcs_before l s e ≤ 2 ^ 30 = pow_mono m in
     omega (arith, p, arcs_lt l s (active_at_start l) e)
 
-abbrev invariant-loop : tie.invariant-loop
-invariant-loop case s arcs set₀ n₀ e₀ set n e = Tally (belongs case s) n e arcs × (set ≡ arc_set case s (active_at_start case) e)
+abbrev invariant-loop-e : tie.invariant-loop-e
+invariant-loop-e case s arcs set₀ n₀ e₀ set n e = Tally (belongs case s) n e arcs × (set ≡ arc_set case s (active_at_start case) e)
 
-abbrev decreases-loop : tie.decreases-loop
-decreases-loop case s arcs set₀ n₀ e₀ set n e = arcs - e
+abbrev decreases-loop-e : tie.decreases-loop-e
+decreases-loop-e case s arcs set₀ n₀ e₀ set n e = arcs - e
 
 -- the two parts of the invariant, of the station's arcs before e
-place : (h : tie.At-loop invariant-loop decreases-loop) → h.loop.n ≡ arcs_before h.before.args.case.now h.before.args.s h.loop.e
+place : (h : tie.At-loop-e invariant-loop-e decreases-loop-e) → h.loop-e.n ≡ arcs_before h.args.case.now h.args.s h.loop-e.e
 unfolding arcs_before
-place h = h.loop.invariant.0.is
+place h = h.loop-e.invariant.0.is
 
-fits : (h : tie.At-loop invariant-loop decreases-loop) → h.loop.set < 2 ^ 63
-fits h = let a = h.before.args in set_fits a.case.now a.s h.loop.e a.arcs h.loop.invariant.0.upto h.before.requires h.loop.invariant.1
+fits : (h : tie.At-loop-e invariant-loop-e decreases-loop-e) → h.loop-e.set < 2 ^ 63
+fits h = let a = h.args in set_fits a.case.now a.s h.loop-e.e a.arcs h.loop-e.invariant.0.upto h.requires h.loop-e.invariant.1
 
-loop_holds : tie.Need-loop-init invariant-loop decreases-loop
+loop_holds : tie.Need-loop-e-init invariant-loop-e decreases-loop-e
 loop_holds c = let l = c.args.case.now in (tally, sym (arcs_none l c.args.s (active_at_start l)))
 
-with_arc_requires : tie.Need-with-arc-requires invariant-loop decreases-loop
+with_arc_requires : tie.Need-with_arc-set-requires invariant-loop-e decreases-loop-e
 with_arc_requires c κs =
     let b = c.before in
     let h = b.before.before in
-    let a = h.before.args in
+    let a = h.args in
     let l = a.case.now in
-    let i = h.loop.e in
-    let y = before_yes l a.s i (sym b.belongs.ensures ∙ c.if1.true) in
+    let i = h.loop-e.e in
+    let y = before_yes l a.s i (sym b.belongs.ensures ∙ c.if-belongs.true) in
     let m = before_mono l a.s (i + 1) a.arcs (omega arith) in
-    (omega (arith, place h, y, m, h.before.requires), rw (place h, h.loop.invariant.1) (arcs_lt l a.s (active_at_start l) i))
+    (omega (arith, place h, y, m, h.requires), rw (place h, h.loop-e.invariant.1) (arcs_lt l a.s (active_at_start l) i))
 
-loop_again : tie.Need-loop-preserved invariant-loop decreases-loop
+loop_again : tie.Need-loop-e-preserved invariant-loop-e decreases-loop-e
 loop_again c =
     let b = c.before in
     let t = b.before in
     let h = t.before in
-    let l = h.before.args.case.now in
-    let s = h.before.args.s in
-    let i = h.loop.e in
+    let l = h.args.case.now in
+    let s = h.args.s in
+    let i = h.loop-e.e in
     let f = sym b.belongs.ensures in
     ⊎_elim
     (λ x. (
-      tally_yes h.loop.invariant.0 t.loop-test.true x.3 (f ∙ x.0.taken),
-      x.2 ∙ x.1.ensures ∙ rw (place h, h.loop.invariant.1) (sym (arcs_yes l s (active_at_start l) i (f ∙ x.0.taken))),
+      tally_yes h.loop-e.invariant.0 t.loop-e-test.true x.3 (f ∙ x.0.taken),
+      x.2 ∙ x.1.ensures ∙ rw (place h, h.loop-e.invariant.1) (sym (arcs_yes l s (active_at_start l) i (f ∙ x.0.taken))),
     ))
     (λ x. (
-      tally_no h.loop.invariant.0 t.loop-test.true x.2 (f ∙ x.0.left),
-      x.1 ∙ h.loop.invariant.1 ∙ sym (arcs_no l s (active_at_start l) i (f ∙ x.0.left)),
+      tally_no h.loop-e.invariant.0 t.loop-e-test.true x.2 (f ∙ x.0.left),
+      x.1 ∙ h.loop-e.invariant.1 ∙ sym (arcs_no l s (active_at_start l) i (f ∙ x.0.left)),
     ))
-    c.if1.branch
+    c.if-belongs.branch
 
-returns : tie.Need-returns invariant-loop decreases-loop
+returns : tie.Need-returns invariant-loop-e decreases-loop-e
 returns c =
     let h = c.before in
-    let e : h.loop.e ≡ h.before.args.arcs = omega arith in
-    to_z_pos w64 (fits h) ∙ ap pos (rw e at h.loop.invariant.1)
+    let e : h.loop-e.e ≡ h.args.arcs = omega arith in
+    to_z_pos w64 (fits h) ∙ ap pos (rw e at h.loop-e.invariant.1)
 
 pub start_set_spec : {M : Type 1} → statement M
 start_set_spec = tie.close (tie.spec
-    invariant-loop decreases-loop loop_holds (λ c κs. search needs) with_arc_requires
-    (λ c. omega (arith, tally_le c.before.before.before.before.loop.invariant.0)) (λ c. omega arith) (λ c. omega arith)
+    invariant-loop-e decreases-loop-e loop_holds (λ c κs. search needs) with_arc_requires
+    (λ c. omega (arith, tally_le c.loop-e.invariant.0)) (λ c. omega arith) (λ c. omega arith)
     loop_again (λ c. record { sfits = fits c.before }) returns)

@@ -6,30 +6,30 @@ use Rattle.case.specs.law.StationArcs.{belongs, arcs_before}
 use Rattle.case.proofs.members.station_arcs.Statement.{statement}
 use Rattle.case.proofs.members.station_arcs.Tie as tie
 
-abbrev invariant-loop : tie.invariant-loop
-invariant-loop case s arcs own₀ e₀ own e = Tally (belongs case s) own e arcs
+abbrev invariant-loop-e : tie.invariant-loop-e
+invariant-loop-e case s arcs own₀ e₀ own e = Tally (belongs case s) own e arcs
 
-abbrev decreases-loop : tie.decreases-loop
-decreases-loop case s arcs own₀ e₀ own e = arcs - e
+abbrev decreases-loop-e : tie.decreases-loop-e
+decreases-loop-e case s arcs own₀ e₀ own e = arcs - e
 
-loop_holds : tie.Need-loop-init invariant-loop decreases-loop
+loop_holds : tie.Need-loop-e-init invariant-loop-e decreases-loop-e
 loop_holds c = tally
 
-loop_again : tie.Need-loop-preserved invariant-loop decreases-loop
+loop_again : tie.Need-loop-e-preserved invariant-loop-e decreases-loop-e
 loop_again c =
     let b = c.before in
     let t = b.before in
     let f = sym b.belongs.ensures in
     ⊎_elim
-    (λ x. tally_yes t.before.loop.invariant t.loop-test.true x.1 (f ∙ x.0.taken))
-    (λ x. tally_no t.before.loop.invariant t.loop-test.true x.1 (f ∙ x.0.left))
-    c.if1.branch
+    (λ x. tally_yes t.loop-e.invariant t.loop-e-test.true x.1 (f ∙ x.0.taken))
+    (λ x. tally_no t.loop-e.invariant t.loop-e-test.true x.1 (f ∙ x.0.left))
+    c.if-belongs.branch
 
-returns : tie.Need-returns invariant-loop decreases-loop
+returns : tie.Need-returns invariant-loop-e decreases-loop-e
 unfolding arcs_before
-returns c = tally_end c.before.loop.invariant c.loop-test.false
+returns c = tally_end c.loop-e.invariant c.loop-e-test.false
 
 pub station_arcs_spec : {M : Type 1} → statement M
 station_arcs_spec = tie.close (tie.spec
-    invariant-loop decreases-loop loop_holds (λ c κs. search needs)
-    (λ c. omega (arith, tally_le c.before.before.before.loop.invariant)) (λ c. omega arith) (λ c. omega arith) loop_again returns)
+    invariant-loop-e decreases-loop-e loop_holds (λ c κs. search needs)
+    (λ c. omega (arith, tally_le c.loop-e.invariant)) (λ c. omega arith) (λ c. omega arith) loop_again returns)

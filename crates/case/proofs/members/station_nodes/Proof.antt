@@ -6,30 +6,30 @@ use Rattle.case.proofs.Ends.{Gathering, gathering, gather_yes, gather_no, gather
 use Rattle.case.proofs.members.station_nodes.Statement.{statement}
 use Rattle.case.proofs.members.station_nodes.Tie as tie
 
-abbrev invariant-loop : tie.invariant-loop
-invariant-loop case s arcs nodes₀ e₀ nodes e = Gathering case (belongs case s) nodes e arcs
+abbrev invariant-loop-e : tie.invariant-loop-e
+invariant-loop-e case s arcs nodes₀ e₀ nodes e = Gathering case (belongs case s) nodes e arcs
 
-abbrev decreases-loop : tie.decreases-loop
-decreases-loop case s arcs nodes₀ e₀ nodes e = arcs - e
+abbrev decreases-loop-e : tie.decreases-loop-e
+decreases-loop-e case s arcs nodes₀ e₀ nodes e = arcs - e
 
-loop_holds : tie.Need-loop-init invariant-loop decreases-loop
+loop_holds : tie.Need-loop-e-init invariant-loop-e decreases-loop-e
 loop_holds c = gathering
 
-loop_again : tie.Need-loop-preserved invariant-loop decreases-loop
+loop_again : tie.Need-loop-e-preserved invariant-loop-e decreases-loop-e
 loop_again c =
     let b = c.before in
     let t = b.before in
-    let g = t.before.loop.invariant in
+    let g = t.loop-e.invariant in
     let f = sym b.belongs.ensures in
     ⊎_elim
-    (λ x. gather_yes g t.loop-test.true (x.2 ∙ x.1.ensures) (f ∙ x.0.taken))
-    (λ x. gather_no g t.loop-test.true x.1 (f ∙ x.0.left))
-    c.if1.branch
+    (λ x. gather_yes g t.loop-e-test.true (x.2 ∙ x.1.ensures) (f ∙ x.0.taken))
+    (λ x. gather_no g t.loop-e-test.true x.1 (f ∙ x.0.left))
+    c.if-belongs.branch
 
-returns : tie.Need-returns invariant-loop decreases-loop
-returns c = gather_end c.before.loop.invariant c.loop-test.false
+returns : tie.Need-returns invariant-loop-e decreases-loop-e
+returns c = gather_end c.loop-e.invariant c.loop-e-test.false
 
 pub station_nodes_spec : {M : Type 1} → statement M
 station_nodes_spec = tie.close (tie.spec
-    invariant-loop decreases-loop loop_holds (λ c κs. search needs) (λ c κs. search needs) (λ c. omega arith) (λ c. omega arith)
-    loop_again (λ c. record { sfits = gather_fits c.before.loop.invariant }) returns)
+    invariant-loop-e decreases-loop-e loop_holds (λ c κs. search needs) (λ c κs. search needs) (λ c. omega arith) (λ c. omega arith)
+    loop_again (λ c. record { sfits = gather_fits c.loop-e.invariant }) returns)

@@ -9,10 +9,10 @@ returns : tie.Need-returns
 returns c =
     let k = c.before.before.before in
     let u = k.before in
-    let offset = arc_at _ u.before.args.e in
-    let from = count_in_lem _ offset u.arc_at.ensures 1 k.count.ensures in
-    let to = count_in_lem _ offset u.arc_at.ensures 2 c.before.count2.ensures in
-    c.with_node2.ensures ∙ rw (to, c.before.before.with_node.ensures, from)
+    let offset = arc_at _ u.args.e in
+    let from = count_in_lem _ offset u.arc_at-offset.ensures 1 k.count.ensures in
+    let to = count_in_lem _ offset u.arc_at-offset.ensures 2 c.count-2.ensures in
+    c.with_node-2.ensures ∙ rw (to, c.with_node.ensures, from)
 
 pub with_ends_spec : {M : Type 1} → statement M
 with_ends_spec = tie.close (tie.spec

@@ -6,13 +6,13 @@ use Rattle.numbers.specs.inside.ItemBits.{shifted}
 use Rattle.case.proofs.members.with_node.Statement.{statement}
 use Rattle.case.proofs.members.with_node.Tie as tie
 
-returns : tie.Need-returns
+returns : tie.Need-returns-then-v-lt-SET_ROOM
 unfolding with_node
-returns c = rw (shifted c.before.args.v (omega arith), lt-ltb _ _ c.if1.true)
+returns c = rw (shifted c.args.v (omega arith), lt-ltb _ _ c.if-v-lt-SET_ROOM.true)
 
-returns_2 : tie.Need-returns-2
+returns_2 : tie.Need-returns-else-v-lt-SET_ROOM
 unfolding with_node
-returns_2 c = rw (le-ltb _ _ c.if1.false)
+returns_2 c = rw (le-ltb _ _ c.if-v-lt-SET_ROOM.false)
 
 pub with_node_spec : {M : Type 1} → statement M
 with_node_spec = tie.close (tie.spec (λ c. search needs) returns returns_2)

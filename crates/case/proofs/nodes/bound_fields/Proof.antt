@@ -15,13 +15,13 @@ returns c =
     let u = f2.before.before in
     let t = u.before in
     let s = t.before in
-    let a = s.before.args in
-    let low = kept_is s.number.type_inv s.number.ensures ∙ ap (number_at a.case.now) (add-zero a.offset) in
-    let high = kept_is t.number2.type_inv t.number2.ensures in
-    let actlow = kept_is u.number3.type_inv u.number3.ensures in
+    let a = s.args in
+    let low = kept_is s.number-low.type_inv s.number-low.ensures ∙ ap (number_at a.case.now) (add-zero a.offset) in
+    let high = kept_is t.number-high.type_inv t.number-high.ensures in
+    let actlow = kept_is u.number-actlow.type_inv u.number-actlow.ensures in
     simp first_no_append
-    (chain c.or_else2.ensures f2.before.fields.ensures
-    (chain c.before.or_else.ensures (simp low at f2.field.ensures) (simp (actlow, high) at f3.field2.ensures)))
+    (chain c.or_else-2.ensures f2.fields.ensures
+    (chain c.or_else.ensures (simp low at f2.field.ensures) (simp (actlow, high) at f3.field-2.ensures)))
 
 pub bound_fields_spec : {M : Type 1} → statement M
 bound_fields_spec = tie.close (tie.spec

@@ -12,8 +12,8 @@ returns c =
     let d = c.before.before in
     let s = d.before.before.before in
     simp first_no_append
-    (chain c.or_else2.ensures d.before.before.node_head.ensures
-    (chain c.before.or_else.ensures d.before.bound_fields.ensures (simp s.requires.2 at d.demand_fields.ensures)))
+    (chain c.or_else-2.ensures d.node_head.ensures
+    (chain c.or_else.ensures d.bound_fields.ensures (simp s.requires.2 at d.demand_fields.ensures)))
 
 pub node_fields_spec : {M : Type 1} → statement M
 node_fields_spec = tie.close (tie.spec

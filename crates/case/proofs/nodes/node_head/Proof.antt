@@ -7,7 +7,7 @@ use Rattle.case.proofs.nodes.node_head.Tie as tie
 
 returns : tie.Need-returns
 unfolding node_head
-returns c = simp first_no_append (chain c.or_else.ensures c.before.before.field.ensures c.before.field2.ensures)
+returns c = simp first_no_append (chain c.or_else.ensures c.field.ensures c.field-2.ensures)
 
 pub node_head_spec : {M : Type 1} → statement M
 node_head_spec = tie.close (tie.spec (λ c κs. search needs) (λ c. search needs) (λ c κs. search needs) (λ c κs. search needs) returns)

@@ -5,18 +5,18 @@ use Rattle.case.proofs.Reading.{rows_past, rows_fit}
 use Rattle.case.proofs.offsets.along.Statement.{statement}
 use Rattle.case.proofs.offsets.along.Tie as tie
 
-returns : tie.Need-returns
+returns : tie.Need-returns-then-end-at
 returns c = search needs
 
-returns_2 : tie.Need-returns-2
+returns_2 : tie.Need-returns-then-end-at-2
 returns_2 c =
-    let a = c.before.before.args in
-    omega (arith, rows_past (a.end - a.at) a.count a.width c.before.before.requires c.if2.true)
+    let a = c.args in
+    omega (arith, rows_past (a.end - a.at) a.count a.width c.requires c.if-end-at-2.true)
 
-fit : (c : tie.Else2) → let a = c.before.before.args in a.count * a.width ≤ a.end - a.at
-fit c = let a = c.before.before.args in rows_fit (a.end - a.at) a.count a.width c.before.before.requires c.if2.false
+fit : (c : tie.Else-end-at-2) → let a = c.args in a.count * a.width ≤ a.end - a.at
+fit c = let a = c.args in rows_fit (a.end - a.at) a.count a.width c.requires c.if-end-at-2.false
 
-returns_3 : tie.Need-returns-3
+returns_3 : tie.Need-returns
 returns_3 c = omega (arith, fit c)
 
 pub along_spec : {M : Type 1} → statement M

@@ -6,7 +6,7 @@ use Rattle.case.proofs.offsets.arc_at.Tie as tie
 
 returns : tie.Need-returns
 unfolding arc_at
-returns c = c.along.ensures ∙ rw (c.before.Node-at.ensures, c.before.before.count.ensures.value) (omega arith)
+returns c = c.along.ensures ∙ rw (c.before.Node-at.ensures, c.count-nodes.ensures.value) (omega arith)
 
 pub arc_at_spec : {M : Type 1} → statement M
 arc_at_spec = tie.close (tie.spec (λ c κs. search needs) (λ c κs. search needs) (λ c κs. search needs) returns)

@@ -8,7 +8,7 @@ use Rattle.case.proofs.offsets.count.Tie as tie
 
 returns : tie.Need-returns
 returns c =
-    let n = c.before.number in
+    let n = c.number in
     let e = kept n.result n.type_inv in
     record { value = c.index.ensures ∙ ap pos_part (e ∙ n.ensures); small = rw (c.index.ensures, e) (count_small n.result n.type_inv) }
 

@@ -6,7 +6,7 @@ use Rattle.case.proofs.offsets.demand_at.Tie as tie
 
 returns : tie.Need-returns
 unfolding demand_in
-returns c = c.along2.ensures ∙ rw c.before.along.ensures (omega arith)
+returns c = c.along-2.ensures ∙ rw c.along.ensures (omega arith)
 
 pub demand_at_spec : {M : Type 1} → statement M
 demand_at_spec = tie.close (tie.spec (λ c κs. search needs) (λ c κs. search needs) returns)

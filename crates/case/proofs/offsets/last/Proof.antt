@@ -7,7 +7,7 @@ use Rattle.numbers.specs.inside.SignedParts.{ints, taken}
 use Rattle.case.proofs.offsets.last.Statement.{statement}
 use Rattle.case.proofs.offsets.last.Tie as tie
 
-sub_result : tie.Need-overflow-sub-result
+sub_result : tie.Need-overflow_sub-result
 sub_result c = ranged _ (rw (to_z_pos w64 c.requires) (omega (ints, taken (pos c.args.n) (pos 1))))
 
 returns : tie.Need-returns

@@ -6,12 +6,12 @@ use Rattle.case.proofs.offsets.node_at.Statement.{statement}
 use Rattle.case.proofs.offsets.node_at.Tie as tie
 
 along_requires : tie.Need-along-requires
-along_requires c κs = omega (arith, c.node_width.ensures, some_width c.before.before.args.case.now)
+along_requires c κs = omega (arith, c.node_width.ensures, some_width c.args.case.now)
 
 returns : tie.Need-returns
 unfolding node_at
-returns c = c.along.ensures ∙ rw (c.before.before.count.ensures.value, c.before.node_width.ensures)
+returns c = c.along.ensures ∙ rw (c.count-steps.ensures.value, c.node_width.ensures)
 
 pub node_at_spec : {M : Type 1} → statement M
 node_at_spec = tie.close (tie.spec
-    (λ c κs. search needs) (λ c. omega (arith, c.count.ensures.small)) (λ c κs. search needs) along_requires returns)
+    (λ c κs. search needs) (λ c. omega (arith, c.count-steps.ensures.small)) (λ c κs. search needs) along_requires returns)

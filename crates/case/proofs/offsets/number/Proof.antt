@@ -4,14 +4,14 @@ use Rattle.case.proofs.Reading.{past}
 use Rattle.case.proofs.offsets.number.Statement.{statement}
 use Rattle.case.proofs.offsets.number.Tie as tie
 
-returns : tie.Need-returns
+returns : tie.Need-returns-then-j-case
 returns c = search needs
 
-returns_2 : tie.Need-returns-2
-returns_2 c = let a = c.before.before.args in past a.case.now (a.offset + a.j) (omega arith)
+returns_2 : tie.Need-returns-else-j-case
+returns_2 c = let a = c.args in past a.case.now (a.offset + a.j) (omega arith)
 
-returns_3 : tie.Need-returns-3
-returns_3 c = let a = c.before.args in past a.case.now (a.offset + a.j) (omega arith)
+returns_3 : tie.Need-returns-else-offset-case
+returns_3 c = let a = c.args in past a.case.now (a.offset + a.j) (omega arith)
 
 pub number_spec : {M : Type 1} → statement M
 number_spec = tie.close (tie.spec

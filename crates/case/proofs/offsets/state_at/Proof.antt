@@ -9,7 +9,7 @@ returns : tie.Need-returns
 unfolding state_at
 returns c =
     let n = c.before.before in
-    c.along.ensures ∙ rw (c.before.direction_at.ensures, first_is n.before.args.offset n.count.ensures) (omega arith)
+    c.along.ensures ∙ rw (c.direction_at.ensures, first_is n.args.offset n.count-directions.ensures) (omega arith)
 
 pub state_at_spec : {M : Type 1} → statement M
 state_at_spec = tie.close (tie.spec (λ c κs. search needs) (λ c κs. search needs) (λ c κs. search needs) returns)

@@ -8,12 +8,12 @@ use Rattle.case.proofs.read.arc.Tie as tie
 returns : tie.Need-returns
 returns c =
     let u = c.before.before.before.before in
-    let l = u.before.args.case.now in
-    let offset = arc_at l u.before.args.e in
-    let r = u.arc_at.ensures in
-    let e0 = first_count l offset r c.before.before.before.count.ensures in
-    let e1 = count_in_lem l offset r 1 c.before.before.count2.ensures in
-    let e2 = count_in_lem l offset r 2 c.before.count3.ensures in
+    let l = u.args.case.now in
+    let offset = arc_at l u.args.e in
+    let r = u.arc_at-offset.ensures in
+    let e0 = first_count l offset r c.count.ensures in
+    let e1 = count_in_lem l offset r 1 c.count-2.ensures in
+    let e2 = count_in_lem l offset r 2 c.count-3.ensures in
     rw (e0, e1, e2, number_in l offset r 3 c.number.type_inv c.number.ensures)
 
 pub arc_spec : {M : Type 1} → statement M

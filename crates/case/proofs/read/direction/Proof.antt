@@ -8,11 +8,11 @@ use Rattle.case.proofs.read.direction.Tie as tie
 returns : tie.Need-returns
 returns c =
     let u = c.before.before.before in
-    let l = u.before.args.case.now in
-    let offset = direction_at l u.before.args.offset u.before.args.f in
-    let r = u.direction_at.ensures in
-    let e0 = first_number l offset r c.before.before.number.type_inv c.before.before.number.ensures in
-    let e1 = number_in l offset r 1 c.before.number2.type_inv c.before.number2.ensures in
+    let l = u.args.case.now in
+    let offset = direction_at l u.args.offset u.args.f in
+    let r = u.direction_at-at.ensures in
+    let e0 = first_number l offset r c.number.type_inv c.number.ensures in
+    let e1 = number_in l offset r 1 c.number-2.type_inv c.number-2.ensures in
     rw (e0, e1, count_in_lem l offset r 2 c.count.ensures)
 
 pub direction_spec : {M : Type 1} → statement M

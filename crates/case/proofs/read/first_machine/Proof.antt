@@ -6,7 +6,7 @@ use Rattle.case.proofs.read.first_machine.Tie as tie
 
 returns : tie.Need-returns
 unfolding machine_at
-returns c = c.state_at.ensures ∙ rw c.before.count.ensures.value
+returns c = c.state_at.ensures ∙ rw c.count-states.ensures.value
 
 pub first_machine_spec : {M : Type 1} → statement M
 first_machine_spec = tie.close (tie.spec (λ c κs. search needs) (λ c κs. search needs) returns)

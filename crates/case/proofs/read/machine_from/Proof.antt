@@ -8,9 +8,9 @@ use Rattle.case.proofs.read.machine_from.Tie as tie
 returns : tie.Need-returns
 returns c =
     let n = c.before in
-    let a = n.before.args in
+    let a = n.args in
     let flow = kept_is n.number.type_inv n.number.ensures ∙ ap (number_at a.case.now) (add-zero a.at) in
-    rw (flow, kept_is c.number2.type_inv c.number2.ensures)
+    rw (flow, kept_is c.number-2.type_inv c.number-2.ensures)
 
 pub machine_from_spec : {M : Type 1} → statement M
 machine_from_spec = tie.close (tie.spec (λ c κs. search needs) (λ c κs. search needs) returns)

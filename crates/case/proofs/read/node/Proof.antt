@@ -21,19 +21,19 @@ returns c =
     let n1 = n2.before in
     let b = n1.before.before in
     let u = b.before in
-    let a = u.before.args in
+    let a = u.args in
     let l = a.case.now in
     let offset = node_at l a.v in
     let r = u.Node-at.ensures in
-    let s = further offset (bounds_in l a.i) (length l) r b.bounds_at.ensures in
+    let s = further offset (bounds_in l a.i) (length l) r b.bounds_at-bounds.ensures in
     let t = further offset (demand_in l a.i) (length l) r d.demand_at.ensures in
-    let e0 = first_count l offset r n1.before.count.ensures in
+    let e0 = first_count l offset r n1.count.ensures in
     let e1 = number_in l offset r 1 n1.number.type_inv n1.number.ensures in
-    let e2 = first_number l (bounds_at l a.v a.i) s n2.number2.type_inv n2.number2.ensures in
-    let e3 = number_in l (bounds_at l a.v a.i) s 1 n3.number3.type_inv n3.number3.ensures in
-    let e4 = number_in l (bounds_at l a.v a.i) s 2 n4.number4.type_inv n4.number4.ensures in
-    let e5 = number_in l (bounds_at l a.v a.i) s 3 n5.number5.type_inv n5.number5.ensures in
-    let e6 = first_number l (demand_at l a.v a.i) t c.number6.type_inv c.number6.ensures in
+    let e2 = first_number l (bounds_at l a.v a.i) s n2.number-2.type_inv n2.number-2.ensures in
+    let e3 = number_in l (bounds_at l a.v a.i) s 1 n3.number-3.type_inv n3.number-3.ensures in
+    let e4 = number_in l (bounds_at l a.v a.i) s 2 n4.number-4.type_inv n4.number-4.ensures in
+    let e5 = number_in l (bounds_at l a.v a.i) s 3 n5.number-5.type_inv n5.number-5.ensures in
+    let e6 = first_number l (demand_at l a.v a.i) t c.number-6.type_inv c.number-6.ensures in
     rw (e0, e1, e2, e3, e4, e5, e6)
 
 pub node_spec : {M : Type 1} → statement M

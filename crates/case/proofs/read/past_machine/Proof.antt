@@ -6,11 +6,11 @@ use Rattle.case.proofs.read.past_machine.Tie as tie
 
 along_requires : tie.Need-along-requires
 along_requires c κs =
-    let a = c.before.args in
+    let a = c.args in
     omega (arith, c.machine_width.ensures, some_machine a.case.now a.at)
 
 returns : tie.Need-returns
-returns c = c.along.ensures ∙ rw c.before.machine_width.ensures (omega arith)
+returns c = c.along.ensures ∙ rw c.machine_width.ensures (omega arith)
 
 pub past_machine_spec : {M : Type 1} → statement M
 past_machine_spec = tie.close (tie.spec (λ c κs. search needs) along_requires returns)

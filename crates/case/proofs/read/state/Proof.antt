@@ -8,12 +8,12 @@ use Rattle.case.proofs.read.state.Tie as tie
 returns : tie.Need-returns
 returns c =
     let u = c.before.before.before.before in
-    let l = u.before.args.case.now in
-    let offset = state_at l u.before.args.offset u.before.args.z in
-    let r = u.state_at.ensures in
-    let e0 = first_number l offset r c.before.before.before.number.type_inv c.before.before.before.number.ensures in
-    let e1 = number_in l offset r 1 c.before.before.number2.type_inv c.before.before.number2.ensures in
-    let e2 = number_in l offset r 2 c.before.number3.type_inv c.before.number3.ensures in
+    let l = u.args.case.now in
+    let offset = state_at l u.args.offset u.args.z in
+    let r = u.state_at-at.ensures in
+    let e0 = first_number l offset r c.number.type_inv c.number.ensures in
+    let e1 = number_in l offset r 1 c.number-2.type_inv c.number-2.ensures in
+    let e2 = number_in l offset r 2 c.number-3.type_inv c.number-3.ensures in
     rw (e0, e1, e2, count_in_lem l offset r 3 c.count.ensures)
 
 pub state_spec : {M : Type 1} → statement M

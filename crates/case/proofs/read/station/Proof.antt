@@ -8,11 +8,11 @@ returns : tie.Need-returns
 returns c =
     let k = c.before.before.before.before in
     rw (
-      first_is k.before.args.offset k.count.ensures,
-      c.before.before.before.count2.ensures.value,
-      c.before.before.count3.ensures.value,
-      c.before.count4.ensures.value,
-      c.count5.ensures.value,
+      first_is k.args.offset k.count.ensures,
+      c.count-2.ensures.value,
+      c.count-3.ensures.value,
+      c.count-4.ensures.value,
+      c.count-5.ensures.value,
     )
 
 pub station_spec : {M : Type 1} → statement M

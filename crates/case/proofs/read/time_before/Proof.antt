@@ -4,12 +4,12 @@ use Prim.Native.Nat.{suc, ◌-◌}
 use Rattle.case.proofs.read.time_before.Statement.{statement}
 use Rattle.case.proofs.read.time_before.Tie as tie
 
-returns : tie.Need-returns
-returns c = rw c.if1.true
+returns : tie.Need-returns-then-i-eq0
+returns c = rw c.if-i-eq0.true
 
-returns_2 : tie.Need-returns-2
+returns_2 : tie.Need-returns-else-i-eq0
 returns_2 c =
-    let i = c.before.before.args.i in
+    let i = c.args.i in
     let e : i ≡ suc (i - 1) = omega arith in
     rw e (kept_is c.time.type_inv c.time.ensures)
 

@@ -6,36 +6,36 @@ use Rattle.case.specs.declared.records.Arc.{Arc}
 use Rattle.case.proofs.rules.arc_ends.Statement.{statement}
 use Rattle.case.proofs.rules.arc_ends.Tie as tie
 
-abbrev invariant-loop : tie.invariant-loop
-invariant-loop case arcs e₀ e = Asking (arc_ends case) (first_no (all_arc_ends case)) e arcs
+abbrev invariant-loop-e : tie.invariant-loop-e
+invariant-loop-e case arcs e₀ e = Asking (arc_ends case) (first_no (all_arc_ends case)) e arcs
 
-abbrev decreases-loop : tie.decreases-loop
-decreases-loop case arcs e₀ e = arcs - e
+abbrev decreases-loop-e : tie.decreases-loop-e
+decreases-loop-e case arcs e₀ e = arcs - e
 
-loop_holds : tie.Need-loop-init invariant-loop decreases-loop
+loop_holds : tie.Need-loop-e-init invariant-loop-e decreases-loop-e
 unfolding all_arc_ends
 loop_holds c = asking c.requires
 
-returns : tie.Need-returns invariant-loop decreases-loop
+returns : tie.Need-returns-then-a invariant-loop-e decreases-loop-e
 unfolding arc_ends
 returns c =
     let b = c.before.before in
-    let e = b.arc.ensures in
-    let same = sym (ap (λ (x : Arc). x.from) e) ∙ c.if1.true ∙ ap (λ (x : Arc). x.to) e in
-    asking_no b.before.before.loop.invariant b.before.loop-test.true (rw (eq-eqb _ _ same)) refl
+    let e = b.arc-a.ensures in
+    let same = sym (ap (λ (x : Arc). x.from) e) ∙ c.if-a.true ∙ ap (λ (x : Arc). x.to) e in
+    asking_no b.loop-e.invariant b.loop-e-test.true (rw (eq-eqb _ _ same)) refl
 
-loop_again : tie.Need-loop-preserved invariant-loop decreases-loop
+loop_again : tie.Need-loop-e-preserved invariant-loop-e decreases-loop-e
 unfolding arc_ends
 loop_again c =
     let b = c.before.before in
-    let e = b.arc.ensures in
+    let e = b.arc-a.ensures in
     let from = ap (λ (x : Arc). x.from) e in
     let to = ap (λ (x : Arc). x.to) e in
-    asking_on b.before.before.loop.invariant b.before.loop-test.true (rw (ne_eqb _ _ (λ y. c.if1.false (from ∙ y ∙ sym to)))) refl
+    asking_on b.loop-e.invariant b.loop-e-test.true (rw (ne_eqb _ _ (λ y. c.if-a.false (from ∙ y ∙ sym to)))) refl
 
-returns_2 : tie.Need-returns-2 invariant-loop decreases-loop
-returns_2 c = asking_end c.before.loop.invariant c.loop-test.false
+returns_2 : tie.Need-returns invariant-loop-e decreases-loop-e
+returns_2 c = asking_end c.loop-e.invariant c.loop-e-test.false
 
 pub arc_ends_spec : {M : Type 1} → statement M
 arc_ends_spec = tie.close (tie.spec
-    invariant-loop decreases-loop loop_holds (λ c κs. search needs) returns (λ c. omega arith) (λ c. omega arith) loop_again returns_2)
+    invariant-loop-e decreases-loop-e loop_holds (λ c κs. search needs) returns (λ c. omega arith) (λ c. omega arith) loop_again returns_2)

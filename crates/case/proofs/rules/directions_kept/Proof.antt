@@ -17,43 +17,43 @@ use Rattle.case.proofs.rules.directions_kept.Tie as tie
 abbrev found : List ℤ → ℕ → ℤ → ℤ → ℕ → Bool
 found l offset inside plain f = sets_kept (in_both inside plain) (direction_row l offset f)
 
-abbrev invariant-loop : tie.invariant-loop
-invariant-loop case offset inside plain directions f₀ f = Keeping (found case offset (to_z w64 inside) (to_z w64 plain)) f directions
+abbrev invariant-loop-f : tie.invariant-loop-f
+invariant-loop-f case offset inside plain directions f₀ f = Keeping (found case offset (to_z w64 inside) (to_z w64 plain)) f directions
 
-abbrev decreases-loop : tie.decreases-loop
-decreases-loop case offset inside plain directions f₀ f = directions - f
+abbrev decreases-loop-f : tie.decreases-loop-f
+decreases-loop-f case offset inside plain directions f₀ f = directions - f
 
-told : (h : tie.At-loop invariant-loop decreases-loop) {b : Bool} → let s = h.before.before in let a = s.args in
-    b ≡ every h.before.station.result.directions (found a.case.now a.offset (to_z w64 (of_z w64 a.inside)) (to_z w64 (of_z w64 a.plain)))
+told : (h : tie.At-loop-f invariant-loop-f decreases-loop-f) {b : Bool} → let s = h.before.before in let a = s.args in
+    b ≡ every h.station-directions.result.directions (found a.case.now a.offset (to_z w64 (of_z w64 a.inside)) (to_z w64 (of_z w64 a.plain)))
     → b ≡ every (station_row a.case.now a.offset).directions (found a.case.now a.offset a.inside a.plain)
 told h e =
-    let f = h.before.before.ranges in
-    rw (← ap (λ (x : Station). x.directions) h.before.station.ensures) (simp (to_z-of_z f.inside, to_z-of_z f.plain) at e)
+    let f = h.ranges in
+    rw (← ap (λ (x : Station). x.directions) h.station-directions.ensures) (simp (to_z-of_z f.inside, to_z-of_z f.plain) at e)
 
-loop_holds : tie.Need-loop-init invariant-loop decreases-loop
+loop_holds : tie.Need-loop-f-init invariant-loop-f decreases-loop-f
 loop_holds c = keeping
 
-direction_kept_requires : tie.Need-direction-kept-requires invariant-loop decreases-loop
+direction_kept_requires : tie.Need-direction_kept-requires invariant-loop-f decreases-loop-f
 direction_kept_requires c κs =
     let h = c.before in
-    let d = ap (λ (x : Station). x.directions) h.before.station.ensures in
-    h.before.before.requires.each h.loop.f (rw (← d) c.loop-test.true)
+    let d = ap (λ (x : Station). x.directions) h.station-directions.ensures in
+    h.requires.each h.loop-f.f (rw (← d) c.loop-f-test.true)
 
-returns : tie.Need-returns invariant-loop decreases-loop
+returns : tie.Need-returns-then-not-direction_kept invariant-loop-f decreases-loop-f
 returns c =
     let b = c.before in
     let h = b.before.before in
-    told h (keep_no h.loop.invariant b.before.loop-test.true b.direction_kept.ensures (not-true _ c.if1.true))
+    told h (keep_no h.loop-f.invariant b.loop-f-test.true b.direction_kept.ensures (not-true _ c.if-not-direction_kept.true))
 
-loop_again : tie.Need-loop-preserved invariant-loop decreases-loop
+loop_again : tie.Need-loop-f-preserved invariant-loop-f decreases-loop-f
 loop_again c =
     let b = c.before in
-    keep_on b.before.before.loop.invariant b.before.loop-test.true b.direction_kept.ensures (not-false _ c.if1.false)
+    keep_on b.loop-f.invariant b.loop-f-test.true b.direction_kept.ensures (not-false _ c.if-not-direction_kept.false)
 
-returns_2 : tie.Need-returns-2 invariant-loop decreases-loop
-returns_2 c = told c.before (keep_end c.before.loop.invariant c.loop-test.false)
+returns_2 : tie.Need-returns invariant-loop-f decreases-loop-f
+returns_2 c = told c.before (keep_end c.loop-f.invariant c.loop-f-test.false)
 
 pub directions_kept_spec : {M : Type 1} → statement M
 directions_kept_spec = tie.close (tie.spec
-    invariant-loop decreases-loop (λ c κs. search needs) loop_holds direction_kept_requires returns (λ c. omega arith)
+    invariant-loop-f decreases-loop-f (λ c κs. search needs) loop_holds direction_kept_requires returns (λ c. omega arith)
     (λ c. omega arith) loop_again returns_2)

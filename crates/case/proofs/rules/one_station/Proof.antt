@@ -5,36 +5,36 @@ use Rattle.case.proofs.Ruled.{stations_with, one_no, one_yes}
 use Rattle.case.proofs.rules.one_station.Statement.{statement}
 use Rattle.case.proofs.rules.one_station.Tie as tie
 
-abbrev invariant-loop : tie.invariant-loop
-invariant-loop case inside stations nodes v₀ v = Asking (one_station case) (first_no (all_one_station case)) v nodes
+abbrev invariant-loop-v : tie.invariant-loop-v
+invariant-loop-v case inside stations nodes v₀ v = Asking (one_station case) (first_no (all_one_station case)) v nodes
 
-abbrev decreases-loop : tie.decreases-loop
-decreases-loop case inside stations nodes v₀ v = nodes - v
+abbrev decreases-loop-v : tie.decreases-loop-v
+decreases-loop-v case inside stations nodes v₀ v = nodes - v
 
-loop_holds : tie.Need-loop-init invariant-loop decreases-loop
+loop_holds : tie.Need-loop-v-init invariant-loop-v decreases-loop-v
 unfolding all_one_station
-loop_holds c = asking c.before.requires.1.nodes
+loop_holds c = asking c.requires.1.nodes
 
-stations_with_requires : tie.Need-stations-with-requires invariant-loop decreases-loop
+stations_with_requires : tie.Need-stations_with-requires invariant-loop-v decreases-loop-v
 stations_with_requires c κs = let s = c.before.before.before in rw s.requires.1.stations s.requires.0.stations
 
-returns : tie.Need-returns invariant-loop decreases-loop
+returns : tie.Need-returns-then-stations_with-gt1 invariant-loop-v decreases-loop-v
 returns c =
     let b = c.before in
     let h = b.before.before in
-    let n = b.stations_with.ensures ∙ stations_with h.before.before.requires.1 h.loop.v in
-    asking_no h.loop.invariant b.before.loop-test.true (one_no _ h.loop.v n c.if1.true) refl
+    let n = b.stations_with.ensures ∙ stations_with h.requires.1 h.loop-v.v in
+    asking_no h.loop-v.invariant b.loop-v-test.true (one_no _ h.loop-v.v n c.if-stations_with-gt1.true) refl
 
-loop_again : tie.Need-loop-preserved invariant-loop decreases-loop
+loop_again : tie.Need-loop-v-preserved invariant-loop-v decreases-loop-v
 loop_again c =
     let b = c.before in
     let h = b.before.before in
-    let n = b.stations_with.ensures ∙ stations_with h.before.before.requires.1 h.loop.v in
-    asking_on h.loop.invariant b.before.loop-test.true (one_yes _ h.loop.v n c.if1.false) refl
+    let n = b.stations_with.ensures ∙ stations_with h.requires.1 h.loop-v.v in
+    asking_on h.loop-v.invariant b.loop-v-test.true (one_yes _ h.loop-v.v n c.if-stations_with-gt1.false) refl
 
-returns_2 : tie.Need-returns-2 invariant-loop decreases-loop
-returns_2 c = asking_end c.before.loop.invariant c.loop-test.false
+returns_2 : tie.Need-returns invariant-loop-v decreases-loop-v
+returns_2 c = asking_end c.loop-v.invariant c.loop-v-test.false
 
 pub one_station_spec : {M : Type 1} → statement M
 one_station_spec = tie.close (tie.spec
-    invariant-loop decreases-loop loop_holds stations_with_requires returns (λ c. omega arith) (λ c. omega arith) loop_again returns_2)
+    invariant-loop-v decreases-loop-v loop_holds stations_with_requires returns (λ c. omega arith) (λ c. omega arith) loop_again returns_2)

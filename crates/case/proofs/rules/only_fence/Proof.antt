@@ -9,21 +9,21 @@ use Rattle.case.proofs.rules.only_fence.Statement.{statement}
 use Rattle.case.proofs.rules.only_fence.Tie as tie
 
 -- what the first test found
-inside : (c : tie.After-subset) → c.subset.result ≡ subset_of c.before.args.set c.before.args.inside
-inside c = let f = c.before.ranges in simp (to_z-of_z f.set, to_z-of_z f.inside) at c.subset.ensures
+inside : (c : tie.After-subset) → c.subset.result ≡ subset_of c.args.set c.args.inside
+inside c = let f = c.ranges in simp (to_z-of_z f.set, to_z-of_z f.inside) at c.subset.ensures
 
 -- the law's test, as the two tests of the code
 both : (s : tie.Start) → let a = s.args in (subset_of a.set a.inside && subset_of a.set a.plain) ≡ only_fence (in_both a.inside a.plain) a.set
 both s = only_both s.args.inside s.args.plain s.args.set s.requires
 
-returns : tie.Need-returns
+returns : tie.Need-returns-then-subset
 returns c =
     let o = c.before.before in
     let s = o.before in
-    rw (← both s, sym (inside o) ∙ c.before.if1.true) (simp (to_z-of_z s.ranges.set, to_z-of_z s.ranges.plain) at c.subset2.ensures)
+    rw (← both s, sym (inside o) ∙ c.if-subset.true) (simp (to_z-of_z s.ranges.set, to_z-of_z s.ranges.plain) at c.subset-then-subset.ensures)
 
-returns_2 : tie.Need-returns-2
-returns_2 c = let o = c.before in rw (← both o.before, sym (inside o) ∙ c.if1.false)
+returns_2 : tie.Need-returns-else-subset
+returns_2 c = let o = c.before in rw (← both o.before, sym (inside o) ∙ c.if-subset.false)
 
 pub only_fence_spec : {M : Type 1} → statement M
 only_fence_spec = tie.close (tie.spec (λ c κs. search needs) (λ c κs. search needs) returns returns_2)

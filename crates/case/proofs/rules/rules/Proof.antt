@@ -8,27 +8,27 @@ use Rattle.case.proofs.rules.rules.Statement.{statement}
 use Rattle.case.proofs.rules.rules.Tie as tie
 
 -- 13 to 16 together
-early : (c : tie.After-or-else3) → c.or_else3.result ≡ first_no (early_rules c.before.before.before.before.before.before.before.args.case.now)
+early : (c : tie.After-or_else-a) → c.or_else-a.result ≡ first_no (early_rules c.args.case.now)
 unfolding early_rules
 early c = simp first_no_append
-    (chain c.or_else3.ensures c.before.before.before.before.before.before.arc_ends.ensures
-    (chain c.before.or_else2.ensures c.before.before.before.before.before.one_station.ensures
-    (chain c.before.before.or_else.ensures c.before.before.before.before.station_size.ensures
-    c.before.before.before.direction_sets.ensures)))
+    (chain c.or_else-a.ensures c.arc_ends.ensures
+    (chain c.or_else-2.ensures c.one_station.ensures
+    (chain c.or_else.ensures c.station_size.ensures
+    c.direction_sets.ensures)))
 
-state_sets_requires : tie.Need-state-sets-requires
+state_sets_requires : tie.Need-state_sets-requires
 state_sets_requires c κs =
-    let o = c.before.before in
-    let p = o.before.before.before.before.before.before.before.requires in
-    (p.0, p.1, rules_sized _ (sym (early o) ∙ c.enum_told.given.1), p.2)
+    let o = c.before in
+    let p = o.requires in
+    (p.0, p.1, rules_sized _ (sym (early o) ∙ c.in-Yes.is), p.2)
 
-returns : tie.Need-returns
+returns : tie.Need-returns-in-Yes
 unfolding rule_questions
-returns c = went_on (early_rules _) (all_state_sets _) (early c.before.before.before) c.before.enum_told.given.1 c.state_sets.ensures
+returns c = went_on (early_rules _) (all_state_sets _) (early c.before.before) c.in-Yes.is c.state_sets.ensures
 
-returns_2 : tie.Need-returns-2
+returns_2 : tie.Need-returns-in-No
 unfolding rule_questions
-returns_2 c = stopped (early_rules _) (all_state_sets _) (early c.before.before) c.enum_told2.given.1
+returns_2 c = stopped (early_rules _) (all_state_sets _) (early c.before) c.in-No.is
 
 pub rules_spec : {M : Type 1} → statement M
 rules_spec = tie.close (tie.spec

@@ -10,35 +10,35 @@ use Rattle.case.specs.law.Records.{station_row}
 use Rattle.case.proofs.rules.states_kept.Statement.{statement}
 use Rattle.case.proofs.rules.states_kept.Tie as tie
 
-abbrev invariant-loop : tie.invariant-loop
-invariant-loop case offset own states z₀ z = Keeping (state_kept case offset (to_z w64 own)) z states
+abbrev invariant-loop-z : tie.invariant-loop-z
+invariant-loop-z case offset own states z₀ z = Keeping (state_kept case offset (to_z w64 own)) z states
 
-abbrev decreases-loop : tie.decreases-loop
-decreases-loop case offset own states z₀ z = states - z
+abbrev decreases-loop-z : tie.decreases-loop-z
+decreases-loop-z case offset own states z₀ z = states - z
 
-told : (h : tie.At-loop invariant-loop decreases-loop) {b : Bool} → let s = h.before.before in let a = s.args in
-    b ≡ every h.before.station.result.states (state_kept a.case.now a.offset (to_z w64 (of_z w64 a.own_val)))
+told : (h : tie.At-loop-z invariant-loop-z decreases-loop-z) {b : Bool} → let s = h.before.before in let a = s.args in
+    b ≡ every h.station-states.result.states (state_kept a.case.now a.offset (to_z w64 (of_z w64 a.own_val)))
     → b ≡ every (station_row a.case.now a.offset).states (state_kept a.case.now a.offset a.own_val)
-told h e = rw (← ap (λ (x : Station). x.states) h.before.station.ensures) (simp (to_z-of_z h.before.before.ranges.own_val) at e)
+told h e = rw (← ap (λ (x : Station). x.states) h.station-states.ensures) (simp (to_z-of_z h.ranges.own_val) at e)
 
-loop_holds : tie.Need-loop-init invariant-loop decreases-loop
+loop_holds : tie.Need-loop-z-init invariant-loop-z decreases-loop-z
 loop_holds c = keeping
 
-returns : tie.Need-returns invariant-loop decreases-loop
+returns : tie.Need-returns-then-not-state_kept invariant-loop-z decreases-loop-z
 returns c =
     let b = c.before in
     let h = b.before.before in
-    told h (keep_no h.loop.invariant b.before.loop-test.true b.state_kept.ensures (not-true _ c.if1.true))
+    told h (keep_no h.loop-z.invariant b.loop-z-test.true b.state_kept.ensures (not-true _ c.if-not-state_kept.true))
 
-loop_again : tie.Need-loop-preserved invariant-loop decreases-loop
+loop_again : tie.Need-loop-z-preserved invariant-loop-z decreases-loop-z
 loop_again c =
     let b = c.before in
-    keep_on b.before.before.loop.invariant b.before.loop-test.true b.state_kept.ensures (not-false _ c.if1.false)
+    keep_on b.loop-z.invariant b.loop-z-test.true b.state_kept.ensures (not-false _ c.if-not-state_kept.false)
 
-returns_2 : tie.Need-returns-2 invariant-loop decreases-loop
-returns_2 c = told c.before (keep_end c.before.loop.invariant c.loop-test.false)
+returns_2 : tie.Need-returns invariant-loop-z decreases-loop-z
+returns_2 c = told c.before (keep_end c.loop-z.invariant c.loop-z-test.false)
 
 pub states_kept_spec : {M : Type 1} → statement M
 states_kept_spec = tie.close (tie.spec
-    invariant-loop decreases-loop (λ c κs. search needs) loop_holds (λ c κs. search needs) returns (λ c. omega arith)
+    invariant-loop-z decreases-loop-z (λ c κs. search needs) loop_holds (λ c κs. search needs) returns (λ c. omega arith)
     (λ c. omega arith) loop_again returns_2)

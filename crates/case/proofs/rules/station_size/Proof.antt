@@ -6,33 +6,33 @@ use Rattle.case.proofs.Ruled.{size_no, size_yes}
 use Rattle.case.proofs.rules.station_size.Statement.{statement}
 use Rattle.case.proofs.rules.station_size.Tie as tie
 
-abbrev invariant-loop : tie.invariant-loop
-invariant-loop case arcs stations s₀ s = Asking (station_size case) (first_no (all_station_sizes case)) s stations
+abbrev invariant-loop-s : tie.invariant-loop-s
+invariant-loop-s case arcs stations s₀ s = Asking (station_size case) (first_no (all_station_sizes case)) s stations
 
-abbrev decreases-loop : tie.decreases-loop
-decreases-loop case arcs stations s₀ s = stations - s
+abbrev decreases-loop-s : tie.decreases-loop-s
+decreases-loop-s case arcs stations s₀ s = stations - s
 
-loop_holds : tie.Need-loop-init invariant-loop decreases-loop
+loop_holds : tie.Need-loop-s-init invariant-loop-s decreases-loop-s
 unfolding all_station_sizes
 loop_holds c = asking c.requires.stations
 
-returns : tie.Need-returns invariant-loop decreases-loop
+returns : tie.Need-returns-then-station_arcs-gt30 invariant-loop-s decreases-loop-s
 returns c =
     let b = c.before in
     let h = b.before.before in
-    let n = b.station_arcs.ensures ∙ ap (arcs_before _ h.loop.s) h.before.requires.arcs in
-    asking_no h.loop.invariant b.before.loop-test.true (size_no _ h.loop.s n c.if1.true) refl
+    let n = b.station_arcs.ensures ∙ ap (arcs_before _ h.loop-s.s) h.requires.arcs in
+    asking_no h.loop-s.invariant b.loop-s-test.true (size_no _ h.loop-s.s n c.if-station_arcs-gt30.true) refl
 
-loop_again : tie.Need-loop-preserved invariant-loop decreases-loop
+loop_again : tie.Need-loop-s-preserved invariant-loop-s decreases-loop-s
 loop_again c =
     let b = c.before in
     let h = b.before.before in
-    let n = b.station_arcs.ensures ∙ ap (arcs_before _ h.loop.s) h.before.requires.arcs in
-    asking_on h.loop.invariant b.before.loop-test.true (size_yes _ h.loop.s n c.if1.false) refl
+    let n = b.station_arcs.ensures ∙ ap (arcs_before _ h.loop-s.s) h.requires.arcs in
+    asking_on h.loop-s.invariant b.loop-s-test.true (size_yes _ h.loop-s.s n c.if-station_arcs-gt30.false) refl
 
-returns_2 : tie.Need-returns-2 invariant-loop decreases-loop
-returns_2 c = asking_end c.before.loop.invariant c.loop-test.false
+returns_2 : tie.Need-returns invariant-loop-s decreases-loop-s
+returns_2 c = asking_end c.loop-s.invariant c.loop-s-test.false
 
 pub station_size_spec : {M : Type 1} → statement M
 station_size_spec = tie.close (tie.spec
-    invariant-loop decreases-loop loop_holds (λ c κs. search needs) returns (λ c. omega arith) (λ c. omega arith) loop_again returns_2)
+    invariant-loop-s decreases-loop-s loop_holds (λ c κs. search needs) returns (λ c. omega arith) (λ c. omega arith) loop_again returns_2)

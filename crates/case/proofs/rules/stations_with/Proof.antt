@@ -8,31 +8,31 @@ use Rattle.case.specs.inside.CountLaws.{Tally, tally, tally_yes, tally_no, tally
 use Rattle.case.proofs.rules.stations_with.Statement.{statement}
 use Rattle.case.proofs.rules.stations_with.Tie as tie
 
-abbrev invariant-loop : tie.invariant-loop
-invariant-loop stations v inside n₀ s₀ n s = Tally (in_set inside v) n s stations
+abbrev invariant-loop-s : tie.invariant-loop-s
+invariant-loop-s stations v inside n₀ s₀ n s = Tally (in_set inside v) n s stations
 
-abbrev decreases-loop : tie.decreases-loop
-decreases-loop stations v inside n₀ s₀ n s = stations - s
+abbrev decreases-loop-s : tie.decreases-loop-s
+decreases-loop-s stations v inside n₀ s₀ n s = stations - s
 
-loop_holds : tie.Need-loop-init invariant-loop decreases-loop
+loop_holds : tie.Need-loop-s-init invariant-loop-s decreases-loop-s
 loop_holds c = tally
 
-loop_again : tie.Need-loop-preserved invariant-loop decreases-loop
+loop_again : tie.Need-loop-s-preserved invariant-loop-s decreases-loop-s
 loop_again c =
     let b = c.before in
     let t = b.before.before in
     let h = t.before in
-    let e = simp (kept (get_or h.before.args.t1 h.loop.s (pos 0)) b.before.member_arg.given) at (sym b.member.ensures) in
+    let e = simp (kept (get_or h.args.t1 h.loop-s.s (pos 0)) b.member-arg-1.given) at (sym b.member.ensures) in
     ⊎_elim
-    (λ x. tally_yes h.loop.invariant t.loop-test.true x.1 (e ∙ x.0.taken))
-    (λ x. tally_no h.loop.invariant t.loop-test.true x.1 (e ∙ x.0.left))
-    c.if1.branch
+    (λ x. tally_yes h.loop-s.invariant t.loop-s-test.true x.1 (e ∙ x.0.taken))
+    (λ x. tally_no h.loop-s.invariant t.loop-s-test.true x.1 (e ∙ x.0.left))
+    c.if-member.branch
 
-returns : tie.Need-returns invariant-loop decreases-loop
-returns c = tally_end c.before.loop.invariant c.loop-test.false
+returns : tie.Need-returns invariant-loop-s decreases-loop-s
+returns c = tally_end c.loop-s.invariant c.loop-s-test.false
 
 pub stations_with_spec : {M : Type 1} → statement M
 stations_with_spec = tie.close (tie.spec
-    invariant-loop decreases-loop loop_holds (λ c. omega arith) (λ c. omega arith) (λ c κs. search needs)
-    (λ c. omega (arith, tally_le c.before.before.before.before.loop.invariant)) (λ c. omega arith) (λ c. omega arith)
+    invariant-loop-s decreases-loop-s loop_holds (λ c. omega arith) (λ c. omega arith) (λ c κs. search needs)
+    (λ c. omega (arith, tally_le c.loop-s.invariant)) (λ c. omega arith) (λ c. omega arith)
     loop_again returns)

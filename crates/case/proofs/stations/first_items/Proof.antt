@@ -6,10 +6,10 @@ use Rattle.numbers.specs.inside.ItemBits.{shifted, items_fit}
 use Rattle.case.proofs.stations.first_items.Statement.{statement}
 use Rattle.case.proofs.stations.first_items.Tie as tie
 
-sub_result : tie.Need-overflow-sub-result
+sub_result : tie.Need-overflow_sub-result
 sub_result c = rw (shifted c.args.n (omega arith)) (pow_pos c.args.n)
 
-cast_result : tie.Need-overflow-cast-result
+cast_result : tie.Need-overflow_cast-result
 cast_result c = rw (shifted c.args.n (omega arith)) (record { sfits = items_fit c.args.n c.requires })
 
 returns : tie.Need-returns

@@ -5,16 +5,16 @@ use Rattle.case.specs.inside.Places.{state_early}
 use Rattle.case.proofs.stations.machines_at.Statement.{statement}
 use Rattle.case.proofs.stations.machines_at.Tie as tie
 
-add_result : tie.Need-overflow-add-result
+add_result : tie.Need-overflow_add-result
 add_result c =
     let s = c.before.before in
     let early = state_early s.args.case.now s.args.offset s.requires.1 0 (omega arith) in
-    omega (arith, c.count.ensures.value, s.requires.1.states, c.before.states_at.ensures, early, s.requires.0)
+    omega (arith, c.count.ensures.value, s.requires.1.states, c.states_at.ensures, early, s.requires.0)
 
 returns : tie.Need-returns
 unfolding machine_at state_at
-returns c = omega (arith, c.count.ensures.value, c.before.states_at.ensures)
+returns c = omega (arith, c.count.ensures.value, c.states_at.ensures)
 
 pub machines_at_spec : {M : Type 1} → statement M
 machines_at_spec = tie.close (tie.spec
-    (λ c κs. search needs) (λ c κs. search needs) (λ c. omega (arith, c.count.ensures.value, c.before.before.requires.1.states)) add_result returns)
+    (λ c κs. search needs) (λ c κs. search needs) (λ c. omega (arith, c.count.ensures.value, c.requires.1.states)) add_result returns)

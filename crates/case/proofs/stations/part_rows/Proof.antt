@@ -8,14 +8,14 @@ use Rattle.case.proofs.stations.part_rows.Statement.{statement}
 use Rattle.case.proofs.stations.part_rows.Tie as tie
 
 -- the counts that were read
-read : (c : tie.After-count3) → let d = c.before.before in
-    StationRead d.before.args.case.now d.before.args.offset d.count.result c.before.count2.result c.count3.result
-read c = let d = c.before.before in station_read d.before.requires.1 d.count.ensures c.before.count2.ensures c.count3.ensures
+read : (c : tie.After-count-machines) → let d = c.before.before in
+    StationRead d.args.case.now d.args.offset d.count-directions.result c.count-states.result c.count-machines.result
+read c = let d = c.before.before in station_read d.requires.1 d.count-directions.ensures c.count-states.ensures c.count-machines.ensures
 
-direction_rows_requires : tie.Need-direction-rows-requires
-direction_rows_requires c κs = (c.before.before.before.requires.0, omega (arith, read c))
+direction_rows_requires : tie.Need-direction_rows-requires
+direction_rows_requires c κs = (c.requires.0, omega (arith, read c))
 
-state_rows_requires : tie.Need-state-rows-requires
+state_rows_requires : tie.Need-state_rows-requires
 state_rows_requires c κs =
     let r = read c.before.before in
     let s = c.before.before.before.before.before in
@@ -23,7 +23,7 @@ state_rows_requires c κs =
     let early = state_early s.args.case.now s.args.offset s.requires.1 0 (omega arith) in
     (omega (arith, e, early, s.requires.0), e, omega arith, r.directions, omega arith)
 
-machine_rows_requires : tie.Need-machine-rows-requires
+machine_rows_requires : tie.Need-machine_rows-requires
 machine_rows_requires c κs =
     let d = c.before.before.before.before in
     let s = d.before.before.before in
@@ -39,8 +39,8 @@ returns c =
     let d = z.before.before in
     let r = read d.before in
     simp first_no_append
-    (chain c.or_else2.ensures (simp r.directions at d.direction_rows.ensures)
-    (chain c.before.or_else.ensures (simp r.states at z.state_rows.ensures) (simp r.machines at m.machine_rows.ensures)))
+    (chain c.or_else-2.ensures (simp r.directions at d.direction_rows.ensures)
+    (chain c.or_else.ensures (simp r.states at z.state_rows.ensures) (simp r.machines at m.machine_rows.ensures)))
 
 pub part_rows_spec : {M : Type 1} → statement M
 part_rows_spec = tie.close (tie.spec

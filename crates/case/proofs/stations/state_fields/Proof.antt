@@ -10,9 +10,9 @@ unfolding state_row_fields
 returns c =
     let f = c.before.before.before.before in
     simp first_no_append
-    (chain c.or_else2.ensures (simp (to_z-of_z f.before.ranges.sets) at f.field.ensures)
-    (chain c.before.or_else.ensures c.before.before.before.fields.ensures
-    c.before.before.field2.ensures))
+    (chain c.or_else-2.ensures (simp (to_z-of_z f.ranges.sets) at f.field.ensures)
+    (chain c.or_else.ensures c.fields.ensures
+    c.field-2.ensures))
 
 pub state_fields_spec : {M : Type 1} → statement M
 state_fields_spec = tie.close (tie.spec

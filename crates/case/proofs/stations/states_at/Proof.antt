@@ -8,12 +8,12 @@ use Rattle.case.proofs.Counting.{first_is}
 use Rattle.case.proofs.stations.states_at.Statement.{statement}
 use Rattle.case.proofs.stations.states_at.Tie as tie
 
-directions_are : (c : tie.After-direction-width) → let s = c.before.before in
-    c.before.count.result ≡ direction_count s.args.case.now s.args.offset
-directions_are c = let s = c.before.before in first_is s.args.offset c.before.count.ensures
+directions_are : (c : tie.After-direction_width) → let s = c.before.before in
+    c.count.result ≡ direction_count s.args.case.now s.args.offset
+directions_are c = let s = c.before.before in first_is s.args.offset c.count.ensures
 
 -- the directions' rows have few numbers
-narrow : (c : tie.After-direction-width) → c.before.count.result * c.direction_width.result ≤ 8 * 9
+narrow : (c : tie.After-direction_width) → c.count.result * c.direction_width.result ≤ 8 * 9
 narrow c =
     let s = c.before.before in
     rw (directions_are c, c.direction_width.ensures) (mul-le-mul s.requires.1.directions (direction_width_lem s.args.case.now))

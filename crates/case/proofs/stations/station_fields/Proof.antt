@@ -6,20 +6,20 @@ use Rattle.case.proofs.Asked.{stopped, went_on}
 use Rattle.case.proofs.stations.station_fields.Statement.{statement}
 use Rattle.case.proofs.stations.station_fields.Tie as tie
 
-part_rows_requires : tie.Need-part-rows-requires
-part_rows_requires c κs = (c.before.before.before.requires, station_counted _ _ (sym c.before.before.station_head.ensures ∙ c.enum_told.given.1))
+part_rows_requires : tie.Need-part_rows-requires
+part_rows_requires c κs = (c.requires, station_counted _ _ (sym c.station_head-a.ensures ∙ c.in-Yes.is))
 
-returns : tie.Need-returns
+returns : tie.Need-returns-in-Yes
 unfolding row_fields
 returns c =
-    let h = c.before.before.before in
-    went_on (station_head _ _) (part_fields _ h.before.args.offset) h.station_head.ensures c.before.enum_told.given.1 c.part_rows.ensures
+    let h = c.before.before in
+    went_on (station_head _ _) (part_fields _ h.args.offset) h.station_head-a.ensures c.in-Yes.is c.part_rows.ensures
 
-returns_2 : tie.Need-returns-2
+returns_2 : tie.Need-returns-in-No
 unfolding row_fields
 returns_2 c =
-    let h = c.before.before in
-    stopped (station_head _ _) (part_fields _ h.before.args.offset) h.station_head.ensures c.enum_told2.given.1
+    let h = c.before in
+    stopped (station_head _ _) (part_fields _ h.args.offset) h.station_head-a.ensures c.in-No.is
 
 pub station_fields_spec : {M : Type 1} → statement M
 station_fields_spec = tie.close (tie.spec

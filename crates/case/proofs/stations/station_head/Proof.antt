@@ -17,17 +17,17 @@ returns c =
     let f1 = f2.before in
     let u = f1.before in
     let t = u.before.before in
-    let e = kept_is t.last.type_inv t.last.ensures ∙ ap last_of (first_is t.before.before.args.offset t.before.count.ensures) in
-    let d = kept_is u.last2.type_inv u.last2.ensures ∙ ap last_of u.before.count2.ensures.value in
+    let e = kept_is t.last-last_direction.type_inv t.last-last_direction.ensures ∙ ap last_of (first_is t.args.offset t.count.ensures) in
+    let d = kept_is u.last-last_state.type_inv u.last-last_state.ensures ∙ ap last_of u.count-2.ensures.value in
     simp first_no_append
-    (chain c.or_else4.ensures f1.field.ensures
-    (chain c.before.or_else3.ensures f2.field2.ensures
-    (chain c.before.before.or_else2.ensures f3.field3.ensures
-    (chain c.before.before.before.or_else.ensures (simp e at f4.field4.ensures) (simp d at f5.field5.ensures)))))
+    (chain c.or_else-4.ensures f1.field.ensures
+    (chain c.or_else-3.ensures f2.field-2.ensures
+    (chain c.or_else-2.ensures f3.field-3.ensures
+    (chain c.or_else.ensures (simp e at f4.field-4.ensures) (simp d at f5.field-5.ensures)))))
 
 pub station_head_spec : {M : Type 1} → statement M
 station_head_spec = tie.close (tie.spec
-    (λ c κs. search needs) (λ c κs. c.count.ensures.small) (λ c κs. search needs) (λ c κs. c.count2.ensures.small)
+    (λ c κs. search needs) (λ c κs. c.count.ensures.small) (λ c κs. search needs) (λ c κs. c.count-2.ensures.small)
     (λ c κs. search needs) (λ c. search needs) (λ c κs. search needs) (λ c. search needs) (λ c κs. search needs)
     (λ c. search needs) (λ c κs. search needs) (λ c. search needs) (λ c κs. search needs) (λ c κs. search needs)
     (λ c κs. search needs) (λ c κs. search needs) (λ c κs. search needs) returns)

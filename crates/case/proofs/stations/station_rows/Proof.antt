@@ -13,63 +13,63 @@ use Rattle.numbers.specs.declared.answer.Answer.TheVariants.{Yes}
 use Rattle.case.proofs.stations.station_rows.Statement.{statement}
 use Rattle.case.proofs.stations.station_rows.Tie as tie
 
-abbrev invariant-loop : tie.invariant-loop
-invariant-loop case first stations row₀ s₀ offset s =
+abbrev invariant-loop-s : tie.invariant-loop-s
+invariant-loop-s case first stations row₀ s₀ offset s =
     (offset ≡ station_at case s) × (offset ≤ stations_extent + station_extent * s)
     × Asking (station_fields case) (first_no (all_station_fields case)) s stations
 
-abbrev decreases-loop : tie.decreases-loop
-decreases-loop case first stations row₀ s₀ offset s = stations - s
+abbrev decreases-loop-s : tie.decreases-loop-s
+decreases-loop-s case first stations row₀ s₀ offset s = stations - s
 
-asked : (b : tie.After-station-fields invariant-loop decreases-loop) → let h = b.before.before in
-    b.station_fields.result ≡ first_no (station_fields h.before.args.case.now h.loop.s)
+asked : (b : tie.After-station_fields-a invariant-loop-s decreases-loop-s) → let h = b.before.before in
+    b.station_fields-a.result ≡ first_no (station_fields h.args.case.now h.loop-s.s)
 unfolding station_fields
 asked b =
     let h = b.before.before in
-    b.station_fields.ensures ∙ ap (λ (r : ℕ). first_no (row_fields h.before.args.case.now r)) h.loop.invariant.0
+    b.station_fields-a.ensures ∙ ap (λ (r : ℕ). first_no (row_fields h.args.case.now r)) h.loop-s.invariant.0
 
-loop_holds : tie.Need-loop-init invariant-loop decreases-loop
+loop_holds : tie.Need-loop-s-init invariant-loop-s decreases-loop-s
 unfolding all_station_fields
 loop_holds c = (c.requires.1, omega (arith, c.requires.0), asking c.requires.3)
 
-returns : tie.Need-returns invariant-loop decreases-loop
+returns : tie.Need-returns-in-No invariant-loop-s decreases-loop-s
 returns c =
-    let b = c.before.before in
-    let n = c.enum_told2.given.1 in
-    stopped (all_station_fields _) (leftover _) (asking_no b.before.before.loop.invariant.2 b.before.loop-test.true (asked b) n) n
+    let b = c.before in
+    let n = c.in-No.is in
+    stopped (all_station_fields _) (leftover _) (asking_no b.loop-s.invariant.2 b.loop-s-test.true (asked b) n) n
 
 -- the station's rows have no "no"
-passes : (c : tie.After-enum-told invariant-loop decreases-loop) → let h = c.before.before.before.before in
-    first_no (row_fields h.before.args.case.now h.loop.offset) ≡ Yes
-passes c = sym c.before.before.station_fields.ensures ∙ c.enum_told.given.1
+passes : (c : tie.In-Yes invariant-loop-s decreases-loop-s) → let h = c.before.before.before in
+    first_no (row_fields h.args.case.now h.loop-s.offset) ≡ Yes
+passes c = sym c.station_fields-a.ensures ∙ c.in-Yes.is
 
-station_end_requires : tie.Need-station-end-requires invariant-loop decreases-loop
+station_end_requires : tie.Need-station_end-offset-requires invariant-loop-s decreases-loop-s
 station_end_requires c κs = (omega arith, row_counted _ _ (passes c), row_narrow _ _ (passes c))
 
-loop_again : tie.Need-loop-preserved invariant-loop decreases-loop
+loop_again : tie.Need-loop-s-preserved invariant-loop-s decreases-loop-s
 loop_again c =
-    let b = c.before.before.before in
+    let b = c.before.before in
     let h = b.before.before in
-    let l = h.before.args.case.now in
-    let v = h.loop.invariant in
-    let e = c.station_end.ensures in
+    let l = h.args.case.now in
+    let v = h.loop-s.invariant in
+    let e = c.station_end-offset.ensures in
     let y = passes c.before in (
-      e ∙ ap (station_end l) v.0 ∙ sym (station_next l h.loop.s),
-      omega (arith, e, end_most l h.loop.offset (row_counted _ _ y) (row_narrow _ _ y), v.1),
-      asking_on v.2 b.before.loop-test.true (asked b) c.before.enum_told.given.1,
+      e ∙ ap (station_end l) v.0 ∙ sym (station_next l h.loop-s.s),
+      omega (arith, e, end_most l h.loop-s.offset (row_counted _ _ y) (row_narrow _ _ y), v.1),
+      asking_on v.2 b.loop-s-test.true (asked b) c.in-Yes.is,
     )
 
-returns_2 : tie.Need-returns-2 invariant-loop decreases-loop
+returns_2 : tie.Need-returns invariant-loop-s decreases-loop-s
 unfolding leftover
 returns_2 c =
     let h = c.before.before in
-    let v = h.loop.invariant in
-    let left = c.before.loop-test.false in
-    let l = h.before.args.case.now in
-    let e : h.loop.s ≡ stations_of l = omega (arith, h.before.requires.3, left, v.2.upto) in
+    let v = h.loop-s.invariant in
+    let left = c.loop-s-test.false in
+    let l = h.args.case.now in
+    let e : h.loop-s.s ≡ stations_of l = omega (arith, h.requires.3, left, v.2.upto) in
     went_on (all_station_fields l) (leftover l) (asking_end v.2 left) refl (c.ask.ensures ∙ rw (v.0 ∙ ap (station_at l) e, or_else_yes))
 
 pub station_rows_spec : {M : Type 1} → statement M
 station_rows_spec = tie.close (tie.spec
-    invariant-loop decreases-loop loop_holds (λ c κs. omega arith) (λ c. search needs) (λ c. search needs) returns station_end_requires
+    invariant-loop-s decreases-loop-s loop_holds (λ c κs. omega arith) (λ c. search needs) (λ c. search needs) returns station_end_requires
     (λ c. omega arith) (λ c. omega arith) loop_again (λ c κs. search needs) returns_2)
