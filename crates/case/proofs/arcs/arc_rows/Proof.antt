@@ -1,5 +1,5 @@
 -- The rows before `e` have no "no" (`Asking`); a row has the questions of its ends, and then those of its kind.
-use Rattle.case.proofs.Common.{needs, arith, ◌≡◌, refl, first_no, Asking, asking, asking_on, asking_no, asking_end}
+use Rattle.case.proofs.Common.{rules, arith, ◌≡◌, refl, first_no, Asking, asking, asking_on, asking_no, asking_end}
 use Prim.Native.Nat.{◌-◌, ◌+◌, ◌*◌}
 use Rattle.numbers.specs.law.Items.{over}
 use Rattle.case.specs.law.ArcFields.{arc_fields}
@@ -44,5 +44,5 @@ returns_2 c = asking_end c.loop-e.invariant c.loop-e-test.false
 pub arc_rows_spec : {M : Type 1} → statement M
 arc_rows_spec = tie.close (tie.spec
     invariant-loop-e decreases-loop-e loop_holds (λ c. omega arith) (λ c. omega arith) (λ c κs. omega arith) (λ c κs. omega arith)
-    (λ c κs. search needs) (λ c. search needs) (λ c. search needs) returns (λ c. omega arith) (λ c. omega arith) loop_again
+    (λ c κs. search rules) (λ c. search rules) (λ c. search rules) returns (λ c. omega arith) (λ c. omega arith) loop_again
     returns_2)

@@ -1,5 +1,5 @@
 -- The last node goes by the count that was read; the answers of the three groups of fields are put together.
-use Rattle.case.proofs.Common.{needs, ◌∙◌, ap, first_no_append, kept_is}
+use Rattle.case.proofs.Common.{rules, ◌∙◌, ap, first_no_append, kept_is}
 use Rattle.case.specs.law.ArcFields.{end_fields}
 use Rattle.case.specs.law.Field.{last_of}
 use Rattle.case.proofs.Asked.{chain}
@@ -18,6 +18,6 @@ returns c =
 
 pub end_fields_spec : {M : Type 1} → statement M
 end_fields_spec = tie.close (tie.spec
-    (λ c κs. search needs) (λ c κs. c.count.ensures.small) (λ c κs. search needs) (λ c. search needs)
-    (λ c κs. search needs) (λ c. search needs) (λ c κs. search needs) (λ c κs. search needs) (λ c κs. search needs)
+    (λ c κs. search rules) (λ c κs. c.count.ensures.small) (λ c κs. search rules) (λ c. search rules)
+    (λ c κs. search rules) (λ c. search rules) (λ c κs. search rules) (λ c κs. search rules) (λ c κs. search rules)
     returns)

@@ -1,5 +1,5 @@
 -- The kind that was read picks the group of fields, in the same order of tests as the law's.
-use Rattle.case.proofs.Common.{needs, arith, ◌∙◌, ◌≡◌, sym, ◌≤◌, first_no_append}
+use Rattle.case.proofs.Common.{rules, arith, ◌∙◌, ◌≡◌, sym, ◌≤◌, first_no_append}
 use borrow.Author.Tests.{le-leb, lt-leb, ne_eqb}
 use Rattle.case.specs.law.ArcFields.{kind_fields}
 use Rattle.case.specs.law.Layout.{count_at}
@@ -48,6 +48,6 @@ returns_4 c =
 
 pub kind_fields_spec : {M : Type 1} → statement M
 kind_fields_spec = tie.close (tie.spec
-    (λ c κs. search needs) (λ c κs. search needs) (λ c. search needs) (λ c κs. search needs) member_fields_requires
-    (λ c. search needs) (λ c κs. search needs) (λ c κs. search needs) member_fields_requires_2 (λ c κs. search needs)
-    (λ c κs. search needs) returns returns_2 returns_3 returns_4)
+    (λ c κs. search rules) (λ c κs. search rules) (λ c. search rules) (λ c κs. search rules) member_fields_requires
+    (λ c. search rules) (λ c κs. search rules) (λ c κs. search rules) member_fields_requires_2 (λ c κs. search rules)
+    (λ c κs. search rules) returns returns_2 returns_3 returns_4)

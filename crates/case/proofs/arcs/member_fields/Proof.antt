@@ -1,5 +1,5 @@
 -- The last station goes by the count that was read and both ways by the kind; the answers of the four fields are put together.
-use Rattle.case.proofs.Common.{needs, ◌∙◌, ap, first_no_append, kept_is}
+use Rattle.case.proofs.Common.{rules, ◌∙◌, ap, first_no_append, kept_is}
 use Rattle.case.specs.law.ArcFields.{least_both_ways, member_fields}
 use Rattle.case.specs.law.Field.{last_of}
 use Rattle.case.proofs.Asked.{chain}
@@ -21,7 +21,7 @@ returns c =
 
 pub member_fields_spec : {M : Type 1} → statement M
 member_fields_spec = tie.close (tie.spec
-    (λ c κs. search needs) (λ c κs. c.count.ensures.small) (λ c κs. search needs) (λ c. search needs)
-    (λ c κs. search needs) (λ c. search needs) (λ c κs. search needs) (λ c. search needs) (λ c κs. search needs)
-    (λ c. search needs) (λ c κs. search needs) (λ c κs. search needs) (λ c κs. search needs) (λ c κs. search needs)
+    (λ c κs. search rules) (λ c κs. c.count.ensures.small) (λ c κs. search rules) (λ c. search rules)
+    (λ c κs. search rules) (λ c. search rules) (λ c κs. search rules) (λ c. search rules) (λ c κs. search rules)
+    (λ c. search rules) (λ c κs. search rules) (λ c κs. search rules) (λ c κs. search rules) (λ c κs. search rules)
     returns)

@@ -1,5 +1,5 @@
 -- The answers of the four groups of fields are put together (`first_no_append`).
-use Rattle.case.proofs.Common.{needs, first_no_append}
+use Rattle.case.proofs.Common.{rules, first_no_append}
 use Rattle.case.specs.law.ArcFields.{pipe_fields}
 use Rattle.case.proofs.Asked.{chain}
 use Rattle.case.proofs.arcs.pipe_fields.Statement.{statement}
@@ -15,6 +15,6 @@ returns c = simp first_no_append
 
 pub pipe_fields_spec : {M : Type 1} → statement M
 pipe_fields_spec = tie.close (tie.spec
-    (λ c. search needs) (λ c κs. search needs) (λ c. search needs) (λ c κs. search needs) (λ c. search needs)
-    (λ c κs. search needs) (λ c. search needs) (λ c κs. search needs) (λ c κs. search needs) (λ c κs. search needs)
-    (λ c κs. search needs) returns)
+    (λ c. search rules) (λ c κs. search rules) (λ c. search rules) (λ c κs. search rules) (λ c. search rules)
+    (λ c κs. search rules) (λ c. search rules) (λ c κs. search rules) (λ c κs. search rules) (λ c κs. search rules)
+    (λ c κs. search rules) returns)

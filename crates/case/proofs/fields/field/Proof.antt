@@ -1,6 +1,6 @@
 -- A field that is there has one question left, whether it is in its range; bounds and number are read back as they are.
 use mathlib.Core.Bool.{◌&&◌}
-use Rattle.case.proofs.Common.{needs, ◌∙◌, ◌≡◌, to_z-of_z}
+use Rattle.case.proofs.Common.{rules, ◌∙◌, ◌≡◌, to_z-of_z}
 use borrow.Author.Tests.{lt-ltb, le-ltb}
 use lib.Signed.{le_z}
 use Rattle.numbers.specs.inside.QuestionLaws.{or_else_yes}
@@ -26,4 +26,4 @@ returns_2 c = rw (le-ltb _ _ c.if-i-case.false)
 
 pub field_spec : {M : Type 1} → statement M
 field_spec = tie.close (tie.spec
-    (λ c. search needs) (λ c. search needs) (λ c κs. search needs) (λ c κs. search needs) returns returns_2)
+    (λ c. search rules) (λ c. search rules) (λ c κs. search rules) (λ c κs. search rules) returns returns_2)

@@ -1,5 +1,5 @@
 -- The fields before `j` have no "no" (`Asking`), in a range that is read back from two locals.
-use Rattle.case.proofs.Common.{needs, arith, ◌≡◌, refl, ◌-◌, first_no, w64, to_z, of_z, Asking, asking, asking_on, asking_no, asking_end}
+use Rattle.case.proofs.Common.{rules, arith, ◌≡◌, refl, ◌-◌, first_no, w64, to_z, of_z, Asking, asking, asking_on, asking_no, asking_end}
 use Rattle.case.proofs.Common.{to_z-of_z}
 use Rattle.case.specs.law.Field.{fields, next_field}
 use Rattle.numbers.specs.declared.answer.Answer.{Answer}
@@ -38,5 +38,5 @@ returns_2 c = ranged c.before.before (asking_end c.loop-j.invariant c.loop-j-tes
 
 pub fields_spec : {M : Type 1} → statement M
 fields_spec = tie.close (tie.spec
-    invariant-loop-j decreases-loop-j loop_holds (λ c. omega arith) (λ c κs. search needs) (λ c. search needs) (λ c. search needs) returns
+    invariant-loop-j decreases-loop-j loop_holds (λ c. omega arith) (λ c κs. search rules) (λ c. search rules) (λ c. search rules) returns
     (λ c. omega arith) (λ c. omega arith) loop_again returns_2)

@@ -1,5 +1,5 @@
 -- The answers of the five counts are put together (`first_no_append`); a limit that is read from a local is the limit.
-use Rattle.case.proofs.Common.{needs, first_no_append, kept_is}
+use Rattle.case.proofs.Common.{rules, first_no_append, kept_is}
 use Rattle.case.specs.law.HeadFields.{count_fields}
 use Rattle.case.proofs.Asked.{chain}
 use Rattle.case.proofs.head.counts.Statement.{statement}
@@ -22,6 +22,6 @@ returns c =
 
 pub counts_spec : {M : Type 1} → statement M
 counts_spec = tie.close (tie.spec
-    (λ c κs. search needs) (λ c κs. search needs) (λ c κs. search needs) (λ c κs. search needs) (λ c κs. search needs)
-    (λ c κs. search needs) (λ c κs. search needs) (λ c κs. search needs) (λ c κs. search needs) (λ c κs. search needs)
-    (λ c κs. search needs) returns)
+    (λ c κs. search rules) (λ c κs. search rules) (λ c κs. search rules) (λ c κs. search rules) (λ c κs. search rules)
+    (λ c κs. search rules) (λ c κs. search rules) (λ c κs. search rules) (λ c κs. search rules) (λ c κs. search rules)
+    (λ c κs. search rules) returns)

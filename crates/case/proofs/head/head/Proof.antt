@@ -1,5 +1,5 @@
 -- The answers of the counts and of the two tolerances are put together (`first_no_append`).
-use Rattle.case.proofs.Common.{needs, first_no_append}
+use Rattle.case.proofs.Common.{rules, first_no_append}
 use Rattle.case.specs.law.HeadFields.{head_fields, tolerance_fields}
 use Rattle.case.proofs.Asked.{chain}
 use Rattle.case.proofs.head.head.Statement.{statement}
@@ -14,5 +14,5 @@ returns c = simp first_no_append
 
 pub head_spec : {M : Type 1} → statement M
 head_spec = tie.close (tie.spec
-    (λ c κs. search needs) (λ c κs. search needs) (λ c κs. search needs) (λ c κs. search needs) (λ c κs. search needs)
+    (λ c κs. search rules) (λ c κs. search rules) (λ c κs. search rules) (λ c κs. search rules) (λ c κs. search rules)
     returns)

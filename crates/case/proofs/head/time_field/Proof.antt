@@ -1,5 +1,5 @@
 -- The time before is at most 48 days, so that neither bound of the range overflows.
-use Rattle.case.proofs.Common.{needs, w64, to_z, of_z, pos}
+use Rattle.case.proofs.Common.{rules, w64, to_z, of_z, pos}
 use Rattle.numbers.specs.inside.SignedLocals.{Held, held, held_fits, literal, ◌+ʳ◌}
 use Rattle.case.specs.law.Records.{time_before}
 use Rattle.case.specs.law.TimeFields.{time_field}
@@ -19,5 +19,5 @@ returns c =
 
 pub time_field_spec : {M : Type 1} → statement M
 time_field_spec = tie.close (tie.spec
-    (λ c κs. search needs) (λ c. search needs) (λ c. held_fits (time_is c +ʳ literal (pos 1)) tt)
-    (λ c. held_fits (time_is c +ʳ literal (pos 86400)) tt) (λ c κs. search needs) returns)
+    (λ c κs. search rules) (λ c. search rules) (λ c. held_fits (time_is c +ʳ literal (pos 1)) tt)
+    (λ c. held_fits (time_is c +ʳ literal (pos 86400)) tt) (λ c κs. search rules) returns)

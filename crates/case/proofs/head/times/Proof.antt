@@ -1,5 +1,5 @@
 -- The times before `i` have no "no" (`Asking`), so that each step has added at most a day to the time before.
-use Rattle.case.proofs.Common.{needs, arith, ◌∙◌, sym, refl, first_no, Asking, asking, asking_on, asking_no, asking_end}
+use Rattle.case.proofs.Common.{rules, arith, ◌∙◌, sym, refl, first_no, Asking, asking, asking_on, asking_no, asking_end}
 use Prim.Native.Nat.{◌-◌, ◌*◌}
 use Rattle.numbers.specs.law.Items.{over}
 use Rattle.numbers.specs.inside.SignedBounds.{Bounded}
@@ -39,5 +39,5 @@ returns_2 c = asking_end c.loop-i.invariant.0 c.loop-i-test.false
 
 pub times_spec : {M : Type 1} → statement M
 times_spec = tie.close (tie.spec
-    invariant-loop-i decreases-loop-i loop_holds time_field_requires (λ c. search needs) (λ c. search needs) returns (λ c. omega arith)
+    invariant-loop-i decreases-loop-i loop_holds time_field_requires (λ c. search rules) (λ c. search rules) returns (λ c. omega arith)
     (λ c. omega arith) loop_again returns_2)

@@ -1,5 +1,5 @@
 -- The arcs' rows follow those of the nodes; the counts are in range, so the sum fits.
-use Rattle.case.proofs.Common.{needs, arith, ◌≤◌}
+use Rattle.case.proofs.Common.{rules, arith, ◌≤◌}
 use Prim.Native.Nat.{◌*◌}
 use native.Mathlib.Nat.{mul-le-mul}
 use Rattle.case.specs.law.Extents.{node_capacity, node_extent}
@@ -20,6 +20,6 @@ returns c = rw (c.count-2.ensures.value, c.node_width.ensures, c.count.ensures.v
 
 pub first_arc_spec : {M : Type 1} → statement M
 first_arc_spec = tie.close (tie.spec
-    (λ c κs. search needs) (λ c. omega (arith, c.count.ensures.small)) (λ c κs. search needs) (λ c κs. search needs)
+    (λ c κs. search rules) (λ c. omega (arith, c.count.ensures.small)) (λ c κs. search rules) (λ c κs. search rules)
     (λ c. omega (arith, rows_fit c))
     (λ c. omega (arith, rows_fit c, c.count.ensures.value, c.requires.steps)) returns)

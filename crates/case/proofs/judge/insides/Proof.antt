@@ -1,5 +1,5 @@
 -- The array holds the node sets of the stations before `s`, and 0 from there on.
-use Rattle.case.proofs.Common.{needs, arith, ◌∙◌, ◌≡◌, ap, refl, ◌-◌, ℕ, ◌≤◌, kept_is, w64, to_z, of_z, pos}
+use Rattle.case.proofs.Common.{rules, arith, ◌∙◌, ◌≡◌, ap, refl, ◌-◌, ℕ, ◌≤◌, kept_is, w64, to_z, of_z, pos}
 use lib.ListN.{length, length-set}
 use Rattle.case.specs.law.LayoutOf.{Holds, Clear}
 use Rattle.case.specs.inside.HoldsLaws.{holds_none, holds_more, holds_to, clear_new, clear_more}
@@ -35,5 +35,5 @@ returns c =
 
 pub insides_spec : {M : Type 1} → statement M
 insides_spec = tie.close (tie.spec
-    invariant-loop-s decreases-loop-s loop_holds (λ c κs. search needs) (λ c. omega arith) (λ c. omega arith) (λ c. omega arith)
+    invariant-loop-s decreases-loop-s loop_holds (λ c κs. search rules) (λ c. omega arith) (λ c. omega arith) (λ c. omega arith)
     (λ c. omega arith) loop_again returns)

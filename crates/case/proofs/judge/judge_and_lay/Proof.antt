@@ -1,5 +1,5 @@
 -- The rules are asked where 10 to 12 let the list pass, and then the layout is that of the case.
-use Rattle.case.proofs.Common.{needs, arith, ◌∙◌, ◌≡◌, ap, sym, refl, ℕ}
+use Rattle.case.proofs.Common.{rules, arith, ◌∙◌, ◌≡◌, ap, sym, refl, ℕ}
 use Rattle.numbers.specs.law.Question.{first_no, told}
 use Rattle.numbers.specs.declared.answer.Answer.{Answer}
 use Rattle.numbers.specs.declared.answer.Answer.TheVariants.{Yes, No}
@@ -54,4 +54,4 @@ returns_2 c =
 
 pub judge_and_lay_spec : {M : Type 1} → statement M
 judge_and_lay_spec = tie.close (tie.spec
-    (λ c κs. search needs) (λ c. search needs) lay_requires rules_requires (λ c. search needs) returns returns_2)
+    (λ c κs. search rules) (λ c. search rules) lay_requires rules_requires (λ c. search rules) returns returns_2)

@@ -1,5 +1,5 @@
 -- The counts that were read are the head's, and say where rows begin (`Begins`); the arrays and the set come from the callees.
-use Rattle.case.proofs.Common.{needs, arith, ◌∙◌, ap, ℕ, kept_is, pos}
+use Rattle.case.proofs.Common.{rules, arith, ◌∙◌, ap, ℕ, kept_is, pos}
 use Rattle.case.specs.law.StationNodes.{ends_of, plain, plain_nodes}
 use Rattle.case.proofs.Rows.{Begins, begins}
 use Rattle.case.proofs.judge.lay.Statement.{statement}
@@ -42,6 +42,6 @@ returns c =
 
 pub lay_spec : {M : Type 1} → statement M
 lay_spec = tie.close (tie.spec
-    (λ c κs. search needs) (λ c κs. search needs) (λ c κs. search needs) (λ c κs. search needs) (λ c κs. search needs)
-    (λ c. search needs) (λ c. omega (arith, begun c)) station_firsts_requires
-    (λ c κs. search needs) (λ c κs. search needs) returns)
+    (λ c κs. search rules) (λ c κs. search rules) (λ c κs. search rules) (λ c κs. search rules) (λ c κs. search rules)
+    (λ c. search rules) (λ c. omega (arith, begun c)) station_firsts_requires
+    (λ c κs. search rules) (λ c κs. search rules) returns)

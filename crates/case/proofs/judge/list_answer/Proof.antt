@@ -1,5 +1,5 @@
 -- The rows are read where no field of the head is refused, so that the counts are in range.
-use Rattle.case.proofs.Common.{needs, ◌∙◌, sym}
+use Rattle.case.proofs.Common.{rules, ◌∙◌, sym}
 use Rattle.case.specs.law.HeadFields.{head_fields}
 use Rattle.case.specs.law.Judged.{row_questions, list_questions}
 use Rattle.case.specs.inside.CountsInRange.{head_counted}
@@ -20,4 +20,4 @@ returns_2 c = stopped (head_fields _) (row_questions _) c.head-a.ensures c.in-No
 
 pub list_answer_spec : {M : Type 1} → statement M
 list_answer_spec = tie.close (tie.spec
-    (λ c κs. search needs) (λ c. search needs) rows_requires (λ c. search needs) returns returns_2)
+    (λ c κs. search rules) (λ c. search rules) rows_requires (λ c. search rules) returns returns_2)

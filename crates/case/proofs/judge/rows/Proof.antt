@@ -1,5 +1,5 @@
 -- The counts that were read are the head's, and say where rows begin (`Begins`); the answers of the four groups are put together.
-use Rattle.case.proofs.Common.{needs, arith, first_no_append}
+use Rattle.case.proofs.Common.{rules, arith, first_no_append}
 use Rattle.case.specs.law.ArcFields.{all_arc_fields}
 use Rattle.case.specs.law.Judged.{row_questions}
 use Rattle.case.specs.law.NodeFields.{all_node_fields}
@@ -45,7 +45,7 @@ returns c =
 
 pub rows_spec : {M : Type 1} → statement M
 rows_spec = tie.close (tie.spec
-    (λ c κs. search needs) (λ c κs. search needs) (λ c κs. search needs) (λ c κs. search needs) (λ c κs. search needs)
-    (λ c κs. search needs) (λ c κs. search needs) arc_rows_requires (λ c. search needs)
-    (λ c. omega (arith, begun c.before.before.before)) station_rows_requires (λ c κs. search needs) (λ c κs. search needs)
-    (λ c κs. search needs) returns)
+    (λ c κs. search rules) (λ c κs. search rules) (λ c κs. search rules) (λ c κs. search rules) (λ c κs. search rules)
+    (λ c κs. search rules) (λ c κs. search rules) arc_rows_requires (λ c. search rules)
+    (λ c. omega (arith, begun c.before.before.before)) station_rows_requires (λ c κs. search rules) (λ c κs. search rules)
+    (λ c κs. search rules) returns)

@@ -1,5 +1,5 @@
 -- The kind that was read decides first; of an artificial arc the fifth number of its row is its station.
-use Rattle.case.proofs.Common.{needs, ◌≡◌}
+use Rattle.case.proofs.Common.{rules, ◌≡◌}
 use borrow.Author.Tests.{le-leb, lt-leb}
 use Rattle.case.specs.law.Layout.{arc_at}
 use Rattle.case.specs.law.Records.{arc_of}
@@ -22,4 +22,4 @@ returns_2 c = rw (← kind_is c.before, lt-leb _ _ c.if-count-ge3.false)
 
 pub belongs_spec : {M : Type 1} → statement M
 belongs_spec = tie.close (tie.spec
-    (λ c κs. search needs) (λ c κs. search needs) (λ c κs. search needs) returns returns_2)
+    (λ c κs. search rules) (λ c κs. search rules) (λ c κs. search rules) returns returns_2)

@@ -1,7 +1,6 @@
 -- `n` counts the station's arcs so far (`Tally`), and the set holds those that are active; of at most 30 arcs it fits.
 use mathlib.Core.List.{List}
-use mathlib.Core.Logic.{⊎_elim}
-use Rattle.case.proofs.Common.{needs, arith, ◌∙◌, ◌≡◌, ap, sym, w64}
+use Rattle.case.proofs.Common.{rules, arith, ◌∙◌, ◌≡◌, ap, sym, w64}
 use Prim.Native.Nat.{ℕ, ◌≤◌, ◌<◌, ◌-◌, ◌+◌, ◌^◌}
 use lib.IntN.{ℤ, pos}
 use lib.Pow.{pow_mono}
@@ -11,6 +10,7 @@ use Rattle.case.specs.law.States.{active_at_start}
 use Rattle.case.specs.law.StationArcs.{belongs, arcs_before, arc_set}
 use Rattle.case.specs.inside.CountLaws.{Tally, tally, tally_yes, tally_no, tally_le}
 use Rattle.case.proofs.members.start_set.Statement.{statement}
+use Rattle.case.proofs.members.start_set.Lts.{then-belongs, else-belongs}
 use Rattle.case.proofs.members.start_set.Tie as tie
 
 -- a set of at most 30 arcs fits
@@ -57,16 +57,13 @@ loop_again c =
     let s = h.args.s in
     let i = h.loop-e.e in
     let f = sym b.belongs.ensures in
-    ⊎_elim
-    (λ x. (
-      tally_yes h.loop-e.invariant.0 t.loop-e-test.true x.3 (f ∙ x.0.taken),
-      x.2 ∙ x.1.ensures ∙ rw (place h, h.loop-e.invariant.1) (sym (arcs_yes l s (active_at_start l) i (f ∙ x.0.taken))),
-    ))
-    (λ x. (
-      tally_no h.loop-e.invariant.0 t.loop-e-test.true x.2 (f ∙ x.0.left),
-      x.1 ∙ h.loop-e.invariant.1 ∙ sym (arcs_no l s (active_at_start l) i (f ∙ x.0.left)),
-    ))
-    c.if-belongs.branch
+    elim c.if-belongs.branch [ then-belongs x ↦ (
+      tally_yes h.loop-e.invariant.0 t.loop-e-test.true x.3 (f ∙ x.if-belongs.true),
+      x.2 ∙ x.1.ensures ∙ rw (place h, h.loop-e.invariant.1) (sym (arcs_yes l s (active_at_start l) i (f ∙ x.if-belongs.true))),
+    ) | else-belongs x ↦ (
+      tally_no h.loop-e.invariant.0 t.loop-e-test.true x.2 (f ∙ x.if-belongs.false),
+      x.1 ∙ h.loop-e.invariant.1 ∙ sym (arcs_no l s (active_at_start l) i (f ∙ x.if-belongs.false)),
+    ) ]
 
 returns : tie.Need-returns invariant-loop-e decreases-loop-e
 returns c =
@@ -76,6 +73,6 @@ returns c =
 
 pub start_set_spec : {M : Type 1} → statement M
 start_set_spec = tie.close (tie.spec
-    invariant-loop-e decreases-loop-e loop_holds (λ c κs. search needs) with_arc_requires
+    invariant-loop-e decreases-loop-e loop_holds (λ c κs. search rules) with_arc_requires
     (λ c. omega (arith, tally_le c.loop-e.invariant.0)) (λ c. omega arith) (λ c. omega arith)
     loop_again (λ c. record { sfits = fits c.before }) returns)

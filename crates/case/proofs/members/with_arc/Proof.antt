@@ -1,5 +1,5 @@
 -- The set has no item from `n` on, so item `n` is put in by a sum.
-use Rattle.case.proofs.Common.{needs, arith, ◌∙◌, sym}
+use Rattle.case.proofs.Common.{rules, arith, ◌∙◌, sym}
 use Prim.Native.Nat.{◌<◌, ◌^◌}
 use lib.Pow.{pow-lt}
 use Rattle.numbers.specs.inside.ItemBits.{shifted}
@@ -21,4 +21,4 @@ returns_2 : tie.Need-returns-else-active
 returns_2 c = rw (sym c.active.ensures ∙ c.if-active.false) (omega arith)
 
 pub with_arc_spec : {M : Type 1} → statement M
-with_arc_spec = tie.close (tie.spec (λ c κs. search needs) (λ c. omega arith) add_result returns returns_2)
+with_arc_spec = tie.close (tie.spec (λ c κs. search rules) (λ c. omega arith) add_result returns returns_2)

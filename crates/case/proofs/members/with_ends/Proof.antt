@@ -1,5 +1,5 @@
 -- The two ends are the second and the third number of the arc's row, and are put in one after the other.
-use Rattle.case.proofs.Common.{needs, ◌∙◌}
+use Rattle.case.proofs.Common.{rules, ◌∙◌}
 use Rattle.case.specs.law.Layout.{arc_at}
 use Rattle.case.proofs.Reading.{count_in_lem}
 use Rattle.case.proofs.members.with_ends.Statement.{statement}
@@ -16,5 +16,5 @@ returns c =
 
 pub with_ends_spec : {M : Type 1} → statement M
 with_ends_spec = tie.close (tie.spec
-    (λ c κs. search needs) (λ c κs. search needs) (λ c κs. search needs) (λ c κs. search needs) (λ c κs. search needs)
+    (λ c κs. search rules) (λ c κs. search rules) (λ c κs. search rules) (λ c κs. search rules) (λ c κs. search rules)
     returns)

@@ -1,5 +1,5 @@
 -- A one shifted by fewer than 64 places is the set of one item; a node that a set has no room for is left out.
-use Rattle.case.proofs.Common.{needs, arith}
+use Rattle.case.proofs.Common.{rules, arith}
 use borrow.Author.Tests.{lt-ltb, le-ltb}
 use Rattle.case.specs.law.StationNodes.{with_node}
 use Rattle.numbers.specs.inside.ItemBits.{shifted}
@@ -15,4 +15,4 @@ unfolding with_node
 returns_2 c = rw (le-ltb _ _ c.if-v-lt-SET_ROOM.false)
 
 pub with_node_spec : {M : Type 1} → statement M
-with_node_spec = tie.close (tie.spec (λ c. search needs) returns returns_2)
+with_node_spec = tie.close (tie.spec (λ c. search rules) returns returns_2)

@@ -1,5 +1,5 @@
 -- The bounds of a bound are numbers beside it; the answers of the three groups of fields are put together.
-use Rattle.case.proofs.Common.{needs, arith, ◌∙◌, ap, first_no_append, kept_is}
+use Rattle.case.proofs.Common.{rules, arith, ◌∙◌, ap, first_no_append, kept_is}
 use native.Mathlib.Nat.{add-zero}
 use Rattle.case.specs.law.Layout.{number_at}
 use Rattle.case.specs.law.NodeFields.{bound_fields}
@@ -25,6 +25,6 @@ returns c =
 
 pub bound_fields_spec : {M : Type 1} → statement M
 bound_fields_spec = tie.close (tie.spec
-    (λ c κs. search needs) (λ c κs. search needs) (λ c κs. search needs) (λ c κs. omega arith) (λ c. omega arith)
-    (λ c κs. search needs) (λ c. omega arith) (λ c κs. search needs) (λ c κs. search needs)
-    (λ c κs. search needs) returns)
+    (λ c κs. search rules) (λ c κs. search rules) (λ c κs. search rules) (λ c κs. omega arith) (λ c. omega arith)
+    (λ c κs. search rules) (λ c. omega arith) (λ c κs. search rules) (λ c κs. search rules)
+    (λ c κs. search rules) returns)

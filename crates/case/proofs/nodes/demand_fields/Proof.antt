@@ -1,5 +1,5 @@
 -- The kind that was read picks the range of the demands, which stand one after the other (`demands_are`).
-use Rattle.case.proofs.Common.{needs, ◌∙◌, ◌≡◌, sym, ◌+◌}
+use Rattle.case.proofs.Common.{rules, ◌∙◌, ◌≡◌, sym, ◌+◌}
 use borrow.Author.Tests.{ne_eqb}
 use Rattle.numbers.specs.law.Items.{over}
 use Rattle.case.specs.law.Layout.{count_at}
@@ -33,5 +33,5 @@ returns_3 c =
 
 pub demand_fields_spec : {M : Type 1} → statement M
 demand_fields_spec = tie.close (tie.spec
-    (λ c κs. search needs) (λ c. search needs) (λ c κs. search needs) (λ c. search needs) (λ c κs. search needs)
-    (λ c. search needs) (λ c κs. search needs) returns returns_2 returns_3)
+    (λ c κs. search rules) (λ c. search rules) (λ c κs. search rules) (λ c. search rules) (λ c κs. search rules)
+    (λ c. search rules) (λ c κs. search rules) returns returns_2 returns_3)

@@ -1,5 +1,5 @@
 -- The answers of the row's three groups are put together.
-use Rattle.case.proofs.Common.{needs, arith, first_no_append}
+use Rattle.case.proofs.Common.{rules, arith, first_no_append}
 use Rattle.case.specs.law.Layout.{bounds_in}
 use Rattle.case.specs.law.NodeFields.{node_row_fields}
 use Rattle.case.proofs.Asked.{chain}
@@ -17,4 +17,4 @@ returns c =
 
 pub node_fields_spec : {M : Type 1} → statement M
 node_fields_spec = tie.close (tie.spec
-    (λ c κs. search needs) (λ c. omega arith) (λ c κs. omega arith) (λ c κs. search needs) (λ c κs. search needs) (λ c κs. search needs) returns)
+    (λ c κs. search rules) (λ c. omega arith) (λ c κs. omega arith) (λ c κs. search rules) (λ c κs. search rules) (λ c κs. search rules) returns)

@@ -1,5 +1,5 @@
 -- The answers of two fields are put together.
-use Rattle.case.proofs.Common.{needs, first_no_append}
+use Rattle.case.proofs.Common.{rules, first_no_append}
 use Rattle.case.specs.law.NodeFields.{node_head}
 use Rattle.case.proofs.Asked.{chain}
 use Rattle.case.proofs.nodes.node_head.Statement.{statement}
@@ -10,4 +10,4 @@ unfolding node_head
 returns c = simp first_no_append (chain c.or_else.ensures c.field.ensures c.field-2.ensures)
 
 pub node_head_spec : {M : Type 1} → statement M
-node_head_spec = tie.close (tie.spec (λ c κs. search needs) (λ c. search needs) (λ c κs. search needs) (λ c κs. search needs) returns)
+node_head_spec = tie.close (tie.spec (λ c κs. search rules) (λ c. search rules) (λ c κs. search rules) (λ c κs. search rules) returns)

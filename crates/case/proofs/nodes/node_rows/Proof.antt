@@ -1,5 +1,5 @@
 -- The rows of the nodes before `v` have no "no" (`Asking`), and `offset` is where the row of `v` begins.
-use Rattle.case.proofs.Common.{needs, arith, ◌∙◌, ◌≡◌, ap, refl, ℕ, ◌+◌, ◌-◌, ◌≤◌, first_no}
+use Rattle.case.proofs.Common.{rules, arith, ◌∙◌, ◌≡◌, ap, refl, ℕ, ◌+◌, ◌-◌, ◌≤◌, first_no}
 use Rattle.case.proofs.Common.{Asking, asking, asking_on, asking_no, asking_end}
 use Prim.Native.Nat.{◌*◌}
 use Rattle.numbers.specs.law.Items.{over}
@@ -67,5 +67,5 @@ returns_2 c = asking_end c.loop-v.invariant.2 c.loop-v-test.false
 
 pub node_rows_spec : {M : Type 1} → statement M
 node_rows_spec = tie.close (tie.spec
-    invariant-loop-v decreases-loop-v (λ c κs. search needs) (λ c. omega arith) loop_holds node_fields_requires (λ c. search needs) (λ c. search needs) returns
+    invariant-loop-v decreases-loop-v (λ c κs. search rules) (λ c. omega arith) loop_holds node_fields_requires (λ c. search rules) (λ c. search rules) returns
     add_offset_2 (λ c. omega arith) (λ c. omega arith) loop_again returns_2)

@@ -1,5 +1,5 @@
 -- The directions' rows follow a station's first five numbers, each as wide as the other.
-use Rattle.case.proofs.Common.{needs, arith, ◌∙◌}
+use Rattle.case.proofs.Common.{rules, arith, ◌∙◌}
 use Rattle.case.specs.law.Layout.{direction_at}
 use Rattle.case.specs.inside.Places.{some_direction}
 use Rattle.case.proofs.offsets.direction_at.Statement.{statement}
@@ -15,4 +15,4 @@ returns c =
     c.along-2.ensures ∙ rw (d.along.ensures, d.direction_width.ensures) (omega arith)
 
 pub direction_at_spec : {M : Type 1} → statement M
-direction_at_spec = tie.close (tie.spec (λ c κs. search needs) (λ c κs. search needs) along_requires_2 returns)
+direction_at_spec = tie.close (tie.spec (λ c κs. search rules) (λ c κs. search rules) along_requires_2 returns)

@@ -1,5 +1,5 @@
 -- The nodes' rows follow head and times, each as wide as the other; a count is below 2^63, so the sum fits.
-use Rattle.case.proofs.Common.{needs, arith, ◌∙◌}
+use Rattle.case.proofs.Common.{rules, arith, ◌∙◌}
 use Rattle.case.specs.law.Layout.{node_at}
 use Rattle.case.specs.inside.Places.{some_width}
 use Rattle.case.proofs.offsets.node_at.Statement.{statement}
@@ -14,4 +14,4 @@ returns c = c.along.ensures ∙ rw (c.count-steps.ensures.value, c.node_width.en
 
 pub node_at_spec : {M : Type 1} → statement M
 node_at_spec = tie.close (tie.spec
-    (λ c κs. search needs) (λ c. omega (arith, c.count-steps.ensures.small)) (λ c κs. search needs) along_requires returns)
+    (λ c κs. search rules) (λ c. omega (arith, c.count-steps.ensures.small)) (λ c κs. search rules) along_requires returns)

@@ -1,5 +1,5 @@
 -- Each field is a number of the row, read from where the row begins or from the end if that is nearer (`count_in_lem`).
-use Rattle.case.proofs.Common.{needs}
+use Rattle.case.proofs.Common.{rules}
 use Rattle.case.specs.law.Layout.{arc_at}
 use Rattle.case.proofs.Reading.{number_in, count_in_lem, first_count}
 use Rattle.case.proofs.read.arc.Statement.{statement}
@@ -18,5 +18,5 @@ returns c =
 
 pub arc_spec : {M : Type 1} → statement M
 arc_spec = tie.close (tie.spec
-    (λ c κs. search needs) (λ c κs. search needs) (λ c κs. search needs) (λ c κs. search needs) (λ c κs. search needs)
+    (λ c κs. search rules) (λ c κs. search rules) (λ c κs. search rules) (λ c κs. search rules) (λ c κs. search rules)
     returns)

@@ -1,5 +1,5 @@
 -- Each field is a number of the row, read from where the row begins or from the end if that is nearer (`count_in_lem`).
-use Rattle.case.proofs.Common.{needs}
+use Rattle.case.proofs.Common.{rules}
 use Rattle.case.specs.law.Layout.{arc_at}
 use Rattle.case.proofs.Reading.{number_in, count_in_lem}
 use Rattle.case.proofs.read.artificial.Statement.{statement}
@@ -21,5 +21,5 @@ returns c =
 
 pub artificial_spec : {M : Type 1} → statement M
 artificial_spec = tie.close (tie.spec
-    (λ c κs. search needs) (λ c κs. search needs) (λ c κs. search needs) (λ c κs. search needs) (λ c κs. search needs)
-    (λ c κs. search needs) (λ c κs. search needs) (λ c κs. search needs) returns)
+    (λ c κs. search rules) (λ c κs. search rules) (λ c κs. search rules) (λ c κs. search rules) (λ c κs. search rules)
+    (λ c κs. search rules) (λ c κs. search rules) (λ c κs. search rules) returns)

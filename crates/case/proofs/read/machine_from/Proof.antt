@@ -1,5 +1,5 @@
 -- Both fields are numbers of the row.
-use Rattle.case.proofs.Common.{needs, ◌∙◌, ap, kept_is}
+use Rattle.case.proofs.Common.{rules, ◌∙◌, ap, kept_is}
 use native.Mathlib.Nat.{add-zero}
 use Rattle.case.specs.law.Layout.{number_at}
 use Rattle.case.proofs.read.machine_from.Statement.{statement}
@@ -13,4 +13,4 @@ returns c =
     rw (flow, kept_is c.number-2.type_inv c.number-2.ensures)
 
 pub machine_from_spec : {M : Type 1} → statement M
-machine_from_spec = tie.close (tie.spec (λ c κs. search needs) (λ c κs. search needs) returns)
+machine_from_spec = tie.close (tie.spec (λ c κs. search rules) (λ c κs. search rules) returns)

@@ -1,5 +1,5 @@
 -- Each field is a number of the row, read from where the row, its bounds or its demand begin or from the end if that is nearer (`number_in`).
-use Rattle.case.proofs.Common.{needs, arith, ◌∙◌, ◌≡◌, ap, ℕ, ◌+◌}
+use Rattle.case.proofs.Common.{rules, arith, ◌∙◌, ◌≡◌, ap, ℕ, ◌+◌}
 use Prim.Native.Nat.{min}
 use lib.ListN.{length}
 use Rattle.case.specs.law.Layout.{node_at, bounds_in, bounds_at, demand_in, demand_at}
@@ -24,7 +24,7 @@ returns c =
     let a = u.args in
     let l = a.case.now in
     let offset = node_at l a.v in
-    let r = u.Node-at.ensures in
+    let r = u.node_at-offset.ensures in
     let s = further offset (bounds_in l a.i) (length l) r b.bounds_at-bounds.ensures in
     let t = further offset (demand_in l a.i) (length l) r d.demand_at.ensures in
     let e0 = first_count l offset r n1.count.ensures in
@@ -38,5 +38,5 @@ returns c =
 
 pub node_spec : {M : Type 1} → statement M
 node_spec = tie.close (tie.spec
-    (λ c κs. search needs) (λ c κs. search needs) (λ c κs. search needs) (λ c κs. search needs) (λ c κs. search needs)
-    (λ c κs. search needs) (λ c κs. search needs) (λ c κs. search needs) (λ c κs. search needs) (λ c κs. search needs) returns)
+    (λ c κs. search rules) (λ c κs. search rules) (λ c κs. search rules) (λ c κs. search rules) (λ c κs. search rules)
+    (λ c κs. search rules) (λ c κs. search rules) (λ c κs. search rules) (λ c κs. search rules) (λ c κs. search rules) returns)

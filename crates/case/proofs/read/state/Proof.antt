@@ -1,5 +1,5 @@
 -- Each field is a number of the row, read from where the row begins or from the end if that is nearer (`number_in`).
-use Rattle.case.proofs.Common.{needs}
+use Rattle.case.proofs.Common.{rules}
 use Rattle.case.specs.law.Layout.{state_at}
 use Rattle.case.proofs.Reading.{number_in, count_in_lem, first_number}
 use Rattle.case.proofs.read.state.Statement.{statement}
@@ -18,5 +18,5 @@ returns c =
 
 pub state_spec : {M : Type 1} → statement M
 state_spec = tie.close (tie.spec
-    (λ c κs. search needs) (λ c κs. search needs) (λ c κs. search needs) (λ c κs. search needs) (λ c κs. search needs)
+    (λ c κs. search rules) (λ c κs. search rules) (λ c κs. search rules) (λ c κs. search rules) (λ c κs. search rules)
     returns)

@@ -1,5 +1,5 @@
 -- The first step comes after time 0, and any other after the time of the step before it.
-use Rattle.case.proofs.Common.{needs, arith, ◌≡◌, kept_is}
+use Rattle.case.proofs.Common.{rules, arith, ◌≡◌, kept_is}
 use Prim.Native.Nat.{suc, ◌-◌}
 use Rattle.case.proofs.read.time_before.Statement.{statement}
 use Rattle.case.proofs.read.time_before.Tie as tie
@@ -14,4 +14,4 @@ returns_2 c =
     rw e (kept_is c.time.type_inv c.time.ensures)
 
 pub time_before_spec : {M : Type 1} → statement M
-time_before_spec = tie.close (tie.spec (λ c. search needs) (λ c κs. search needs) returns returns_2)
+time_before_spec = tie.close (tie.spec (λ c. search rules) (λ c κs. search rules) returns returns_2)

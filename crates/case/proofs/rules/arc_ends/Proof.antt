@@ -1,5 +1,5 @@
 -- The arcs before `e` have two ends that differ (`Asking`); the arc that was read decides for `e`.
-use Rattle.case.proofs.Common.{needs, arith, ◌∙◌, ap, sym, refl, ◌-◌, first_no, Asking, asking, asking_on, asking_no, asking_end}
+use Rattle.case.proofs.Common.{rules, arith, ◌∙◌, ap, sym, refl, ◌-◌, first_no, Asking, asking, asking_on, asking_no, asking_end}
 use borrow.Author.Tests.{eq-eqb, ne_eqb}
 use Rattle.case.specs.law.ArcEnds.{arc_ends, all_arc_ends}
 use Rattle.case.specs.declared.records.Arc.{Arc}
@@ -38,4 +38,4 @@ returns_2 c = asking_end c.loop-e.invariant c.loop-e-test.false
 
 pub arc_ends_spec : {M : Type 1} → statement M
 arc_ends_spec = tie.close (tie.spec
-    invariant-loop-e decreases-loop-e loop_holds (λ c κs. search needs) returns (λ c. omega arith) (λ c. omega arith) loop_again returns_2)
+    invariant-loop-e decreases-loop-e loop_holds (λ c κs. search rules) returns (λ c. omega arith) (λ c. omega arith) loop_again returns_2)

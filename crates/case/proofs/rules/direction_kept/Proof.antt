@@ -1,5 +1,5 @@
 -- The three tests are made in the law's order, on the two sets that were read; a direction in range has only items that a set has room for.
-use Rattle.case.proofs.Common.{needs, ◌∙◌, ◌≡◌, ap, sym, kept_is, w64, to_z, of_z, to_z-of_z}
+use Rattle.case.proofs.Common.{rules, ◌∙◌, ◌≡◌, ap, sym, kept_is, w64, to_z, of_z, to_z-of_z}
 use mathlib.Core.Path.{ap₂}
 use mathlib.Core.Bool.{Bool, true, false, ◌&&◌}
 use lib.IntN.{ℤ}
@@ -79,4 +79,4 @@ returns_3 c =
 
 pub direction_kept_spec : {M : Type 1} → statement M
 direction_kept_spec = tie.close (tie.spec
-    (λ c κs. search needs) (λ c κs. search needs) only_fence_requires only_fence_requires_2 returns returns_2 returns_3)
+    (λ c κs. search rules) (λ c κs. search rules) only_fence_requires only_fence_requires_2 returns returns_2 returns_3)

@@ -48,13 +48,13 @@ returns : tie.Need-returns-then-not-directions_kept invariant-loop-s decreases-l
 returns c =
     let b = c.before in
     let t = b.before.before.before in
-    asking_no t.loop-s.invariant t.loop-s-test.true (asked b (not-true _ c.if-not-directions_kept.true)) refl
+    asking_no t.loop-s.invariant t.loop-s-test.true (asked b c.if-not-directions_kept.true) refl
 
 loop_again : tie.Need-loop-s-preserved invariant-loop-s decreases-loop-s
 loop_again c =
     let b = c.before in
     let t = b.before.before.before in
-    asking_on t.loop-s.invariant t.loop-s-test.true (asked b (not-false _ c.if-not-directions_kept.false)) refl
+    asking_on t.loop-s.invariant t.loop-s-test.true (asked b c.if-not-directions_kept.false) refl
 
 returns_2 : tie.Need-returns invariant-loop-s decreases-loop-s
 returns_2 c = asking_end c.loop-s.invariant c.loop-s-test.false

@@ -1,7 +1,7 @@
 -- The directions before `f` keep 16 (`Keeping`); count and sets are read back as they are.
 use mathlib.Core.Bool.{Bool}
 use mathlib.Core.List.{List}
-use Rattle.case.proofs.Common.{needs, arith, ◌≡◌, ap, ◌-◌, ℕ, w64, to_z, of_z, to_z-of_z}
+use Rattle.case.proofs.Common.{rules, arith, ◌≡◌, ap, ◌-◌, ℕ, w64, to_z, of_z, to_z-of_z}
 use borrow.Author.Tests.{not-true, not-false}
 use lib.IntN.{ℤ}
 use Rattle.case.specs.law.Directions.{sets_kept}
@@ -43,17 +43,17 @@ returns : tie.Need-returns-then-not-direction_kept invariant-loop-f decreases-lo
 returns c =
     let b = c.before in
     let h = b.before.before in
-    told h (keep_no h.loop-f.invariant b.loop-f-test.true b.direction_kept.ensures (not-true _ c.if-not-direction_kept.true))
+    told h (keep_no h.loop-f.invariant b.loop-f-test.true b.direction_kept.ensures c.if-not-direction_kept.true)
 
 loop_again : tie.Need-loop-f-preserved invariant-loop-f decreases-loop-f
 loop_again c =
     let b = c.before in
-    keep_on b.loop-f.invariant b.loop-f-test.true b.direction_kept.ensures (not-false _ c.if-not-direction_kept.false)
+    keep_on b.loop-f.invariant b.loop-f-test.true b.direction_kept.ensures c.if-not-direction_kept.false
 
 returns_2 : tie.Need-returns invariant-loop-f decreases-loop-f
 returns_2 c = told c.before (keep_end c.loop-f.invariant c.loop-f-test.false)
 
 pub directions_kept_spec : {M : Type 1} → statement M
 directions_kept_spec = tie.close (tie.spec
-    invariant-loop-f decreases-loop-f (λ c κs. search needs) loop_holds direction_kept_requires returns (λ c. omega arith)
+    invariant-loop-f decreases-loop-f (λ c κs. search rules) loop_holds direction_kept_requires returns (λ c. omega arith)
     (λ c. omega arith) loop_again returns_2)

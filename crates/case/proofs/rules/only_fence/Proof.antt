@@ -1,6 +1,6 @@
 -- Being within both sets is holding only nodes that are in both (`only_both`); the first test decides where it fails.
 use mathlib.Core.Bool.{◌&&◌}
-use Rattle.case.proofs.Common.{needs, ◌∙◌, ◌≡◌, sym, to_z-of_z}
+use Rattle.case.proofs.Common.{rules, ◌∙◌, ◌≡◌, sym, to_z-of_z}
 use Rattle.numbers.specs.law.Sets.{subset_of}
 use Rattle.case.specs.inside.SetLaws.{only_both}
 use Rattle.case.specs.law.Directions.{only_fence}
@@ -26,4 +26,4 @@ returns_2 : tie.Need-returns-else-subset
 returns_2 c = let o = c.before in rw (← both o.before, sym (inside o) ∙ c.if-subset.false)
 
 pub only_fence_spec : {M : Type 1} → statement M
-only_fence_spec = tie.close (tie.spec (λ c κs. search needs) (λ c κs. search needs) returns returns_2)
+only_fence_spec = tie.close (tie.spec (λ c κs. search rules) (λ c κs. search rules) returns returns_2)

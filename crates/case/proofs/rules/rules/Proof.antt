@@ -1,5 +1,5 @@
 -- The answers of 13 to 16 are put together; 17 is asked where none of them is a no, so that each station has at most 30 arcs.
-use Rattle.case.proofs.Common.{needs, ◌∙◌, ◌≡◌, sym, first_no, first_no_append}
+use Rattle.case.proofs.Common.{rules, ◌∙◌, ◌≡◌, sym, first_no, first_no_append}
 use Rattle.case.specs.law.Judged.{early_rules, rule_questions}
 use Rattle.case.specs.inside.CountsInRange.{rules_sized}
 use Rattle.case.specs.law.States.{all_state_sets}
@@ -32,5 +32,5 @@ returns_2 c = stopped (early_rules _) (all_state_sets _) (early c.before) c.in-N
 
 pub rules_spec : {M : Type 1} → statement M
 rules_spec = tie.close (tie.spec
-    (λ c κs. search needs) (λ c κs. search needs) (λ c κs. search needs) (λ c κs. search needs) (λ c κs. search needs)
-    (λ c κs. search needs) (λ c κs. search needs) (λ c. search needs) state_sets_requires (λ c. search needs) returns returns_2)
+    (λ c κs. search rules) (λ c κs. search rules) (λ c κs. search rules) (λ c κs. search rules) (λ c κs. search rules)
+    (λ c κs. search rules) (λ c κs. search rules) (λ c. search rules) state_sets_requires (λ c. search rules) returns returns_2)

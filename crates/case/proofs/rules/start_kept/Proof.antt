@@ -1,5 +1,5 @@
 -- The tests are made in the law's order, on the sets of the state at step 0; they are read back as they are.
-use Rattle.case.proofs.Common.{needs, ◌∙◌, ◌≡◌, ap, sym, kept_is, w64, to_z, of_z, to_z-of_z}
+use Rattle.case.proofs.Common.{rules, ◌∙◌, ◌≡◌, ap, sym, kept_is, w64, to_z, of_z, to_z-of_z}
 use Rattle.numbers.specs.law.Sets.{subset_of}
 use Rattle.case.specs.law.Records.{state_row, station_row}
 use Rattle.case.specs.law.States.{start_kept}
@@ -38,4 +38,4 @@ returns_2 c = rw (sym (on_active c.before) ∙ c.if-subset.false)
 
 pub start_kept_spec : {M : Type 1} → statement M
 start_kept_spec = tie.close (tie.spec
-    (λ c κs. search needs) (λ c κs. search needs) (λ c κs. search needs) (λ c κs. search needs) returns returns_2)
+    (λ c κs. search rules) (λ c κs. search rules) (λ c κs. search rules) (λ c κs. search rules) returns returns_2)

@@ -1,5 +1,5 @@
 -- The three tests are made in the law's order, on the two sets that were read; they are read back as they are.
-use Rattle.case.proofs.Common.{needs, ◌∙◌, ◌≡◌, ap, sym, kept_is, w64, to_z, of_z, to_z-of_z}
+use Rattle.case.proofs.Common.{rules, ◌∙◌, ◌≡◌, ap, sym, kept_is, w64, to_z, of_z, to_z-of_z}
 use Rattle.numbers.specs.law.Sets.{disjoint_of, subset_of}
 use Rattle.case.specs.law.Records.{state_row}
 use Rattle.case.specs.law.States.{state_kept}
@@ -22,8 +22,8 @@ sets_are c =
 apart : (c : tie.After-disjoint) → let d = c.before.before.before in c.disjoint.result ≡ disjoint_of (row_of d).on (row_of d).off
 apart c = let n = sets_are c.before.before in simp (n.0, n.1) at c.disjoint.ensures
 
-on_own : (c : tie.After-subset) → let d = c.before.before.before.before.before in c.subset.result ≡ subset_of (row_of d).on d.args.own_val
-on_own c = let t = c.before.before.before.before in simp ((sets_are t).0, to_z-of_z t.ranges.own_val) at c.subset.ensures
+on_own : (c : tie.After-subset) → let d = c.before.before.before.before.before in c.subset.result ≡ subset_of (row_of d).on d.args.own
+on_own c = let t = c.before.before.before.before in simp ((sets_are t).0, to_z-of_z t.ranges.own) at c.subset.ensures
 
 returns : tie.Need-returns-then-subset
 unfolding state_kept
@@ -32,7 +32,7 @@ returns c =
     let d = o.before.before in
     let t = d.before.before in
     rw (sym (apart d) ∙ o.if-disjoint.true, sym (on_own o) ∙ c.if-subset.true)
-    (simp ((sets_are t).1, to_z-of_z t.ranges.own_val) at c.subset-then-subset.ensures)
+    (simp ((sets_are t).1, to_z-of_z t.ranges.own) at c.subset-then-subset.ensures)
 
 returns_2 : tie.Need-returns-else-subset
 unfolding state_kept
@@ -44,5 +44,5 @@ returns_3 c = rw (sym (apart c.before) ∙ c.if-disjoint.false)
 
 pub state_kept_spec : {M : Type 1} → statement M
 state_kept_spec = tie.close (tie.spec
-    (λ c κs. search needs) (λ c κs. search needs) (λ c κs. search needs) (λ c κs. search needs) returns returns_2
+    (λ c κs. search rules) (λ c κs. search rules) (λ c κs. search rules) (λ c κs. search rules) returns returns_2
     returns_3)

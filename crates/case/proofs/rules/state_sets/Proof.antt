@@ -34,14 +34,14 @@ returns : tie.Need-returns-then-not-station_kept invariant-loop-s decreases-loop
 returns c =
     let b = c.before in
     let t = b.before.before in
-    let q = states_asked _ t.loop-s.s b.station_kept.ensures (not-true _ c.if-not-station_kept.true) in
+    let q = states_asked _ t.loop-s.s b.station_kept.ensures c.if-not-station_kept.true in
     asking_no t.loop-s.invariant t.loop-s-test.true q refl
 
 loop_again : tie.Need-loop-s-preserved invariant-loop-s decreases-loop-s
 loop_again c =
     let b = c.before in
     let t = b.before.before in
-    let q = states_asked _ t.loop-s.s b.station_kept.ensures (not-false _ c.if-not-station_kept.false) in
+    let q = states_asked _ t.loop-s.s b.station_kept.ensures c.if-not-station_kept.false in
     asking_on t.loop-s.invariant t.loop-s-test.true q refl
 
 returns_2 : tie.Need-returns invariant-loop-s decreases-loop-s

@@ -1,5 +1,5 @@
 -- The three sets that the tests go by are those of the law; the tests are made in the law's order.
-use Rattle.case.proofs.Common.{needs, arith, ◌∙◌, ◌≡◌, ap, sym, ℕ, kept_is, w64, to_z, of_z, pos}
+use Rattle.case.proofs.Common.{rules, arith, ◌∙◌, ◌≡◌, ap, sym, ℕ, kept_is, w64, to_z, of_z, pos}
 use Rattle.case.specs.law.Layout.{arcs_of, station_at}
 use Rattle.case.specs.law.Records.{station_of, station_row}
 use Rattle.case.specs.law.States.{state_kept, machines_kept, active_at_start, start_set, station_kept}
@@ -75,5 +75,5 @@ returns_3 c = rw (sym (states_found c.before) ∙ c.if-states_kept.false)
 
 pub station_kept_spec : {M : Type 1} → statement M
 station_kept_spec = tie.close (tie.spec
-    (λ c κs. search needs) first_items_requires (λ c κs. search needs) first_items_requires_2 start_set_requires
-    (λ c κs. search needs) (λ c κs. search needs) (λ c κs. search needs) returns returns_2 returns_3)
+    (λ c κs. search rules) first_items_requires (λ c κs. search rules) first_items_requires_2 start_set_requires
+    (λ c κs. search rules) (λ c κs. search rules) (λ c κs. search rules) returns returns_2 returns_3)

@@ -1,5 +1,5 @@
 -- The stations before `s` have at most 30 arcs each (`Asking`); the layout has the count of arcs that the case has.
-use Rattle.case.proofs.Common.{needs, arith, ◌∙◌, ap, refl, ◌-◌, first_no, Asking, asking, asking_on, asking_no, asking_end}
+use Rattle.case.proofs.Common.{rules, arith, ◌∙◌, ap, refl, ◌-◌, first_no, Asking, asking, asking_on, asking_no, asking_end}
 use Rattle.case.specs.law.StationArcs.{arcs_before}
 use Rattle.case.specs.law.StationSize.{station_size, all_station_sizes}
 use Rattle.case.proofs.Ruled.{size_no, size_yes}
@@ -35,4 +35,4 @@ returns_2 c = asking_end c.loop-s.invariant c.loop-s-test.false
 
 pub station_size_spec : {M : Type 1} → statement M
 station_size_spec = tie.close (tie.spec
-    invariant-loop-s decreases-loop-s loop_holds (λ c κs. search needs) returns (λ c. omega arith) (λ c. omega arith) loop_again returns_2)
+    invariant-loop-s decreases-loop-s loop_holds (λ c κs. search rules) returns (λ c. omega arith) (λ c. omega arith) loop_again returns_2)

@@ -1,5 +1,5 @@
 -- The rows of the directions before `f` have no "no" (`Asking`), and `at` is where the row of `f` begins; a row has two sets and a weight.
-use Rattle.case.proofs.Common.{needs, arith, ◌≡◌, refl, ◌+◌, ◌-◌, ◌≤◌, first_no, first_no_append, Asking, asking, asking_on, asking_no, asking_end}
+use Rattle.case.proofs.Common.{rules, arith, ◌≡◌, refl, ◌+◌, ◌-◌, ◌≤◌, first_no, first_no_append, Asking, asking, asking_on, asking_no, asking_end}
 use Prim.Native.Nat.{◌*◌}
 use Rattle.numbers.specs.law.Items.{over}
 use Rattle.case.specs.law.Extents.{direction_extent, station_extent, case_extent}
@@ -60,7 +60,7 @@ returns_2 c = asking_end c.loop-f.invariant.2 c.loop-f-test.false
 
 pub direction_rows_spec : {M : Type 1} → statement M
 direction_rows_spec = tie.close (tie.spec
-    invariant-loop-f decreases-loop-f (λ c κs. search needs) (λ c. omega arith) loop_holds (λ c κs. omega (arith, early c)) (λ c. omega (arith, early c.before))
-    (λ c κs. search needs) (λ c κs. search needs) (λ c. search needs) (λ c. search needs) returns
+    invariant-loop-f decreases-loop-f (λ c κs. search rules) (λ c. omega arith) loop_holds (λ c κs. omega (arith, early c)) (λ c. omega (arith, early c.before))
+    (λ c κs. search rules) (λ c κs. search rules) (λ c. search rules) (λ c. search rules) returns
     (λ c. let t = c.before.before.before.before in omega (arith, early t, narrow t.before.before))
     (λ c. omega arith) (λ c. omega arith) loop_again returns_2)

@@ -1,6 +1,6 @@
 -- The rows of the machines before `m` have no "no" (`Asking`), and `at` is where the row of `m` begins; a row has a flow and a ratio,
 -- and is narrow once they have passed.
-use Rattle.case.proofs.Common.{needs, arith, ◌∙◌, ◌≡◌, ap, sym, refl, ◌+◌, ◌-◌, ◌≤◌, first_no, first_no_append}
+use Rattle.case.proofs.Common.{rules, arith, ◌∙◌, ◌≡◌, ap, sym, refl, ◌+◌, ◌-◌, ◌≤◌, first_no, first_no_append}
 use Rattle.case.proofs.Common.{Asking, asking, asking_on, asking_no, asking_end}
 use Prim.Native.Nat.{◌*◌}
 use Rattle.numbers.specs.law.Items.{over}
@@ -73,6 +73,6 @@ returns_2 c = asking_end c.loop-m.invariant.2 c.loop-m-test.false
 
 pub machine_rows_spec : {M : Type 1} → statement M
 machine_rows_spec = tie.close (tie.spec
-    invariant-loop-m decreases-loop-m loop_holds (λ c κs. search needs) (λ c. omega (arith, early c.before)) (λ c κs. search needs)
-    (λ c κs. search needs) (λ c. search needs) (λ c. search needs) returns (λ c κs. search needs) add_at
+    invariant-loop-m decreases-loop-m loop_holds (λ c κs. search rules) (λ c. omega (arith, early c.before)) (λ c κs. search rules)
+    (λ c κs. search rules) (λ c. search rules) (λ c. search rules) returns (λ c κs. search rules) add_at
     (λ c. omega arith) (λ c. omega arith) loop_again returns_2)

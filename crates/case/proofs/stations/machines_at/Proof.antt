@@ -1,5 +1,5 @@
 -- The machines' rows follow those of the states, of which there are few, so that the sum fits.
-use Rattle.case.proofs.Common.{needs, arith}
+use Rattle.case.proofs.Common.{rules, arith}
 use Rattle.case.specs.law.Layout.{state_at, machine_at}
 use Rattle.case.specs.inside.Places.{state_early}
 use Rattle.case.proofs.stations.machines_at.Statement.{statement}
@@ -17,4 +17,4 @@ returns c = omega (arith, c.count.ensures.value, c.states_at.ensures)
 
 pub machines_at_spec : {M : Type 1} → statement M
 machines_at_spec = tie.close (tie.spec
-    (λ c κs. search needs) (λ c κs. search needs) (λ c. omega (arith, c.count.ensures.value, c.requires.1.states)) add_result returns)
+    (λ c κs. search rules) (λ c κs. search rules) (λ c. omega (arith, c.count.ensures.value, c.requires.1.states)) add_result returns)

@@ -1,5 +1,5 @@
 -- The counts that were read are the station's and in range (`StationRead`); the answers of the three groups are put together.
-use Rattle.case.proofs.Common.{needs, arith, first_no_append}
+use Rattle.case.proofs.Common.{rules, arith, first_no_append}
 use Rattle.case.specs.inside.Places.{state_early, machines_begin}
 use Rattle.case.specs.law.StationFields.{part_fields}
 use Rattle.case.proofs.Asked.{chain}
@@ -44,6 +44,6 @@ returns c =
 
 pub part_rows_spec : {M : Type 1} → statement M
 part_rows_spec = tie.close (tie.spec
-    (λ c κs. search needs) (λ c κs. search needs) (λ c κs. search needs) direction_rows_requires (λ c κs. search needs) state_rows_requires
-    (λ c κs. search needs) machine_rows_requires
-    (λ c κs. search needs) (λ c κs. search needs) returns)
+    (λ c κs. search rules) (λ c κs. search rules) (λ c κs. search rules) direction_rows_requires (λ c κs. search rules) state_rows_requires
+    (λ c κs. search rules) machine_rows_requires
+    (λ c κs. search rules) (λ c κs. search rules) returns)

@@ -1,5 +1,5 @@
 -- The set of directions that was handed in is read back as it is; the answers of the three groups are put together.
-use Rattle.case.proofs.Common.{needs, first_no_append, to_z-of_z}
+use Rattle.case.proofs.Common.{rules, first_no_append, to_z-of_z}
 use Rattle.case.specs.law.StationFields.{state_row_fields}
 use Rattle.case.proofs.Asked.{chain}
 use Rattle.case.proofs.stations.state_fields.Statement.{statement}
@@ -16,5 +16,5 @@ returns c =
 
 pub state_fields_spec : {M : Type 1} → statement M
 state_fields_spec = tie.close (tie.spec
-    (λ c κs. search needs) (λ c. search needs) (λ c κs. search needs) (λ c. search needs) (λ c κs. search needs)
-    (λ c κs. search needs) (λ c κs. search needs) returns)
+    (λ c κs. search rules) (λ c. search rules) (λ c κs. search rules) (λ c. search rules) (λ c κs. search rules)
+    (λ c κs. search rules) (λ c κs. search rules) returns)

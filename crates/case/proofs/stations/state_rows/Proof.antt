@@ -1,5 +1,5 @@
 -- The rows of the states before `z` have no "no" (`Asking`); which directions a state may name goes by their count.
-use Rattle.case.proofs.Common.{needs, arith, ◌∙◌, ◌≡◌, ap, refl, ◌-◌, first_no, kept_is, Asking, asking, asking_on, asking_no, asking_end}
+use Rattle.case.proofs.Common.{rules, arith, ◌∙◌, ◌≡◌, ap, refl, ◌-◌, first_no, kept_is, Asking, asking, asking_on, asking_no, asking_end}
 use Rattle.numbers.specs.law.Items.{over}
 use Rattle.case.specs.law.StationFields.{state_fields, first_items}
 use Rattle.case.proofs.Rows.{state_row_lem}
@@ -41,5 +41,5 @@ returns_2 c = asking_end c.loop-z.invariant c.loop-z-test.false
 pub state_rows_spec : {M : Type 1} → statement M
 state_rows_spec = tie.close (tie.spec
     invariant-loop-z decreases-loop-z (λ c κs. omega arith) loop_holds
-    (λ c. omega arith) (λ c. omega arith) (λ c κs. omega arith) (λ c. search needs) (λ c. search needs) returns (λ c. omega arith)
+    (λ c. omega arith) (λ c. omega arith) (λ c κs. omega arith) (λ c. search rules) (λ c. search rules) returns (λ c. omega arith)
     (λ c. omega arith) loop_again returns_2)

@@ -1,5 +1,5 @@
 -- The states' rows follow those of the directions, of which there are few, so that the sum fits.
-use Rattle.case.proofs.Common.{needs, arith, ◌≡◌, ◌≤◌}
+use Rattle.case.proofs.Common.{rules, arith, ◌≡◌, ◌≤◌}
 use Prim.Native.Nat.{◌*◌}
 use native.Mathlib.Nat.{mul-le-mul}
 use Rattle.case.specs.law.Layout.{direction_count, direction_at, state_at}
@@ -24,4 +24,4 @@ returns c = rw (directions_are c, c.direction_width.ensures) (omega arith)
 
 pub states_at_spec : {M : Type 1} → statement M
 states_at_spec = tie.close (tie.spec
-    (λ c. omega arith) (λ c κs. search needs) (λ c κs. search needs) (λ c. omega (arith, narrow c)) (λ c. omega (arith, narrow c)) returns)
+    (λ c. omega arith) (λ c κs. search rules) (λ c κs. search rules) (λ c. omega (arith, narrow c)) (λ c. omega (arith, narrow c)) returns)

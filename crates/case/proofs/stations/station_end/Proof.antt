@@ -1,5 +1,5 @@
 -- `end` is where the row of machine `m` begins, each where the one before it ends; a station has few machines, whose rows are narrow, so the sum fits.
-use Rattle.case.proofs.Common.{needs, arith, ◌∙◌, ◌≡◌, ap, ◌-◌, ◌<◌, ◌≤◌}
+use Rattle.case.proofs.Common.{rules, arith, ◌∙◌, ◌≡◌, ap, ◌-◌, ◌<◌, ◌≤◌}
 use Rattle.case.specs.law.Layout.{machine_count, machine_at, machine_width}
 use Rattle.case.specs.inside.Places.{machine_next, machine_early}
 use Rattle.case.proofs.stations.station_end.Statement.{statement}
@@ -46,5 +46,5 @@ returns c =
 
 pub station_end_spec : {M : Type 1} → statement M
 station_end_spec = tie.close (tie.spec
-    invariant-loop-m decreases-loop-m (λ c κs. search needs) (λ c κs. search needs) loop_holds (λ c κs. search needs) add_end (λ c. omega arith) (λ c. omega arith)
+    invariant-loop-m decreases-loop-m (λ c κs. search rules) (λ c κs. search rules) loop_holds (λ c κs. search rules) add_end (λ c. omega arith) (λ c. omega arith)
     loop_again returns)

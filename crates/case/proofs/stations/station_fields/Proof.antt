@@ -1,5 +1,5 @@
 -- The parts are read where no field of the station's first row is refused, so that its counts are in range.
-use Rattle.case.proofs.Common.{needs, ◌∙◌, sym}
+use Rattle.case.proofs.Common.{rules, ◌∙◌, sym}
 use Rattle.case.specs.inside.CountsInRange.{station_counted}
 use Rattle.case.specs.law.StationFields.{station_head, part_fields, row_fields}
 use Rattle.case.proofs.Asked.{stopped, went_on}
@@ -23,4 +23,4 @@ returns_2 c =
 
 pub station_fields_spec : {M : Type 1} → statement M
 station_fields_spec = tie.close (tie.spec
-    (λ c κs. search needs) (λ c. search needs) part_rows_requires (λ c. search needs) returns returns_2)
+    (λ c κs. search rules) (λ c. search rules) part_rows_requires (λ c. search rules) returns returns_2)

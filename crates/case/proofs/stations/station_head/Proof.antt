@@ -1,5 +1,5 @@
 -- The last direction and the last state go by the counts that were read; the answers of the five fields are put together.
-use Rattle.case.proofs.Common.{needs, ◌∙◌, ap, first_no_append, kept_is}
+use Rattle.case.proofs.Common.{rules, ◌∙◌, ap, first_no_append, kept_is}
 use Rattle.case.specs.law.Field.{last_of}
 use Rattle.case.specs.law.StationFields.{station_head}
 use Rattle.case.proofs.Asked.{chain}
@@ -27,7 +27,7 @@ returns c =
 
 pub station_head_spec : {M : Type 1} → statement M
 station_head_spec = tie.close (tie.spec
-    (λ c κs. search needs) (λ c κs. c.count.ensures.small) (λ c κs. search needs) (λ c κs. c.count-2.ensures.small)
-    (λ c κs. search needs) (λ c. search needs) (λ c κs. search needs) (λ c. search needs) (λ c κs. search needs)
-    (λ c. search needs) (λ c κs. search needs) (λ c. search needs) (λ c κs. search needs) (λ c κs. search needs)
-    (λ c κs. search needs) (λ c κs. search needs) (λ c κs. search needs) returns)
+    (λ c κs. search rules) (λ c κs. c.count.ensures.small) (λ c κs. search rules) (λ c κs. c.count-2.ensures.small)
+    (λ c κs. search rules) (λ c. search rules) (λ c κs. search rules) (λ c. search rules) (λ c κs. search rules)
+    (λ c. search rules) (λ c κs. search rules) (λ c. search rules) (λ c κs. search rules) (λ c κs. search rules)
+    (λ c κs. search rules) (λ c κs. search rules) (λ c κs. search rules) returns)

@@ -1,5 +1,5 @@
 -- The rows of the stations before `s` have no "no" (`Asking`), so a station begins where the one before it ends.
-use Rattle.case.proofs.Common.{needs, arith, ◌∙◌, ◌≡◌, ap, sym, refl, first_no, Asking, asking, asking_on, asking_no, asking_end}
+use Rattle.case.proofs.Common.{rules, arith, ◌∙◌, ◌≡◌, ap, sym, refl, first_no, Asking, asking, asking_on, asking_no, asking_end}
 use Prim.Native.Nat.{ℕ, ◌≤◌, ◌-◌, ◌+◌, ◌*◌}
 use Rattle.numbers.specs.inside.QuestionLaws.{or_else_yes}
 use Rattle.case.specs.law.Extents.{station_extent, stations_extent}
@@ -71,5 +71,5 @@ returns_2 c =
 
 pub station_rows_spec : {M : Type 1} → statement M
 station_rows_spec = tie.close (tie.spec
-    invariant-loop-s decreases-loop-s loop_holds (λ c κs. omega arith) (λ c. search needs) (λ c. search needs) returns station_end_requires
-    (λ c. omega arith) (λ c. omega arith) loop_again (λ c κs. search needs) returns_2)
+    invariant-loop-s decreases-loop-s loop_holds (λ c κs. omega arith) (λ c. search rules) (λ c. search rules) returns station_end_requires
+    (λ c. omega arith) (λ c. omega arith) loop_again (λ c κs. search rules) returns_2)

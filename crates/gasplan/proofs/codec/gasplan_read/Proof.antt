@@ -1,5 +1,5 @@
 -- What was read is told by its case: the count, or the refusal, whose numbers are small; an `out` that is too short stays as it is.
-use Rattle.gasplan.proofs.Common.{refl, sym, ap, ◌∙◌, ◌<◌, ◌^◌, arith, needs, le-leb, lt-leb, length, to_z_pos, w64}
+use Rattle.gasplan.proofs.Common.{refl, sym, ap, ◌∙◌, ◌<◌, ◌^◌, arith, rules, le-leb, lt-leb, length, to_z_pos, w64}
 use Rattle.numbers.specs.law.CodecTold.{reading_told}
 use Rattle.numbers.specs.inside.ReadingBounds.{count_within, refusal_within}
 use Rattle.gasplan.proofs.Coded.{coded}
@@ -47,5 +47,5 @@ returns_3 c =
 
 pub gasplan_read_spec : {M : Type 1} → statement M
 gasplan_read_spec = tie.close (tie.spec
-    returns (λ c κs. search needs) (λ c. search needs) (λ c. record { sfits = fits c.before.before }) (λ c κs. search needs)
-    (λ c. search needs) refusal_requires (λ c. search needs) (λ c. search needs) returns_2 (λ c. search needs) (λ c. search needs) returns_3)
+    returns (λ c κs. search rules) (λ c. search rules) (λ c. record { sfits = fits c.before.before }) (λ c κs. search rules)
+    (λ c. search rules) refusal_requires (λ c. search rules) (λ c. search rules) returns_2 (λ c. search rules) (λ c. search rules) returns_3)

@@ -4,7 +4,7 @@ use Rattle.numbers.specs.inside.SmallRefusals.{Small}
 use Rattle.case.specs.inside.SmallRefusals.{limit, case_small}
 use Rattle.plan.specs.inside.VerdictLaws.{case_answer}
 use Rattle.gasplan.proofs.Coded.{coded}
-use Rattle.gasplan.proofs.Common.{refl, sym, ap, subst, ◌∙◌, arith, needs, le-leb, lt-leb}
+use Rattle.gasplan.proofs.Common.{refl, sym, ap, subst, ◌∙◌, arith, rules, le-leb, lt-leb}
 use Rattle.gasplan.proofs.judge.gasplan_case.Statement.{statement}
 use Rattle.gasplan.proofs.judge.gasplan_case.Tie as tie
 
@@ -36,5 +36,5 @@ returns_3 c =
 
 pub gasplan_case_spec : {M : Type 1} → statement M
 gasplan_case_spec = tie.close (tie.spec
-    returns (λ c κs. search needs) (λ c. search needs) (λ c. search needs) refusal_requires returns_2 (λ c. search needs)
+    returns (λ c κs. search rules) (λ c. search rules) (λ c. search rules) refusal_requires returns_2 (λ c. search rules)
     returns_3)

@@ -1,5 +1,5 @@
 -- Every verdict fits what it is told by (`judge_fits`), so the answer is the verdict's own code and values.
-use Rattle.gasplan.proofs.Common.{refl, ap, ◌∙◌, needs, lt-leb, kept}
+use Rattle.gasplan.proofs.Common.{refl, ap, ◌∙◌, rules, lt-leb, kept}
 use Rattle.plan.specs.inside.VerdictSizes.{judge_fits}
 use Rattle.gasplan.specs.law.Out.{code_of, out_of}
 use Rattle.gasplan.proofs.judge.gasplan_judge.Statement.{statement}
@@ -22,4 +22,4 @@ returns_2 c =
 
 pub gasplan_judge_spec : {M : Type 1} → statement M
 gasplan_judge_spec = tie.close (tie.spec
-    returns (λ c κs. search needs) tell_verdict_requires (λ c. search needs) returns_2)
+    returns (λ c κs. search rules) tell_verdict_requires (λ c. search rules) returns_2)

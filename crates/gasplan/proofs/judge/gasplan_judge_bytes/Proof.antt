@@ -1,5 +1,5 @@
 -- Every verdict on bytes fits what it is told by (`bytes_fit`); the two lists hold what was read, whatever is told.
-use Rattle.gasplan.proofs.Common.{refl, ap, ◌∙◌, arith, needs, le-leb, lt-leb, kept}
+use Rattle.gasplan.proofs.Common.{refl, ap, ◌∙◌, arith, rules, le-leb, lt-leb, kept}
 use Rattle.plan.specs.inside.VerdictSizes.{bytes_fit}
 use Rattle.gasplan.specs.law.Out.{code_of, out_of}
 use Rattle.gasplan.proofs.judge.gasplan_judge_bytes.Statement.{statement}
@@ -30,5 +30,5 @@ returns_2 c =
 
 pub gasplan_judge_bytes_spec : {M : Type 1} → statement M
 gasplan_judge_bytes_spec = tie.close (tie.spec
-    returns (λ c κs. search needs) tell_verdict_requires (λ c. search needs) (λ c. search needs) (λ c. search needs)
+    returns (λ c κs. search rules) tell_verdict_requires (λ c. search rules) (λ c. search rules) (λ c. search rules)
     returns_2)

@@ -1,5 +1,5 @@
 -- A verdict that fits is told as it is: six totals if accepted, else the refusal's three numbers.
-use Rattle.gasplan.proofs.Common.{sym, ap, subst, ◌^◌, arith, needs, to_z_pos, w64, kept}
+use Rattle.gasplan.proofs.Common.{sym, ap, subst, ◌^◌, arith, rules, to_z_pos, w64, kept}
 use Rattle.plan.specs.declared.verdict.Verdict.TheVariants.{Accepted, Refused}
 use Rattle.plan.specs.law.Judged.{verdict_told}
 use Rattle.plan.specs.inside.VerdictSizes.{Fit}
@@ -39,7 +39,7 @@ returns_2 c =
 
 pub tell_verdict_spec : {M : Type 1} → statement M
 tell_verdict_spec = tie.close (tie.spec
-    (λ c. search needs) (λ c. record { sfits = (totals_fit c.before.before).0 }) (λ c. record { sfits = (totals_fit c.before.before.before).1 })
-    (λ c κs. search needs) (λ c. search needs)
+    (λ c. search rules) (λ c. record { sfits = (totals_fit c.before.before).0 }) (λ c. record { sfits = (totals_fit c.before.before.before).1 })
+    (λ c κs. search rules) (λ c. search rules)
     (λ c κs. let v = c.before.before in let w = refusal_fits v in (v.before.before.requires.0, w.0, w.1, w.2))
-    (λ c. search needs) returns (λ c. search needs) returns_2)
+    (λ c. search rules) returns (λ c. search rules) returns_2)

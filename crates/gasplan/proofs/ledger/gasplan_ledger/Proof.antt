@@ -1,5 +1,5 @@
 -- Every ledger fits what it is told by (`ledger_fits`), and the three signed parameters are read as they are.
-use Rattle.gasplan.proofs.Common.{refl, ap, ◌∙◌, needs, lt-leb, to_z-of_z, kept}
+use Rattle.gasplan.proofs.Common.{refl, ap, ◌∙◌, rules, lt-leb, to_z-of_z, kept}
 use Rattle.plan.specs.inside.VerdictSizes.{ledger_fits}
 use Rattle.gasplan.specs.law.Out.{code_of, out_of}
 use Rattle.gasplan.proofs.ledger.gasplan_ledger.Statement.{statement}
@@ -25,4 +25,4 @@ returns_2 c =
 
 pub gasplan_ledger_spec : {M : Type 1} → statement M
 gasplan_ledger_spec = tie.close (tie.spec
-    returns (λ c κs. search needs) tell_ledger_requires (λ c. search needs) returns_2)
+    returns (λ c κs. search rules) tell_ledger_requires (λ c. search rules) returns_2)

@@ -1,5 +1,5 @@
 -- Every settlement fits what it is told by (`settle_fits`), and the agreed figure is read as it is.
-use Rattle.gasplan.proofs.Common.{refl, ap, ◌∙◌, needs, lt-leb, to_z-of_z, kept}
+use Rattle.gasplan.proofs.Common.{refl, ap, ◌∙◌, rules, lt-leb, to_z-of_z, kept}
 use Rattle.settlement.specs.inside.SettlementSizes.{settle_fits}
 use Rattle.gasplan.specs.law.Out.{code_of, out_of}
 use Rattle.gasplan.proofs.meters.gasplan_settle.Statement.{statement}
@@ -26,4 +26,4 @@ returns_2 c =
 
 pub gasplan_settle_spec : {M : Type 1} → statement M
 gasplan_settle_spec = tie.close (tie.spec
-    returns (λ c κs. search needs) tell_settlement_requires (λ c. search needs) returns_2)
+    returns (λ c κs. search rules) tell_settlement_requires (λ c. search rules) returns_2)

@@ -1,5 +1,5 @@
 -- A settlement that fits is told as it is: five figures if settled, else the refusal's three numbers.
-use Rattle.gasplan.proofs.Common.{sym, ap, subst, ◌^◌, arith, needs, to_z_pos, w64, kept}
+use Rattle.gasplan.proofs.Common.{sym, ap, subst, ◌^◌, arith, rules, to_z_pos, w64, kept}
 use Rattle.settlement.specs.declared.figures.Settlement.TheVariants.{Settled, Refused}
 use Rattle.settlement.specs.law.Settling.{settlement_told}
 use Rattle.settlement.specs.inside.SettlementSizes.{Fit}
@@ -34,9 +34,9 @@ returns_2 c =
 
 pub tell_settlement_spec : {M : Type 1} → statement M
 tell_settlement_spec = tie.close (tie.spec
-    (λ c. search needs) (λ c. record { sfits = (figures_fit c.before.before).0 }) (λ c. record { sfits = (figures_fit c.before.before.before).1 })
+    (λ c. search rules) (λ c. record { sfits = (figures_fit c.before.before).0 }) (λ c. record { sfits = (figures_fit c.before.before.before).1 })
     (λ c. record { sfits = (figures_fit c.before.before.before.before).2 })
     (λ c. record { sfits = (figures_fit c.before.before.before.before.before).3 })
-    (λ c κs. search needs) (λ c. search needs)
+    (λ c κs. search rules) (λ c. search rules)
     (λ c κs. let v = c.before.before in let w = refusal_fits v in (v.before.before.requires.0, w.0, w.1, w.2))
-    (λ c. search needs) returns (λ c. search needs) returns_2)
+    (λ c. search rules) returns (λ c. search rules) returns_2)

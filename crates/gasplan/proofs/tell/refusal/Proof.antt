@@ -1,5 +1,5 @@
 -- Two stores at the front are the overlay of two values; all three numbers fit.
-use Rattle.gasplan.proofs.Common.{[], ◌∷◌, arith, needs, pos, length-set, to_z_pos, w64}
+use Rattle.gasplan.proofs.Common.{[], ◌∷◌, arith, rules, pos, length-set, to_z_pos, w64}
 use Rattle.numbers.specs.inside.OverlayLaws.{overlay_sets}
 use Rattle.gasplan.proofs.tell.refusal.Statement.{statement}
 use Rattle.gasplan.proofs.tell.refusal.Tie as tie
@@ -12,5 +12,5 @@ returns c =
 
 pub refusal_spec : {M : Type 1} → statement M
 refusal_spec = tie.close (tie.spec
-    (λ c. search needs) (λ c. search needs) (λ c. search needs) (λ c. simp length-set (omega (arith, c.requires.0)))
-    (λ c. search needs) (λ c. search needs) returns)
+    (λ c. search rules) (λ c. search rules) (λ c. search rules) (λ c. simp length-set (omega (arith, c.requires.0)))
+    (λ c. search rules) (λ c. search rules) returns)

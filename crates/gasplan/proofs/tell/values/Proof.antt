@@ -1,5 +1,5 @@
 -- What is copied to the front is the overlay of the first n values.
-use Rattle.gasplan.proofs.Common.{◌≡◌, refl, sym, ◌∙◌, arith, needs, length}
+use Rattle.gasplan.proofs.Common.{◌≡◌, refl, sym, ◌∙◌, arith, rules, length}
 use lib.ListN.{take, length-take}
 use lib.Seq.{length-take-le}
 use Rattle.numbers.specs.inside.OverlayLaws.{overlay_sets}
@@ -7,7 +7,7 @@ use Rattle.gasplan.proofs.tell.values.Statement.{statement}
 use Rattle.gasplan.proofs.tell.values.Tie as tie
 
 long : (c : tie.Start) → length c.args.t2 ≡ 6
-long c = search needs
+long c = search rules
 
 returns : tie.Need-returns
 returns c =
@@ -17,5 +17,5 @@ returns c =
 
 pub values_spec : {M : Type 1} → statement M
 values_spec = tie.close (tie.spec
-    (λ c. search needs) (λ c. let s = c.before in sym (length-take-le s.args.n s.args.t2 (omega (arith, long s, s.requires))))
-    (λ c κs. search needs) (λ c. search needs) returns)
+    (λ c. search rules) (λ c. let s = c.before in sym (length-take-le s.args.n s.args.t2 (omega (arith, long s, s.requires))))
+    (λ c κs. search rules) (λ c. search rules) returns)

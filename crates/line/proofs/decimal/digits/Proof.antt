@@ -1,5 +1,5 @@
 -- What the line holds at the end stays the same: the digits of `rest` are still to be written, the last of them at `i`.
-use Rattle.line.proofs.Common.{ap, ◌∙◌, ℕ, ◌+◌, ◌/◌, arith, needs, length-set}
+use Rattle.line.proofs.Common.{ap, ◌∙◌, ℕ, ◌+◌, ◌/◌, arith, rules, length-set}
 use Rattle.line.specs.inside.DigitLaws.{some_digit}
 use Rattle.line.proofs.Written.{Writing, writing, longer, write_turn, write_last}
 use Rattle.line.proofs.decimal.digits.Statement.{statement}
@@ -40,7 +40,7 @@ returns c =
 
 pub digits_spec : {M : Type 1} → statement M
 digits_spec = tie.close (tie.spec
-    invariant-loop decreases-loop (λ c κs. search needs) (λ c. omega (arith, c.width.ensures, c.before.before.requires))
-    (λ c. omega (arith, c.width.ensures, some_digit c.before.before.args.n)) loop_holds (λ c κs. search needs)
-    (λ c. c.before.before.loop.invariant.room) sub_i_2 (λ c. omega arith) loop_again (λ c κs. search needs)
+    invariant-loop decreases-loop (λ c κs. search rules) (λ c. omega (arith, c.width.ensures, c.before.before.requires))
+    (λ c. omega (arith, c.width.ensures, some_digit c.before.before.args.n)) loop_holds (λ c κs. search rules)
+    (λ c. c.before.before.loop.invariant.room) sub_i_2 (λ c. omega arith) loop_again (λ c κs. search rules)
     (λ c. c.before.before.loop.invariant.room) same_length returns)

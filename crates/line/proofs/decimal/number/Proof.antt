@@ -1,5 +1,5 @@
 -- Half of the unsigned number is the size of one from 0 on, and one less than the size of one below.
-use Rattle.line.proofs.Common.{ap, ◌∙◌, ◌∷◌, ℕ, ◌+◌, ◌/◌, ◌^◌, ◌<◌, ◌≤◌, arith, needs, pos, length, length-set, to_z-of_z}
+use Rattle.line.proofs.Common.{ap, ◌∙◌, ◌∷◌, ℕ, ◌+◌, ◌/◌, ◌^◌, ◌<◌, ◌≤◌, arith, rules, pos, length, length-set, to_z-of_z}
 use mir.Facts.{sfits_lit}
 use Rattle.numbers.specs.inside.SignedLocals.{lt←}
 use Rattle.line.specs.law.Decimal.{decimal}
@@ -54,5 +54,5 @@ returns_2 c =
 
 pub number_spec : {M : Type 1} → statement M
 number_spec = tie.close (tie.spec
-    (λ c κs. search needs) (λ c. search needs) (λ c. search needs) (λ c. search needs) digits_requires digits_requires_2
-    same_length returns (λ c. search needs) returns_2)
+    (λ c κs. search rules) (λ c. search rules) (λ c. search rules) (λ c. search rules) digits_requires digits_requires_2
+    same_length returns (λ c. search rules) returns_2)

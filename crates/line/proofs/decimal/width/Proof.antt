@@ -1,5 +1,5 @@
 -- The digits that are counted and those of `rest` but the last are those of n.
-use Rattle.line.proofs.Common.{◌≡◌, ap, ◌+◌, ◌^◌, ◌<◌, arith, needs, length}
+use Rattle.line.proofs.Common.{◌≡◌, ap, ◌+◌, ◌^◌, ◌<◌, arith, rules, length}
 use Rattle.line.specs.law.Decimal.{decimal}
 use Rattle.line.specs.inside.DigitLaws.{one_digit}
 use Rattle.line.specs.claims.Decimal.{few_digits}
@@ -19,7 +19,7 @@ loop_holds c = omega arith
 add_count : tie.Need-overflow-add-count invariant-loop decreases-loop
 add_count c =
     let n = c.before.before.args.n in
-    let small : n < 2 ^ 64 = search needs in
+    let small : n < 2 ^ 64 = search rules in
     omega (arith, c.before.loop.invariant, few_digits n 19 (omega arith))
 
 loop_again : tie.Need-loop-preserved invariant-loop decreases-loop

@@ -1,5 +1,5 @@
 -- What is told of the bytes fits, and is told as `bytes_judged` says.
-use Rattle.line.proofs.Common.{arith, needs}
+use Rattle.line.proofs.Common.{arith, rules}
 use Rattle.plan.specs.inside.VerdictSizes.{bytes_fit}
 use Rattle.line.proofs.files.judged.Statement.{statement}
 use Rattle.line.proofs.files.judged.Tie as tie
@@ -20,4 +20,4 @@ returns c =
 
 pub judged_spec : {M : Type 1} → statement M
 judged_spec = tie.close (tie.spec
-    (λ c. search needs) (λ c. search needs) (λ c κs. search needs) tell_requires (λ c. search needs) returns)
+    (λ c. search rules) (λ c. search rules) (λ c κs. search rules) tell_requires (λ c. search rules) returns)

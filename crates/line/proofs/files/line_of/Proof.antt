@@ -1,5 +1,5 @@
 -- The line is long enough and the files are not too long, or not; what is put at the front of the line is its overlay.
-use Rattle.line.proofs.Common.{refl, sym, ◌∙◌, arith, needs, le-leb, lt-leb}
+use Rattle.line.proofs.Common.{refl, sym, ◌∙◌, arith, rules, le-leb, lt-leb}
 use Rattle.line.specs.law.Files.{too_long, files_line}
 use Rattle.line.specs.inside.Put.{put_front, put_overlay, put_counts}
 use Rattle.line.proofs.files.line_of.Statement.{statement}
@@ -31,5 +31,5 @@ returns_3 c =
 
 pub line_of_spec : {M : Type 1} → statement M
 line_of_spec = tie.close (tie.spec
-    returns (λ c κs. search needs) (λ c κs. search needs) (λ c. search needs) (λ c κs. search needs) (λ c. search needs)
-    returns_2 (λ c. search needs) returns_3)
+    returns (λ c κs. search rules) (λ c κs. search rules) (λ c. search rules) (λ c κs. search rules) (λ c. search rules)
+    returns_2 (λ c. search rules) returns_3)

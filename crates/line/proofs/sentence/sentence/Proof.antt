@@ -1,12 +1,12 @@
 -- The word, the numbers and the end of the line, one after the other.
-use Rattle.line.proofs.Common.{◌∙◌, arith, needs, length-set}
+use Rattle.line.proofs.Common.{◌∙◌, arith, rules, length-set}
 use Rattle.line.specs.law.Line.{sentence_of}
 use Rattle.line.specs.inside.Put.{put_front, put_both, put_one}
 use Rattle.line.proofs.sentence.sentence.Statement.{statement}
 use Rattle.line.proofs.sentence.sentence.Tie as tie
 
 slice_write_line : tie.Need-slice-write-line
-slice_write_line c = search needs
+slice_write_line c = search rules
 
 same_length : tie.Need-same-length
 same_length c =
@@ -25,4 +25,4 @@ returns c =
 
 pub sentence_spec : {M : Type 1} → statement M
 sentence_spec = tie.close (tie.spec
-    (λ c κs. search needs) (λ c κs. search needs) slice_write_line (λ c. search needs) same_length returns)
+    (λ c κs. search rules) (λ c κs. search rules) slice_write_line (λ c. search rules) same_length returns)

@@ -1,5 +1,5 @@
 -- The first `i` numbers stand in the line, with a space in front of each.
-use Rattle.line.proofs.Common.{◌+◌, ◌-◌, ◌≤◌, arith, needs, length, length-set, to_z-of_z}
+use Rattle.line.proofs.Common.{◌+◌, ◌-◌, ◌≤◌, arith, rules, length, length-set, to_z-of_z}
 use Rattle.numbers.specs.inside.SignedLocals.{element}
 use Rattle.line.proofs.Spaced.{Spacing, spacing, space_room, space_turn, space_end}
 use Rattle.line.proofs.sentence.values.Statement.{statement}
@@ -32,6 +32,6 @@ returns c =
 
 pub values_spec : {M : Type 1} → statement M
 values_spec = tie.close (tie.spec
-    invariant-loop decreases-loop loop_holds (λ c. omega (arith, room c)) (λ c. search needs) (λ c. search needs) (λ c. omega (arith, room c.before.before))
+    invariant-loop decreases-loop loop_holds (λ c. omega (arith, room c)) (λ c. search rules) (λ c. search rules) (λ c. omega (arith, room c.before.before))
     (λ c κs. simp length-set (omega (arith, room c.before.before))) (λ c. omega arith) (λ c. omega arith) loop_again
     (λ c. c.before.loop.invariant.whole) returns)

@@ -1,5 +1,5 @@
 -- The six totals fit, so they are written as they are.
-use Rattle.line.proofs.Common.{needs, to_z_pos, w64}
+use Rattle.line.proofs.Common.{rules, to_z_pos, w64}
 use Rattle.numbers.specs.inside.SignedLocals.{kept}
 use Rattle.line.proofs.verdict.accepted.Statement.{statement}
 use Rattle.line.proofs.verdict.accepted.Tie as tie
@@ -19,5 +19,5 @@ returns c =
 
 pub accepted_spec : {M : Type 1} → statement M
 accepted_spec = tie.close (tie.spec
-    (λ c. search needs) (λ c. search needs) (λ c. search needs) (λ c. search needs) (λ c κs. search needs)
-    (λ c. search needs) returns)
+    (λ c. search rules) (λ c. search rules) (λ c. search rules) (λ c. search rules) (λ c κs. search rules)
+    (λ c. search rules) returns)

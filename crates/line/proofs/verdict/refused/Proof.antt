@@ -1,5 +1,5 @@
 -- The three numbers fit, so they are written as they are; the first is not 0, so that they are a refusal.
-use Rattle.line.proofs.Common.{needs, to_z_pos, w64}
+use Rattle.line.proofs.Common.{rules, to_z_pos, w64}
 use Rattle.line.specs.inside.LineLaws.{refusal_line}
 use Rattle.line.proofs.verdict.refused.Statement.{statement}
 use Rattle.line.proofs.verdict.refused.Tie as tie
@@ -13,5 +13,5 @@ returns c =
 
 pub refused_spec : {M : Type 1} → statement M
 refused_spec = tie.close (tie.spec
-    (λ c. search needs) (λ c. search needs) (λ c. search needs) (λ c. search needs) (λ c. search needs)
-    (λ c κs. search needs) (λ c. search needs) returns)
+    (λ c. search rules) (λ c. search rules) (λ c. search rules) (λ c. search rules) (λ c. search rules)
+    (λ c κs. search rules) (λ c. search rules) returns)

@@ -1,5 +1,5 @@
 -- Each case of the verdict has its own line.
-use Rattle.line.proofs.Common.{◌≡◌, sym, subst, List, ℕ, ◌^◌, needs}
+use Rattle.line.proofs.Common.{◌≡◌, sym, subst, List, ℕ, ◌^◌, rules}
 use Rattle.plan.specs.law.Judged.{verdict_told}
 use Rattle.plan.specs.inside.VerdictSizes.{Fit}
 use Rattle.plan.specs.declared.verdict.Verdict.{Verdict}
@@ -39,5 +39,5 @@ returns_2 c =
 
 pub tell_spec : {M : Type 1} → statement M
 tell_spec = tie.close (tie.spec
-    (λ c. search needs) accepted_requires (λ c. search needs) refused_requires (λ c. search needs) returns
-    (λ c. search needs) returns_2)
+    (λ c. search rules) accepted_requires (λ c. search rules) refused_requires (λ c. search rules) returns
+    (λ c. search rules) returns_2)

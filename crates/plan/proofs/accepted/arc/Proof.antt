@@ -1,5 +1,5 @@
 -- All of the arc's row is inside the case, and each number is read at its place in the row.
-use Rattle.plan.proofs.Common.{◌≡◌, ap, ◌∙◌, ◌+◌, ◌<◌, arith, needs, length, kept}
+use Rattle.plan.proofs.Common.{◌≡◌, ap, ◌∙◌, ◌+◌, ◌<◌, arith, rules, length, kept}
 use Rattle.case.specs.law.Layout.{arc_at, count_at}
 use Rattle.plan.specs.inside.CaseSizes.{arc_there}
 use Rattle.plan.proofs.accepted.arc.Statement.{statement}
@@ -21,5 +21,5 @@ returns c =
 
 pub arc_spec : {M : Type 1} → statement M
 arc_spec = tie.close (tie.spec
-    (λ c κs. search needs) (λ c κs. omega (arith, row c)) (λ c κs. omega (arith, row c.before))
+    (λ c κs. search rules) (λ c κs. omega (arith, row c)) (λ c κs. omega (arith, row c.before))
     (λ c κs. omega (arith, row c.before.before)) (λ c κs. omega (arith, row c.before.before.before)) returns)

@@ -9,8 +9,8 @@ use Rattle.plan.proofs.accepted.arc_at.Tie as tie
 nodes_are : (c : tie.After-count) → c.count.result ≡ nodes_of c.before.args.case.now
 nodes_are c = c.count.ensures
 
-first_is : (c : tie.After-node-at) → let l = c.before.before.args.case.now in c.Node-at.result ≡ node_at l (nodes_of l)
-first_is c = c.Node-at.ensures ∙ ap (node_at c.before.before.args.case.now) (nodes_are c.before)
+first_is : (c : tie.After-node-at) → let l = c.before.before.args.case.now in c.node_at.result ≡ node_at l (nodes_of l)
+first_is c = c.node_at.ensures ∙ ap (node_at c.before.before.args.case.now) (nodes_are c.before)
 
 mul_result : tie.Need-overflow-mul-result
 mul_result c = let s = c.before.before in omega (arith, s.requires.1, (counted s.requires.0).arcs)

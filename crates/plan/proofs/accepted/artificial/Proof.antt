@@ -1,5 +1,5 @@
 -- All of the arc's row is inside the case, and each number is read at its place in the row.
-use Rattle.plan.proofs.Common.{◌∙◌, ◌+◌, ◌<◌, arith, needs, length, kept}
+use Rattle.plan.proofs.Common.{◌∙◌, ◌+◌, ◌<◌, arith, rules, length, kept}
 use Rattle.plan.specs.inside.CaseSizes.{arc_there}
 use Rattle.plan.proofs.accepted.artificial.Statement.{statement}
 use Rattle.plan.proofs.accepted.artificial.Tie as tie
@@ -20,7 +20,7 @@ returns c =
 
 pub artificial_spec : {M : Type 1} → statement M
 artificial_spec = tie.close (tie.spec
-    (λ c κs. search needs) (λ c κs. omega (arith, row c)) (λ c κs. omega (arith, row c.before))
+    (λ c κs. search rules) (λ c κs. omega (arith, row c)) (λ c κs. omega (arith, row c.before))
     (λ c κs. omega (arith, row c.before.before)) (λ c κs. omega (arith, row c.before.before.before))
     (λ c κs. omega (arith, row c.before.before.before.before))
     (λ c κs. omega (arith, row c.before.before.before.before.before))

@@ -8,8 +8,8 @@ use Rattle.plan.proofs.SignedReads.{as_told}
 use Rattle.plan.proofs.accepted.node.Statement.{statement}
 use Rattle.plan.proofs.accepted.node.Tie as tie
 
-row : (c : tie.After-node-at) → let a = c.before.args in c.Node-at.result + demand_in a.case.now a.i < length a.case.now
-row c = let s = c.before in omega (arith, c.Node-at.ensures, node_there s.requires.0 s.args.v s.requires.1 s.args.i s.requires.2)
+row : (c : tie.After-node-at) → let a = c.before.args in c.node_at.result + demand_in a.case.now a.i < length a.case.now
+row c = let s = c.before in omega (arith, c.node_at.ensures, node_there s.requires.0 s.args.v s.requires.1 s.args.i s.requires.2)
 
 -- the four bounds are inside too
 four : (c : tie.After-bounds-at) → let s = c.before.before in c.bounds_at.result + 3 < length s.args.case.now
@@ -30,7 +30,7 @@ returns c =
     let l = s.args.case.now in
     let v = s.args.v in
     let i = s.args.i in
-    let r = b.before.Node-at.ensures in
+    let r = b.before.node_at.ensures in
     let e : b.bounds_at.result ≡ bounds_at l v i = b.bounds_at.ensures ∙ ap (λ x. x + bounds_in l i) r in
     let t : d.demand_at.result + 0 ≡ demand_at l v i = add-zero _ ∙ d.demand_at.ensures ∙ ap (λ x. x + demand_in l i) r in
     λ j. record {

@@ -1,5 +1,5 @@
 -- Arcs of kind 3 on are a station's; the test of the kind decides.
-use Rattle.plan.proofs.Common.{◌≡◌, refl, ap, true, false, needs, le-leb, lt-leb, leb}
+use Rattle.plan.proofs.Common.{◌≡◌, refl, ap, true, false, rules, le-leb, lt-leb, leb}
 use Rattle.case.specs.declared.records.Artificial.{Artificial}
 use Rattle.case.specs.law.Records.{arc_of}
 use Rattle.plan.specs.inside.StationPass.{own_station}
@@ -24,4 +24,4 @@ returns_2 c =
     rw k refl
 
 pub own_station_spec : {M : Type 1} → statement M
-own_station_spec = tie.close (tie.spec (λ c κs. search needs) (λ c κs. search needs) returns returns_2)
+own_station_spec = tie.close (tie.spec (λ c κs. search rules) (λ c κs. search rules) returns returns_2)

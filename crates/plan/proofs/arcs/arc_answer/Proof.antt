@@ -1,5 +1,5 @@
 -- An arc is asked 26 to 29 only past 24 and 25; a "no" to one of these is the answer.
-use Rattle.plan.proofs.Common.{sym, ◌∙◌, arith, needs, counted}
+use Rattle.plan.proofs.Common.{sym, ◌∙◌, arith, rules, counted}
 use mathlib.Core.List.{◌++◌}
 use Rattle.plan.specs.law.ArcRules.{flow_questions, pressure_questions, pipe_questions, arc_questions}
 use Rattle.plan.proofs.Questions.{went_on, stopped}
@@ -31,4 +31,4 @@ returns_2 c =
 
 pub arc_answer_spec : {M : Type 1} → statement M
 arc_answer_spec = tie.close (tie.spec
-    flow_answer_requires (λ c. search needs) past_flows_requires (λ c. search needs) returns returns_2)
+    flow_answer_requires (λ c. search rules) past_flows_requires (λ c. search rules) returns returns_2)

@@ -1,5 +1,5 @@
 -- The first "no" of all arcs is that of the arcs not yet passed; an arc that answers "no" ends the loop.
-use Rattle.plan.proofs.Common.{◌≡◌, sym, ℕ, ◌-◌, ◌≤◌, arith, needs, counted}
+use Rattle.plan.proofs.Common.{◌≡◌, sym, ℕ, ◌-◌, ◌≤◌, arith, rules, counted}
 use mathlib.Core.List.{List}
 use Rattle.numbers.specs.law.Question.{Question, first_no}
 use Rattle.numbers.specs.inside.ItemLaws.{rest, rest_on, rest_no, rest_end}
@@ -63,5 +63,5 @@ returns_2 c =
 
 pub arc_answers_spec : {M : Type 1} → statement M
 arc_answers_spec = tie.close (tie.spec
-    invariant-loop decreases-loop loop_holds (λ c. search needs) arc_answer_requires (λ c. search needs) (λ c. search needs) returns add_e (λ c. omega arith)
+    invariant-loop decreases-loop loop_holds (λ c. search rules) arc_answer_requires (λ c. search rules) (λ c. search rules) returns add_e (λ c. omega arith)
     loop_again returns_2)

@@ -1,5 +1,5 @@
 -- 28 and 29 are asked only past 26 and 27; what 24 has let pass is in range, as they need it.
-use Rattle.plan.proofs.Common.{needs}
+use Rattle.plan.proofs.Common.{rules}
 use Rattle.plan.specs.law.ArcRules.{pressure_questions, pipe_questions}
 use Rattle.plan.proofs.Questions.{went_on, stopped}
 use Rattle.plan.proofs.ArcLaws.{at_flow}
@@ -16,4 +16,4 @@ returns_2 c = stopped (pressure_questions _ _ _ _) (pipe_questions _ _ _ _ _) c.
 
 pub past_flows_spec : {M : Type 1} → statement M
 past_flows_spec = tie.close (tie.spec
-    (λ c κs. c.before.requires.at) (λ c. search needs) (λ c κs. at_flow c.before.before.before.before.requires) (λ c. search needs) returns returns_2)
+    (λ c κs. c.before.requires.at) (λ c. search rules) (λ c κs. at_flow c.before.before.before.before.requires) (λ c. search rules) returns returns_2)

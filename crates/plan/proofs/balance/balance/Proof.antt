@@ -1,7 +1,7 @@
 -- The residuals so far are summed, and the first "no" of 33 is that of the nodes not yet passed.
 use Rattle.case.specs.law.Extents.{node_capacity}
 use Rattle.plan.specs.inside.SumSizes.{most_node_residual}
-use Rattle.plan.proofs.Common.{◌≡◌, refl, sym, ap, ◌∙◌, Bool, ℕ, ◌+◌, ◌-◌, ◌<◌, ◌≤◌, arith, needs, not-true, not-false, pos, w64, to_z, of_z}
+use Rattle.plan.proofs.Common.{◌≡◌, refl, sym, ap, ◌∙◌, Bool, ℕ, ◌+◌, ◌-◌, ◌<◌, ◌≤◌, arith, rules, not-true, not-false, pos, w64, to_z, of_z}
 use Rattle.plan.proofs.Common.{to_z_pos, counted}
 use mathlib.Core.List.{List}
 use native.Mathlib.Nat.{mul-le-mul_right}
@@ -92,7 +92,7 @@ returns c =
     let t = b.before.before.before in
     let h = t.before in
     let s = start h in
-    let no = question b (not-true _ c.if1.true) in
+    let no = question b c.if1.true in
     ap (λ (x : Answer). stepped_by x (node_residuals s.args.case.now s.args.rows.now s.args.i))
     (sym (rest_no (questions s) h.loop.v s.args.layout.nodes h.loop.invariant.2 t.loop-test.true no refl))
 
@@ -128,6 +128,6 @@ returns_2 c =
 
 pub balance_spec : {M : Type 1} → statement M
 balance_spec = tie.close (tie.spec
-    invariant-loop decreases-loop (λ c κs. search needs) (λ c κs. let p = c.before.requires in (p.0.accepted, p.0.laid.arcs, p.1)) loop_holds
+    invariant-loop decreases-loop (λ c κs. search rules) (λ c κs. let p = c.before.requires in (p.0.accepted, p.0.laid.arcs, p.1)) loop_holds
     (λ c. omega (arith, node_few c)) (λ c. omega (arith, node_few c)) (λ c κs. at_node c.before) (λ c. record { sfits = omega (arith, small c) })
-    (λ c κs. search needs) add_t18 returns add_sum (λ c. omega arith) (λ c. omega arith) loop_again returns_2)
+    (λ c κs. search rules) add_t18 returns add_sum (λ c. omega arith) (λ c. omega arith) loop_again returns_2)

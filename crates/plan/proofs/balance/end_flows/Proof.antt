@@ -1,5 +1,5 @@
 -- A pipe has a flow at each end; any other arc has one flow, the difference of the two numbers of its row.
-use Rattle.plan.proofs.Common.{◌≡◌, sym, ap, ◌∙◌, true, false, needs, eq-eqb, ne_eqb, w64, to_z, of_z, Held, held, held_fits, ◌-ʳ◌, counted}
+use Rattle.plan.proofs.Common.{◌≡◌, sym, ap, ◌∙◌, true, false, rules, eq-eqb, ne_eqb, w64, to_z, of_z, Held, held, held_fits, ◌-ʳ◌, counted}
 use Rattle.case.specs.declared.records.Arc.{Arc}
 use Rattle.plan.specs.declared.rows.ArcRow.{ArcRow}
 use Rattle.plan.specs.law.PlanRecords.{arc_row}
@@ -39,5 +39,5 @@ returns_2 c =
 
 pub end_flows_spec : {M : Type 1} → statement M
 end_flows_spec = tie.close (tie.spec
-    (λ c κs. (counted c.requires.0, c.requires.1)) (λ c κs. search needs)
+    (λ c κs. (counted c.requires.0, c.requires.1)) (λ c κs. search rules)
     (λ c. let r = c.before.before.before.before in held_fits (a_is r -ʳ b_is r) tt) returns returns_2)

@@ -1,6 +1,6 @@
 -- Two stores, one at each end: the first adds what leaves, the second takes off what enters, and neither is too large.
 use Rattle.case.specs.law.Extents.{node_capacity}
-use Rattle.plan.proofs.Common.{◌≡◌, sym, ap, ◌∙◌, ℕ, ◌<◌, arith, needs, eqb, ℤ, ◌+ℤ◌, ◌-ℤ◌, length, w64, to_z, of_z, Held, held, held_fits, param}
+use Rattle.plan.proofs.Common.{◌≡◌, sym, ap, ◌∙◌, ℕ, ◌<◌, arith, rules, eqb, ℤ, ◌+ℤ◌, ◌-ℤ◌, length, w64, to_z, of_z, Held, held, held_fits, param}
 use Rattle.plan.proofs.Common.{◌+ʳ◌, ◌-ʳ◌}
 use mathlib.Core.List.{List}
 use lib.IntN.{+ℤ_idr}
@@ -54,5 +54,5 @@ returns c =
 
 pub moved_spec : {M : Type 1} → statement M
 moved_spec = tie.close (tie.spec
-    (λ c. search needs) (λ c. search needs) (λ c. held_fits (leaves c.before) tt) (λ c. search needs) (λ c. search needs) (λ c. search needs)
-    (λ c. search needs) (λ c. held_fits (enters c.before.before) tt) (λ c. search needs) (λ c. search needs) (λ c. search needs) returns)
+    (λ c. search rules) (λ c. search rules) (λ c. held_fits (leaves c.before) tt) (λ c. search rules) (λ c. search rules) (λ c. search rules)
+    (λ c. search rules) (λ c. held_fits (enters c.before.before) tt) (λ c. search rules) (λ c. search rules) (λ c. search rules) returns)

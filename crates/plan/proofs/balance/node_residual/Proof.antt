@@ -1,6 +1,6 @@
 -- The time and the imbalance are read as they are, and bounds on both keep their product in range.
 use Rattle.plan.specs.inside.SumSizes.{most_net}
-use Rattle.plan.proofs.Common.{◌≡◌, ap, ap₂, ◌∙◌, ◌*◌, ◌≤◌, arith, needs, ℤ, nat_abs, ◌-ℤ◌, w64, to_z, of_z, Held, held, held_fits, ◌-ʳ◌, counted, ◌+◌}
+use Rattle.plan.proofs.Common.{◌≡◌, ap, ap₂, ◌∙◌, ◌*◌, ◌≤◌, arith, rules, ℤ, nat_abs, ◌-ℤ◌, w64, to_z, of_z, Held, held, held_fits, ◌-ʳ◌, counted, ◌+◌}
 use native.Mathlib.Nat.{mul-le-mul}
 use mir.Facts.{Fits-le, Fits-lit}
 use Rattle.plan.specs.declared.rows.NodeRow.{NodeRow}
@@ -47,7 +47,7 @@ returns c = ap₂ ◌*◌ (first_is c.before.before.before.before) (second_is c)
 
 pub node_residual_spec : {M : Type 1} → statement M
 node_residual_spec = tie.close (tie.spec
-    (λ c κs. search needs) (λ c κs. omega (arith, (read_bounded (time_is c)).bound))
+    (λ c κs. search rules) (λ c κs. omega (arith, (read_bounded (time_is c)).bound))
     (λ c κs. let p = c.before.before.requires in omega (arith, p.node, (counted p.accepted).nodes))
     (λ c. held_fits (left_is c.before.before) tt) (λ c κs. omega (arith, (read_bounded (held (left_is c.before.before) tt)).bound)) mul_result
     returns)

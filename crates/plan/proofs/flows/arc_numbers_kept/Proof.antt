@@ -1,5 +1,5 @@
 -- What each part of 24 read is what the arc and its row hold, so the three answers make up the rule.
-use Rattle.plan.proofs.Common.{◌≡◌, Bool, ◌&&◌, ℤ, needs, leb, kept}
+use Rattle.plan.proofs.Common.{◌≡◌, Bool, ◌&&◌, ℤ, rules, leb, kept}
 use Rattle.case.specs.declared.records.Arc.{Arc}
 use Rattle.case.specs.declared.records.Artificial.{Artificial}
 use Rattle.plan.specs.declared.rows.ArcRow.{ArcRow}
@@ -37,4 +37,4 @@ returns c =
 
 pub arc_numbers_kept_spec : {M : Type 1} → statement M
 arc_numbers_kept_spec = tie.close (tie.spec
-    (λ c κs. search needs) (λ c κs. search needs) (λ c κs. search needs) (λ c κs. search needs) (λ c κs. search needs) (λ c κs. search needs) returns)
+    (λ c κs. search rules) (λ c κs. search rules) (λ c κs. search rules) (λ c κs. search rules) (λ c κs. search rules) (λ c κs. search rules) returns)

@@ -1,5 +1,5 @@
 -- 25 asks nothing of kinds 1 and 2; of any other the setting that was read decides.
-use Rattle.plan.proofs.Common.{◌≡◌, Bool, true, false, ◌&&◌, ⊎_elim, ℕ, ℤ, ◌<◌, ◌≤◌, arith, needs, le-leb, lt-leb, leb, kept}
+use Rattle.plan.proofs.Common.{◌≡◌, Bool, true, false, ◌&&◌, ⊎_elim, ℕ, ℤ, ◌<◌, ◌≤◌, arith, rules, le-leb, lt-leb, leb, kept}
 use Rattle.case.specs.declared.records.Arc.{Arc}
 use Rattle.plan.specs.declared.rows.ArcRow.{ArcRow}
 use Rattle.plan.specs.declared.setting.Setting.{Setting}
@@ -40,4 +40,4 @@ returns_2 c =
     (kept a.r.setting t.struct_told.given.1.1.0.1) n.setting_of.ensures c.no_flow_against.ensures
 
 pub flow_allowed_spec : {M : Type 1} → statement M
-flow_allowed_spec = tie.close (tie.spec (λ c κs. search needs) (λ c κs. search needs) returns returns_2)
+flow_allowed_spec = tie.close (tie.spec (λ c κs. search rules) (λ c κs. search rules) returns returns_2)

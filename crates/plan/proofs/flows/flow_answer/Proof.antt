@@ -1,5 +1,5 @@
 -- 24 and then 25, each answered of the arc and the row that were read.
-use Rattle.plan.proofs.Common.{◌≡◌, ap₂, ◌∙◌, ◌+◌, needs, counted}
+use Rattle.plan.proofs.Common.{◌≡◌, ap₂, ◌∙◌, ◌+◌, rules, counted}
 use Rattle.case.specs.declared.records.Arc.{Arc}
 use Rattle.case.specs.declared.records.Artificial.{Artificial}
 use Rattle.plan.specs.declared.rows.ArcRow.{ArcRow}
@@ -28,6 +28,6 @@ returns c =
 
 pub flow_answer_spec : {M : Type 1} → statement M
 flow_answer_spec = tie.close (tie.spec
-    (λ c κs. search needs) (λ c κs. search needs) (λ c κs. let p = c.before.before.requires in (counted p.0, p.2))
-    (λ c κs. let p = c.before.before.before.requires in rw c.before.before.arc.ensures (qmax_sized p.0 _ p.2)) (λ c. search needs)
-    (λ c κs. search needs) (λ c κs. search needs) (λ c. search needs) (λ c κs. search needs) (λ c κs. search needs) returns)
+    (λ c κs. search rules) (λ c κs. search rules) (λ c κs. let p = c.before.before.requires in (counted p.0, p.2))
+    (λ c κs. let p = c.before.before.before.requires in rw c.before.before.arc.ensures (qmax_sized p.0 _ p.2)) (λ c. search rules)
+    (λ c κs. search rules) (λ c κs. search rules) (λ c. search rules) (λ c κs. search rules) (λ c κs. search rules) returns)

@@ -1,5 +1,5 @@
 -- The kind chooses the range of the two flows, and what the tests read are the row's flows and the arc's limit.
-use Rattle.plan.proofs.Common.{◌≡◌, Bool, false, ◌&&◌, ◌∙◌, ℤ, needs, eqb, ne_eqb, pos, held, held_fits, param, literal, ◌-ℤ◌, ◌-ʳ◌, kept}
+use Rattle.plan.proofs.Common.{◌≡◌, Bool, false, ◌&&◌, ◌∙◌, ℤ, rules, eqb, ne_eqb, pos, held, held_fits, param, literal, ◌-ℤ◌, ◌-ʳ◌, kept}
 use Rattle.case.specs.declared.records.Arc.{Arc}
 use Rattle.plan.specs.declared.rows.ArcRow.{ArcRow}
 use Rattle.plan.specs.law.Compared.{within}
@@ -57,4 +57,4 @@ returns_3 c =
     c.both_within3.ensures
 
 pub flows_kept_spec : {M : Type 1} → statement M
-flows_kept_spec = tie.close (tie.spec (λ c κs. search needs) sub_both_within (λ c κs. search needs) (λ c κs. search needs) returns returns_2 returns_3)
+flows_kept_spec = tie.close (tie.spec (λ c κs. search rules) sub_both_within (λ c κs. search rules) (λ c κs. search rules) returns returns_2 returns_3)

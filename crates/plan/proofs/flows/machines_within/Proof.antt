@@ -1,5 +1,5 @@
 -- Up to kind 4 an arc has no machines; above, its machines are among its own.
-use Rattle.plan.proofs.Common.{◌≡◌, Bool, ◌&&◌, ℕ, ℤ, ◌<◌, ◌≤◌, arith, needs, le-leb, lt-leb, pos, le_z, to_z-of_z}
+use Rattle.plan.proofs.Common.{◌≡◌, Bool, ◌&&◌, ℕ, ℤ, ◌<◌, ◌≤◌, arith, rules, le-leb, lt-leb, pos, le_z, to_z-of_z}
 use Rattle.numbers.specs.law.Sets.{subset_of}
 use Rattle.plan.specs.law.Compared.{is_zero}
 use Rattle.plan.specs.law.ArcFlows.{machines_within}
@@ -29,4 +29,4 @@ returns_2 c =
     l.at_most.ensures b.subset.ensures c.both.ensures
 
 pub machines_within_spec : {M : Type 1} → statement M
-machines_within_spec = tie.close (tie.spec (λ c κs. search needs) (λ c κs. search needs) (λ c κs. search needs) (λ c κs. search needs) returns returns_2)
+machines_within_spec = tie.close (tie.spec (λ c κs. search rules) (λ c κs. search rules) (λ c κs. search rules) (λ c κs. search rules) returns returns_2)

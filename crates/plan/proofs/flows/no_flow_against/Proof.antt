@@ -1,5 +1,5 @@
 -- The setting's variant decides; a flow against it must be 0, and what was read of the row is the row's.
-use Rattle.plan.proofs.Common.{◌≡◌, refl, Bool, true, false, ◌&&◌, ℤ, needs, kept}
+use Rattle.plan.proofs.Common.{◌≡◌, refl, Bool, true, false, ◌&&◌, ℤ, rules, kept}
 use Rattle.plan.specs.declared.rows.ArcRow.{ArcRow}
 use Rattle.plan.specs.declared.setting.Way.{Way}
 use Rattle.plan.specs.declared.setting.Way.TheVariants.{Forward, Backward}
@@ -28,7 +28,7 @@ module _ (artificial : Bool) {s : Setting} (r : ArcRow) {n : ℤ} {y : Bool} whe
     backward f g p h = rw (h, p, e, f, g)
 
 returns : tie.Need-returns
-returns c = search needs
+returns c = search rules
 
 returns_2 : tie.Need-returns-2
 returns_2 c =
@@ -66,5 +66,5 @@ returns_5 c =
 
 pub no_flow_against_spec : {M : Type 1} → statement M
 no_flow_against_spec = tie.close (tie.spec
-    (λ c. search needs) (λ c. search needs) (λ c κs. search needs) (λ c κs. search needs) (λ c κs. search needs) (λ c. search needs)
-    (λ c. search needs) (λ c κs. search needs) (λ c. search needs) (λ c κs. search needs) returns returns_2 returns_3 returns_4 returns_5)
+    (λ c. search rules) (λ c. search rules) (λ c κs. search rules) (λ c κs. search rules) (λ c κs. search rules) (λ c. search rules)
+    (λ c. search rules) (λ c κs. search rules) (λ c. search rules) (λ c κs. search rules) returns returns_2 returns_3 returns_4 returns_5)

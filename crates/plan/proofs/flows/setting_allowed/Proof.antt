@@ -1,21 +1,21 @@
 -- The setting's variant and way decide, whatever its mode.
-use Rattle.plan.proofs.Common.{needs}
+use Rattle.plan.proofs.Common.{rules}
 use Rattle.plan.proofs.flows.setting_allowed.Statement.{statement}
 use Rattle.plan.proofs.flows.setting_allowed.Tie as tie
 
 returns : tie.Need-returns
-returns c = search needs
+returns c = search rules
 
 returns_2 : tie.Need-returns-2
-returns_2 c = search needs
+returns_2 c = search rules
 
 returns_3 : tie.Need-returns-3
-returns_3 c = search needs
+returns_3 c = search rules
 
 returns_4 : tie.Need-returns-4
 returns_4 c = rw (c.before.before.before.s.given.1, c.enum_told4.given.1)
 
 pub setting_allowed_spec : {M : Type 1} → statement M
 setting_allowed_spec = tie.close (tie.spec
-    (λ c. search needs) (λ c. search needs) (λ c. search needs) (λ c. search needs) (λ c. search needs) returns
+    (λ c. search rules) (λ c. search rules) (λ c. search rules) (λ c. search rules) (λ c. search rules) returns
     returns_2 returns_3 returns_4)

@@ -1,5 +1,5 @@
 -- The code's two comparisons and the length by the layout are the three tests of 20; the counts of an accepted case keep all small.
-use Rattle.plan.proofs.Common.{◌≡◌, ap, ◌∙◌, arith, needs, eqb, pos, length, kept}
+use Rattle.plan.proofs.Common.{◌≡◌, ap, ◌∙◌, arith, rules, eqb, pos, length, kept}
 use Rattle.case.specs.law.Layout.{number_at, steps_of}
 use Rattle.plan.specs.law.Compared.{same}
 use Rattle.plan.specs.inside.VerdictLaws.{head_length, head_yes, head_second, head_first}
@@ -54,5 +54,5 @@ returns_3 c = head_first _ _ (first_is c.before) c.if1.false
 
 pub head_kept_spec : {M : Type 1} → statement M
 head_kept_spec = tie.close (tie.spec
-    (λ c κs. search needs) (λ c κs. search needs) (λ c κs. search needs) cast_same (λ c κs. search needs)
+    (λ c κs. search rules) (λ c κs. search rules) (λ c κs. search rules) cast_same (λ c κs. search rules)
     step_width_requires mul_result add_result returns returns_2 returns_3)

@@ -1,5 +1,5 @@
 -- Past the case and 20 the verdict is that of the steps, and otherwise their own refusal.
-use Rattle.plan.proofs.Common.{◌≡◌, ◌∙◌, needs}
+use Rattle.plan.proofs.Common.{◌≡◌, ◌∙◌, rules}
 use Rattle.numbers.specs.law.Question.{first_no}
 use Rattle.plan.specs.law.PlanHead.{head_questions}
 use Rattle.plan.specs.inside.VerdictLaws.{head_answer, head_case, head_keeps, head_laid, head_passed, judge_yes, judge_no}
@@ -21,5 +21,5 @@ returns_2 c = judge_no _ _ (asked c.before.before.before ∙ c.before.a.given.1)
 
 pub judge_spec : {M : Type 1} → statement M
 judge_spec = tie.close (tie.spec
-    (λ c κs. search needs) (λ c. search needs) (λ c κs. head_laid _ _ c.before.before.judge_head.ensures c.enum_told.given.1)
-    (λ c. search needs) returns returns_2)
+    (λ c κs. search rules) (λ c. search rules) (λ c κs. head_laid _ _ c.before.before.judge_head.ensures c.enum_told.given.1)
+    (λ c. search rules) returns returns_2)

@@ -1,5 +1,5 @@
 -- The reading's end decides: all was read, and the list's front is judged with the plan's bytes; or a refusal, and the plan's list stays.
-use Rattle.plan.proofs.Common.{sym, ap, ◌∙◌, ◌≤◌, arith, needs, length}
+use Rattle.plan.proofs.Common.{sym, ap, ◌∙◌, ◌≤◌, arith, rules, length}
 use lib.Seq.{length-take-le}
 use Rattle.numbers.specs.law.CodecTold.{reading_told}
 use Rattle.numbers.specs.inside.ReadingBounds.{read_no}
@@ -41,6 +41,6 @@ returns_2 c =
 
 pub judge_bytes_spec : {M : Type 1} → statement M
 judge_bytes_spec = tie.close (tie.spec
-    (λ c κs. search needs) (λ c. search needs) (λ c. within c.before) slice_aggregate_judge_case_list
-    (λ c κs. search needs) (λ c. search needs) (λ c. search needs) (λ c. search needs) returns (λ c. search needs)
+    (λ c κs. search rules) (λ c. search rules) (λ c. within c.before) slice_aggregate_judge_case_list
+    (λ c κs. search rules) (λ c. search rules) (λ c. search rules) (λ c. search rules) returns (λ c. search rules)
     returns_2)

@@ -1,5 +1,5 @@
 -- The plan's bytes are reached only past an accepted case; otherwise the case's refusal is told and the plan's list stays.
-use Rattle.plan.proofs.Common.{◌≡◌, ◌∙◌, needs}
+use Rattle.plan.proofs.Common.{◌≡◌, ◌∙◌, rules}
 use Rattle.numbers.specs.law.Question.{first_no}
 use Rattle.case.specs.law.Judged.{case_questions}
 use Rattle.plan.specs.inside.VerdictLaws.{case_answer, case_laid, case_passed, list_reached, case_stopped}
@@ -24,6 +24,6 @@ returns_2 c = case_stopped _ _ _ (asked c.before.before.before ∙ c.before.a.gi
 
 pub judge_case_list_spec : {M : Type 1} → statement M
 judge_case_list_spec = tie.close (tie.spec
-    (λ c κs. search needs) (λ c. search needs)
+    (λ c κs. search rules) (λ c. search rules)
     (λ c κs. case_laid c.before.before.before.judge_and_lay.ensures c.before.enum_told.given.1)
-    (λ c. search needs) (λ c. search needs) returns returns_2)
+    (λ c. search rules) (λ c. search rules) returns returns_2)

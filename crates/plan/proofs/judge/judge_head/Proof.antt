@@ -1,5 +1,5 @@
 -- Past an accepted case the answer is that to 20, and else the case's own refusal; the layout is the one that the judge of the case gives.
-use Rattle.plan.proofs.Common.{◌≡◌, refl, sym, ap, ◌∙◌, needs}
+use Rattle.plan.proofs.Common.{◌≡◌, refl, sym, ap, ◌∙◌, rules}
 use mathlib.Core.List.{[], ◌∷◌}
 use Rattle.numbers.specs.law.Question.{first_no, told}
 use Rattle.case.specs.law.Judged.{case_questions, judged_case}
@@ -36,5 +36,5 @@ returns_2 c =
 
 pub judge_head_spec : {M : Type 1} → statement M
 judge_head_spec = tie.close (tie.spec
-    (λ c κs. search needs) (λ c. search needs) (λ c κs. case_laid c.before.before.before.judge_and_lay.ensures c.before.enum_told.given.1)
-    (λ c κs. search needs) (λ c. search needs) returns returns_2)
+    (λ c κs. search rules) (λ c. search rules) (λ c κs. case_laid c.before.before.before.judge_and_lay.ensures c.before.enum_told.given.1)
+    (λ c κs. search rules) (λ c. search rules) returns returns_2)

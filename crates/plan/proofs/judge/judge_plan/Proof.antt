@@ -1,5 +1,5 @@
 -- 20 decides; past it the plan has the length that the steps need, and their verdict is the plan's.
-use Rattle.plan.proofs.Common.{sym, ◌∙◌, needs}
+use Rattle.plan.proofs.Common.{sym, ◌∙◌, rules}
 use Rattle.plan.specs.inside.VerdictLaws.{plan_laid, head_refused, head_passed}
 use Rattle.plan.proofs.judge.judge_plan.Statement.{statement}
 use Rattle.plan.proofs.judge.judge_plan.Tie as tie
@@ -16,4 +16,4 @@ returns_2 : tie.Need-returns-2
 returns_2 c = head_refused _ _ (sym c.before.head_kept.ensures ∙ c.if1.false)
 
 pub judge_plan_spec : {M : Type 1} → statement M
-judge_plan_spec = tie.close (tie.spec (λ c κs. search needs) steps_requires returns returns_2)
+judge_plan_spec = tie.close (tie.spec (λ c κs. search rules) steps_requires returns returns_2)

@@ -1,5 +1,5 @@
 -- The gas at both times goes by pressures that an array holds, and the two sums are those gathered for the set.
-use Rattle.plan.proofs.Common.{refl, ◌∙◌, arith, needs}
+use Rattle.plan.proofs.Common.{refl, ◌∙◌, arith, rules}
 use Rattle.plan.specs.inside.RegionSet.{inside_of}
 use Rattle.plan.specs.inside.RegionLoop.{Gathering, pressures_held, gas_held}
 use Rattle.plan.specs.inside.LedgerAnswer.{figures_are}
@@ -38,4 +38,4 @@ returns c =
 
 pub figures_spec : {M : Type 1} → statement M
 figures_spec = tie.close (tie.spec
-    (λ c κs. search needs) (λ c κs. search needs) (λ c. search needs) (λ c. search needs) inner_pipes_requires returns)
+    (λ c κs. search rules) (λ c κs. search rules) (λ c. search rules) (λ c. search rules) inner_pipes_requires returns)

@@ -1,5 +1,5 @@
 -- A set of nodes and more has a lowest item past the case's nodes, which is looked for from there on; any other set has place 0.
-use Rattle.plan.proofs.Common.{◌≡◌, sym, ◌∙◌, arith, needs, to_z-of_z, kept}
+use Rattle.plan.proofs.Common.{◌≡◌, sym, ◌∙◌, arith, rules, to_z-of_z, kept}
 use Rattle.case.specs.law.Layout.{nodes_of}
 use Rattle.plan.specs.law.Ledger.{is_node_set, foreign_node}
 use Rattle.plan.proofs.Adding.{count_read}
@@ -28,5 +28,5 @@ returns_2 c = rw (sym (in_range c.before) ∙ c.if1.false)
 
 pub foreign_node_spec : {M : Type 1} → statement M
 foreign_node_spec = tie.close (tie.spec
-    (λ c κs. search needs) (λ c κs. search needs) (λ c κs. search needs) (λ c κs. search needs) lowest_requires returns
+    (λ c κs. search rules) (λ c κs. search rules) (λ c κs. search rules) (λ c κs. search rules) lowest_requires returns
     returns_2)

@@ -1,5 +1,5 @@
 -- An accepted plan leaves 40 and 41 to decide, and a refused one decides; what was read back of the set and the times is what was given.
-use Rattle.plan.proofs.Common.{sym, ap, ◌∙◌, needs, to_z-of_z}
+use Rattle.plan.proofs.Common.{sym, ap, ◌∙◌, rules, to_z-of_z}
 use Rattle.plan.specs.law.Judged.{verdict_told}
 use Rattle.plan.specs.claims.Acceptance.{sound}
 use Rattle.plan.specs.inside.LedgerVerdict.{ledger_after, ledger_refused}
@@ -28,4 +28,4 @@ returns_2 c =
 
 pub ledger_spec : {M : Type 1} → statement M
 ledger_spec = tie.close (tie.spec
-    (λ c κs. search needs) (λ c. search needs) region_ledger_requires (λ c. search needs) returns returns_2)
+    (λ c κs. search rules) (λ c. search rules) region_ledger_requires (λ c. search rules) returns returns_2)

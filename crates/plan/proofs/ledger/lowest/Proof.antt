@@ -1,6 +1,6 @@
 -- The lowest item from n on is the lowest from v on, as no item between them is in the set.
 use Rattle.case.specs.law.Extents.{set_room}
-use Rattle.plan.proofs.Common.{◌≡◌, refl, sym, ◌∙◌, ◌-◌, ◌≤◌, arith, needs, w64, to_z, to_z-of_z}
+use Rattle.plan.proofs.Common.{◌≡◌, refl, sym, ◌∙◌, ◌-◌, ◌≤◌, arith, rules, w64, to_z, to_z-of_z}
 use Rattle.plan.specs.law.Ledger.{lowest_of}
 use Rattle.plan.proofs.RegionTests.{lowest_here, lowest_on, lowest_none}
 use Rattle.plan.proofs.ledger.lowest.Statement.{statement}
@@ -33,4 +33,4 @@ returns_2 c =
 
 pub lowest_spec : {M : Type 1} → statement M
 lowest_spec = tie.close (tie.spec
-    invariant-loop decreases-loop loop_holds (λ c κs. search needs) returns (λ c. omega arith) (λ c. omega arith) loop_again returns_2)
+    invariant-loop decreases-loop loop_holds (λ c κs. search rules) returns (λ c. omega arith) (λ c. omega arith) loop_again returns_2)

@@ -1,6 +1,6 @@
 -- The array holds the answers for the nodes passed, and false from there on; so it does for every other number, none of which the set names.
 use Rattle.case.specs.law.Extents.{node_capacity}
-use Rattle.plan.proofs.Common.{◌≡◌, refl, false, ◌-◌, arith, needs, w64, to_z, to_z-of_z}
+use Rattle.plan.proofs.Common.{◌≡◌, refl, false, ◌-◌, arith, rules, w64, to_z, to_z-of_z}
 use Rattle.numbers.specs.law.Sets.{member_of}
 use Rattle.case.specs.law.LayoutOf.{Clear}
 use Rattle.case.specs.inside.HoldsLaws.{clear_new, clear_more}
@@ -34,5 +34,5 @@ returns c =
 
 pub members_spec : {M : Type 1} → statement M
 members_spec = tie.close (tie.spec
-    invariant-loop decreases-loop loop_holds (λ c κs. search needs) (λ c. omega arith) (λ c. omega arith) (λ c. omega arith)
+    invariant-loop decreases-loop loop_holds (λ c κs. search rules) (λ c. omega arith) (λ c. omega arith) (λ c. omega arith)
     loop_again returns)

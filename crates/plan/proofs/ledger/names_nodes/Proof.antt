@@ -1,6 +1,6 @@
 -- The set is first held against all items that it has room for, and then against the case's nodes: the two tests of the law, in its order.
 use Rattle.case.specs.law.Extents.{set_room}
-use Rattle.plan.proofs.Common.{◌≡◌, sym, ap, ◌∙◌, ◌≤◌, arith, needs, to_z-of_z, kept}
+use Rattle.plan.proofs.Common.{◌≡◌, sym, ap, ◌∙◌, ◌≤◌, arith, rules, to_z-of_z, kept}
 use Rattle.case.specs.law.Layout.{nodes_of}
 use Rattle.case.specs.law.StationFields.{first_items}
 use Rattle.plan.specs.law.Ledger.{is_node_set, names_nodes}
@@ -33,5 +33,5 @@ returns_2 c = rw (sym (in_range c.before) ∙ c.if1.false)
 
 pub names_nodes_spec : {M : Type 1} → statement M
 names_nodes_spec = tie.close (tie.spec
-    (λ c κs. search needs) (λ c κs. search needs) (λ c κs. search needs) (λ c κs. search needs)
-    (λ c κs. few c.before.before.before) (λ c κs. search needs) returns returns_2)
+    (λ c κs. search rules) (λ c κs. search rules) (λ c κs. search rules) (λ c κs. search rules)
+    (λ c κs. few c.before.before.before) (λ c κs. search rules) returns returns_2)

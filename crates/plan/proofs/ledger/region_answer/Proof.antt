@@ -1,5 +1,5 @@
 -- A set that names other than nodes is refused with the lowest such item; any other is asked for its times.
-use Rattle.plan.proofs.Common.{◌≡◌, sym, ap, ◌∙◌, Bool, needs, to_z-of_z, counted}
+use Rattle.plan.proofs.Common.{◌≡◌, sym, ap, ◌∙◌, Bool, rules, to_z-of_z, counted}
 use Rattle.numbers.specs.law.Question.{answer}
 use Rattle.numbers.specs.inside.QuestionLaws.{or_else_yes}
 use Rattle.numbers.specs.declared.answer.Answer.TheVariants.{No}
@@ -27,5 +27,5 @@ returns_2 c =
 
 pub region_answer_spec : {M : Type 1} → statement M
 region_answer_spec = tie.close (tie.spec
-    (λ c κs. nodes_in_set _ (counted c.requires)) (λ c κs. (counted c.before.before.requires).steps) (λ c κs. search needs)
+    (λ c κs. nodes_in_set _ (counted c.requires)) (λ c κs. (counted c.before.before.requires).steps) (λ c κs. search rules)
     (λ c κs. nodes_in_set _ (counted c.before.before.requires)) returns returns_2)

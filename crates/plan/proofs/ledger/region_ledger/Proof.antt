@@ -1,5 +1,5 @@
 -- Once 40 and 41 are answered yes the set names nodes and the times are in order, and so the figures may be computed; a no is the answer itself.
-use Rattle.plan.proofs.Common.{◌≡◌, sym, ap, ◌∙◌, needs, w64, to_z, of_z, to_z-of_z}
+use Rattle.plan.proofs.Common.{◌≡◌, sym, ap, ◌∙◌, rules, w64, to_z, of_z, to_z-of_z}
 use Rattle.numbers.specs.law.Question.{first_no}
 use Rattle.numbers.specs.declared.answer.Answer.TheVariants.{Yes}
 use Rattle.plan.specs.declared.figures.Ledger.{Ledger}
@@ -34,4 +34,4 @@ returns_2 c = as_read c.before.before.before.before (rw (sym c.before.before.bef
 
 pub region_ledger_spec : {M : Type 1} → statement M
 region_ledger_spec = tie.close (tie.spec
-    (λ c κs. record { yes = c.requires.case_yes }) (λ c. search needs) set_figures_requires (λ c. search needs) returns returns_2)
+    (λ c κs. record { yes = c.requires.case_yes }) (λ c. search rules) set_figures_requires (λ c. search rules) returns returns_2)

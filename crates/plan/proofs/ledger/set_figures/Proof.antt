@@ -1,5 +1,5 @@
 -- The counts are the case's, the times are in order, and the array is the test of the set: it has as many nodes, and the same figures.
-use Rattle.plan.proofs.Common.{◌≡◌, sym, ap, ◌∙◌, arith, needs, to_z-of_z, counted}
+use Rattle.plan.proofs.Common.{◌≡◌, sym, ap, ◌∙◌, arith, rules, to_z-of_z, counted}
 use Rattle.numbers.specs.law.Signed.{pos_part}
 use Rattle.numbers.specs.law.Sets.{member_of}
 use Rattle.numbers.specs.law.Sums.{count}
@@ -80,5 +80,5 @@ returns c = c.figures.ensures ∙ same_figures _ _ (inside_is (arrayed c.before)
 
 pub set_figures_spec : {M : Type 1} → statement M
 set_figures_spec = tie.close (tie.spec
-    (λ c κs. search needs) (λ c κs. search needs) (λ c κs. search needs) (λ c κs. search needs) (λ c κs. search needs) (λ c κs. search needs)
-    step_width_requires members_requires (λ c κs. search needs) (λ c. search needs) (λ c κs. search needs) (λ c κs. search needs) figures_requires returns)
+    (λ c κs. search rules) (λ c κs. search rules) (λ c κs. search rules) (λ c κs. search rules) (λ c κs. search rules) (λ c κs. search rules)
+    step_width_requires members_requires (λ c κs. search rules) (λ c. search rules) (λ c κs. search rules) (λ c κs. search rules) figures_requires returns)

@@ -1,5 +1,5 @@
 -- The code asks the law's three comparisons in the law's order, and stops at the first no.
-use Rattle.plan.proofs.Common.{◌≡◌, sym, ap, ap₂, ◌∙◌, arith, needs, pos, le_z, w64, to_z-of_z, to_z_pos}
+use Rattle.plan.proofs.Common.{◌≡◌, sym, ap, ap₂, ◌∙◌, arith, rules, pos, le_z, w64, to_z-of_z, to_z_pos}
 use Rattle.case.specs.law.Layout.{steps_of}
 use Rattle.plan.specs.law.Ledger.{times_ordered}
 use Rattle.plan.proofs.Adding.{count_read}
@@ -40,5 +40,5 @@ returns_3 c = rw (first c.before ∙ c.if1.false)
 
 pub times_ordered_spec : {M : Type 1} → statement M
 times_ordered_spec = tie.close (tie.spec
-    (λ c κs. search needs) (λ c κs. search needs) cast_steps (λ c κs. search needs) (λ c κs. search needs)
-    (λ c κs. search needs) returns returns_2 returns_3)
+    (λ c κs. search rules) (λ c κs. search rules) cast_steps (λ c κs. search rules) (λ c κs. search rules)
+    (λ c κs. search rules) returns returns_2 returns_3)

@@ -1,5 +1,5 @@
 -- The sum so far is that over the machines passed, each small, and a station has at most 12.
-use Rattle.plan.proofs.Common.{◌≡◌, ap, ◌∙◌, ⊎_elim, ◌+◌, ◌-◌, arith, needs, w64, to_z, of_z, to_z-of_z}
+use Rattle.plan.proofs.Common.{◌≡◌, ap, ◌∙◌, ⊎_elim, ◌+◌, ◌-◌, arith, rules, w64, to_z, of_z, to_z-of_z}
 use Rattle.case.specs.declared.records.Machine.{Machine}
 use Rattle.case.specs.declared.records.Station.{Station}
 use Rattle.case.specs.law.Layout.{machine_count}
@@ -77,6 +77,6 @@ term_requires c κs =
 
 pub machine_sum_spec : {M : Type 1} → statement M
 machine_sum_spec = tie.close (tie.spec
-    invariant-loop decreases-loop (λ c κs. search needs) (λ c κs. search needs) loop_holds (λ c κs. search needs) (λ c κs. search needs) term_requires
+    invariant-loop decreases-loop (λ c κs. search rules) (λ c κs. search rules) loop_holds (λ c κs. search rules) (λ c κs. search rules) term_requires
     (λ c. let d = c.before.before.before in added_fits d.before.before.loop.invariant.1 (part_is c) d.before.loop-test.true)
-    (λ c κs. search needs) (λ c. omega arith) (λ c. omega arith) loop_again returns)
+    (λ c κs. search rules) (λ c. omega arith) (λ c. omega arith) loop_again returns)

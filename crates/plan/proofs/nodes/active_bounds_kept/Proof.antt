@@ -1,5 +1,5 @@
 -- A node without demand has no active bounds; of any other the two shifted pressures are held against them.
-use Rattle.plan.proofs.Common.{sym, ap, ap₂, ◌∙◌, ◌&&◌, needs, le_z, held, held_fits, param, ◌+ʳ◌, ◌-ʳ◌, kept}
+use Rattle.plan.proofs.Common.{sym, ap, ap₂, ◌∙◌, ◌&&◌, rules, le_z, held, held_fits, param, ◌+ʳ◌, ◌-ʳ◌, kept}
 use Rattle.plan.specs.law.Compared.{is_zero}
 use Rattle.plan.specs.law.NodeRules.{active_bounds_kept}
 use Rattle.plan.proofs.nodes.active_bounds_kept.Statement.{statement}
@@ -39,4 +39,4 @@ returns_2 c =
 
 pub active_bounds_kept_spec : {M : Type 1} → statement M
 active_bounds_kept_spec = tie.close (tie.spec
-    (λ c κs. search needs) add_at_most (λ c κs. search needs) sub_at_most (λ c κs. search needs) (λ c κs. search needs) returns returns_2)
+    (λ c κs. search rules) add_at_most (λ c κs. search rules) sub_at_most (λ c κs. search rules) (λ c κs. search rules) returns returns_2)

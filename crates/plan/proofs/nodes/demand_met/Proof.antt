@@ -1,5 +1,5 @@
 -- An inner node has no demand to meet; elsewhere the flow with its two slacks is small enough to add up, and is compared.
-use Rattle.plan.proofs.Common.{needs, eq-eqb, ne_eqb, held, held_fits, param, ◌+ʳ◌, ◌-ʳ◌, kept}
+use Rattle.plan.proofs.Common.{rules, eq-eqb, ne_eqb, held, held_fits, param, ◌+ʳ◌, ◌-ʳ◌, kept}
 use Rattle.plan.specs.law.NodeRules.{demand_met}
 use Rattle.plan.proofs.nodes.demand_met.Statement.{statement}
 use Rattle.plan.proofs.nodes.demand_met.Tie as tie
@@ -10,14 +10,14 @@ add_same c =
     let p = c.before.before.before.before.requires in
     let plus = held_fits (param p.d tt +ʳ param p.splus tt) tt in
     let minus = held_fits (param p.d tt +ʳ param p.sminus tt) tt in
-    search needs
+    search rules
 
 sub_same : tie.Need-overflow-sub-same
 sub_same c =
     let p = c.before.before.before.before.before.before.requires in
     let plus = held_fits (held (param p.d tt +ʳ param p.splus tt) tt -ʳ param p.sminus tt) tt in
     let minus = held_fits (held (param p.d tt +ʳ param p.sminus tt) tt -ʳ param p.splus tt) tt in
-    search needs
+    search rules
 
 returns : tie.Need-returns
 unfolding demand_met
@@ -32,4 +32,4 @@ returns_2 c =
     rw (ne_eqb _ _ e.if1.false) (simp (v, kept s.args.n.demand c.before.struct_told3.given.1.1.1.1.1.1.0.1) at c.same.ensures)
 
 pub demand_met_spec : {M : Type 1} → statement M
-demand_met_spec = tie.close (tie.spec add_same sub_same (λ c κs. search needs) returns returns_2)
+demand_met_spec = tie.close (tie.spec add_same sub_same (λ c κs. search rules) returns returns_2)

@@ -1,5 +1,5 @@
 -- The kind chooses the test, and the flow that the test reads is the parameter.
-use Rattle.plan.proofs.Common.{needs, ne_eqb, to_z-of_z}
+use Rattle.plan.proofs.Common.{rules, ne_eqb, to_z-of_z}
 use Rattle.plan.specs.law.NodeRules.{boundary_flow_kept}
 use Rattle.plan.proofs.nodes.flow_kept.Statement.{statement}
 use Rattle.plan.proofs.nodes.flow_kept.Tie as tie
@@ -19,4 +19,4 @@ returns_3 c =
     rw (ne_eqb _ _ m.match.rest.0.1, ne_eqb _ _ m.match.rest.1) (simp (to_z-of_z m.before.ranges.d) at c.same.ensures)
 
 pub flow_kept_spec : {M : Type 1} → statement M
-flow_kept_spec = tie.close (tie.spec (λ c κs. search needs) (λ c κs. search needs) (λ c κs. search needs) returns returns_2 returns_3)
+flow_kept_spec = tie.close (tie.spec (λ c κs. search rules) (λ c κs. search rules) (λ c κs. search rules) returns returns_2 returns_3)

@@ -1,5 +1,5 @@
 -- 21 first: past it the row's numbers are in range, so that 22 and 23 can be reckoned.
-use Rattle.plan.proofs.Common.{◌≡◌, sym, ap₂, ◌∙◌, true, false, ◌+◌, ◌≤◌, arith, needs, counted}
+use Rattle.plan.proofs.Common.{◌≡◌, sym, ap₂, ◌∙◌, true, false, ◌+◌, ◌≤◌, arith, rules, counted}
 use Rattle.case.specs.law.Records.{node_of}
 use Rattle.plan.specs.law.PlanRecords.{node_row}
 use Rattle.plan.specs.law.NodeRules.{node_numbers_kept, demand_met, active_bounds_kept, node_questions}
@@ -50,7 +50,7 @@ returns_2 c =
 
 pub node_answer_spec : {M : Type 1} → statement M
 node_answer_spec = tie.close (tie.spec
-    (λ c κs. search needs) (λ c κs. let p = c.before.requires in omega (arith, (counted p.0).nodes, p.2)) (λ c κs. node_is c.before)
-    (λ c κs. row_sized c) (λ c. omega (arith, few c.before.before.before.before.before)) (λ c κs. search needs)
+    (λ c κs. search rules) (λ c κs. let p = c.before.requires in omega (arith, (counted p.0).nodes, p.2)) (λ c κs. node_is c.before)
+    (λ c κs. row_sized c) (λ c. omega (arith, few c.before.before.before.before.before)) (λ c κs. search rules)
     (λ c κs. row_sized c.before.before) (λ c. omega (arith, few c.before.before.before.before.before.before.before))
-    (λ c κs. search needs) (λ c κs. search needs) (λ c. omega (arith, few c.before.before.before.before)) returns returns_2)
+    (λ c κs. search rules) (λ c κs. search rules) (λ c. omega (arith, few c.before.before.before.before)) returns returns_2)

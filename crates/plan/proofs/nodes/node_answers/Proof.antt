@@ -1,5 +1,5 @@
 -- The first "no" of all nodes is that of the nodes not yet passed; a node that answers "no" ends the loop.
-use Rattle.plan.proofs.Common.{◌≡◌, sym, ℕ, ◌-◌, ◌≤◌, arith, needs, counted}
+use Rattle.plan.proofs.Common.{◌≡◌, sym, ℕ, ◌-◌, ◌≤◌, arith, rules, counted}
 use mathlib.Core.List.{List}
 use Rattle.numbers.specs.law.Question.{Question, first_no}
 use Rattle.numbers.specs.law.Items.{over}
@@ -53,5 +53,5 @@ returns_2 c =
 
 pub node_answers_spec : {M : Type 1} → statement M
 node_answers_spec = tie.close (tie.spec
-    invariant-loop decreases-loop loop_holds (λ c κs. let p = c.before.before.requires in (p.0, p.1, rw p.2 at c.loop-test.true)) (λ c. search needs)
-    (λ c. search needs) returns add_v (λ c. omega arith) loop_again returns_2)
+    invariant-loop decreases-loop loop_holds (λ c κs. let p = c.before.before.requires in (p.0, p.1, rw p.2 at c.loop-test.true)) (λ c. search rules)
+    (λ c. search rules) returns add_v (λ c. omega arith) loop_again returns_2)

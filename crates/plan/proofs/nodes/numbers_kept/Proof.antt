@@ -1,5 +1,5 @@
 -- What each part of 21 read is what the row holds, so the three answers make up the rule.
-use Rattle.plan.proofs.Common.{ap, ap₂, ◌∙◌, ◌&&◌, needs, kept}
+use Rattle.plan.proofs.Common.{ap, ap₂, ◌∙◌, ◌&&◌, rules, kept}
 use Rattle.plan.specs.law.NodeRules.{node_numbers_kept, boundary_flow_kept}
 use Rattle.plan.proofs.SignedReads.{within_read}
 use Rattle.plan.proofs.nodes.numbers_kept.Statement.{statement}
@@ -24,4 +24,4 @@ returns c =
 
 pub numbers_kept_spec : {M : Type 1} → statement M
 numbers_kept_spec = tie.close (tie.spec
-    (λ c κs. search needs) (λ c κs. search needs) (λ c κs. search needs) (λ c κs. search needs) (λ c κs. search needs) returns)
+    (λ c κs. search rules) (λ c κs. search rules) (λ c κs. search rules) (λ c κs. search rules) (λ c κs. search rules) returns)

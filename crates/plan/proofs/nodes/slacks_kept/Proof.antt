@@ -1,5 +1,5 @@
 -- Each slack is held against its own limit, and what the code read of slacks and limits is what they are.
-use Rattle.plan.proofs.Common.{refl, ap, ap₂, ◌∙◌, ◌&&◌, needs, pos, held, held_fits, param, ◌-ʳ◌, kept}
+use Rattle.plan.proofs.Common.{refl, ap, ap₂, ◌∙◌, ◌&&◌, rules, pos, held, held_fits, param, ◌-ʳ◌, kept}
 use Rattle.plan.specs.law.NodeRules.{slack_limit, slacks_kept}
 use Rattle.plan.proofs.SignedReads.{as_told, within_read}
 use Rattle.plan.proofs.nodes.slacks_kept.Statement.{statement}
@@ -38,5 +38,5 @@ returns c =
 
 pub slacks_kept_spec : {M : Type 1} → statement M
 slacks_kept_spec = tie.close (tie.spec
-    (λ c κs. search needs) sub_slack_limit (λ c κs. search needs) sub_slack_limit_2 (λ c κs. search needs) (λ c κs. search needs)
-    (λ c κs. search needs) (λ c κs. search needs) (λ c κs. search needs) (λ c κs. search needs) (λ c κs. search needs) (λ c κs. search needs) returns)
+    (λ c κs. search rules) sub_slack_limit (λ c κs. search rules) sub_slack_limit_2 (λ c κs. search rules) (λ c κs. search rules)
+    (λ c κs. search rules) (λ c κs. search rules) (λ c κs. search rules) (λ c κs. search rules) (λ c κs. search rules) (λ c κs. search rules) returns)

@@ -1,5 +1,5 @@
 -- After each arc the arrays hold, of every station, the machines taken and whether one was taken twice.
-use Rattle.plan.proofs.Common.{◌≡◌, ap, ◌∙◌, ⊎_elim, ◌-◌, ◌^◌, ◌<◌, ◌≤◌, arith, needs, counted}
+use Rattle.plan.proofs.Common.{◌≡◌, ap, ◌∙◌, ⊎_elim, ◌-◌, ◌^◌, ◌<◌, ◌≤◌, arith, rules, counted}
 use Rattle.numbers.specs.law.Signed.{pos_part}
 use Rattle.case.specs.law.Layout.{arcs_of}
 use Rattle.plan.specs.law.PlanRecords.{arc_row}
@@ -58,5 +58,5 @@ returns c =
 pub machines_once_spec : {M : Type 1} → statement M
 machines_once_spec = tie.close (tie.spec
     invariant-loop decreases-loop loop_holds (λ c κs. (c.before.before.requires.0, arc_in c))
-    (λ c κs. let t = c.before.before in (counted t.before.before.requires.0, arc_in t)) (λ c κs. search needs) (λ c. omega arith)
+    (λ c κs. let t = c.before.before in (counted t.before.before.requires.0, arc_in t)) (λ c κs. search rules) (λ c. omega arith)
     (λ c. omega arith) (λ c. omega arith) (λ c. omega arith) (λ c. omega arith) (λ c. omega arith) (λ c. omega arith) loop_again returns)

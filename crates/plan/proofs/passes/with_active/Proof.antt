@@ -1,5 +1,5 @@
 -- An active arc sets the bit of its place, which is above all that are set.
-use Rattle.plan.proofs.Common.{◌≡◌, sym, ap, ◌∙◌, ◌^◌, ◌<◌, arith, needs, pos, le_z}
+use Rattle.plan.proofs.Common.{◌≡◌, sym, ap, ◌∙◌, ◌^◌, ◌<◌, arith, rules, pos, le_z}
 use lib.Pow.{pow-lt}
 use Rattle.numbers.specs.inside.ItemBits.{shifted}
 use Rattle.plan.specs.law.PlanRecords.{active_in}
@@ -25,4 +25,4 @@ returns_2 : tie.Need-returns-2
 returns_2 c = rw (sym (active c.before) ∙ c.if1.false) (omega arith)
 
 pub with_active_spec : {M : Type 1} → statement M
-with_active_spec = tie.close (tie.spec (λ c κs. (c.requires.0, c.requires.1)) (λ c κs. search needs) (λ c. omega arith) add_result returns returns_2)
+with_active_spec = tie.close (tie.spec (λ c κs. (c.requires.0, c.requires.1)) (λ c κs. search rules) (λ c. omega arith) add_result returns returns_2)

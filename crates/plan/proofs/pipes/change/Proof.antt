@@ -1,5 +1,5 @@
 -- The two pressures are small, so their difference is what it is in whole numbers.
-use Rattle.plan.proofs.Common.{needs, ◌-ℤ◌, w64, to_z, of_z, Held, held, held_fits, ◌-ʳ◌}
+use Rattle.plan.proofs.Common.{rules, ◌-ℤ◌, w64, to_z, of_z, Held, held, held_fits, ◌-ʳ◌}
 use Rattle.case.specs.law.Layout.{number_at}
 use Rattle.plan.specs.law.Pipes.{change}
 use Rattle.plan.proofs.SignedReads.{read}
@@ -14,4 +14,4 @@ returns : tie.Need-returns
 returns c = (held (moved c) tt).val
 
 pub change_spec : {M : Type 1} → statement M
-change_spec = tie.close (tie.spec (λ c κs. search needs) (λ c κs. search needs) (λ c. held_fits (moved c) tt) returns)
+change_spec = tie.close (tie.spec (λ c κs. search rules) (λ c κs. search rules) (λ c. held_fits (moved c) tt) returns)

@@ -1,5 +1,5 @@
 -- Times of an accepted case that follow one another lie at most a day apart, so their difference does not overflow.
-use Rattle.plan.proofs.Common.{ap₂, needs, ◌-ℤ◌, w64, to_z, of_z, Held, held, held_fits}
+use Rattle.plan.proofs.Common.{ap₂, rules, ◌-ℤ◌, w64, to_z, of_z, Held, held, held_fits}
 use Rattle.plan.specs.law.Pipes.{duration}
 use Rattle.plan.specs.inside.CaseSizes.{duration_sized}
 use Rattle.plan.proofs.SignedReads.{as_told}
@@ -21,4 +21,4 @@ returns : tie.Need-returns
 returns c = (held (passed c) tt).val
 
 pub duration_spec : {M : Type 1} → statement M
-duration_spec = tie.close (tie.spec (λ c κs. search needs) (λ c κs. search needs) (λ c. held_fits (passed c) tt) returns)
+duration_spec = tie.close (tie.spec (λ c κs. search rules) (λ c κs. search rules) (λ c. held_fits (passed c) tt) returns)

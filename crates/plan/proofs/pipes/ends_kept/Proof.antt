@@ -1,5 +1,5 @@
 -- The size of the inner side is small enough to be read as a signed number, and so is the product with H.
-use Rattle.plan.proofs.Common.{◌≡◌, ap, ap₂, ◌∙◌, true, ◌≤◌, arith, needs, eq-eqb, pos, nat_abs, le_z, w64, to_z, of_z, Held, held, held_fits}
+use Rattle.plan.proofs.Common.{◌≡◌, ap, ap₂, ◌∙◌, true, ◌≤◌, arith, rules, eq-eqb, pos, nat_abs, le_z, w64, to_z, of_z, Held, held, held_fits}
 use Rattle.plan.proofs.Common.{param, literal, ◌*ʳ◌}
 use Rattle.numbers.specs.inside.SignedLocals.{fit}
 use Rattle.case.specs.law.Layout.{pressure_tolerance}
@@ -36,5 +36,5 @@ returns c =
 
 pub ends_kept_spec : {M : Type 1} → statement M
 ends_kept_spec = tie.close (tie.spec
-    (λ c κs. search needs) (λ c κs. omega (arith, (read_bounded (ends c)).bound)) (λ c. fit (record { bound = ends_small c }) tt)
-    (λ c κs. search needs) (λ c. held_fits (literal (pos 1000000) *ʳ most c) tt) (λ c κs. search needs) returns)
+    (λ c κs. search rules) (λ c κs. omega (arith, (read_bounded (ends c)).bound)) (λ c. fit (record { bound = ends_small c }) tt)
+    (λ c κs. search rules) (λ c. held_fits (literal (pos 1000000) *ʳ most c) tt) (λ c κs. search rules) returns)

@@ -1,5 +1,5 @@
 -- The residual is small enough to be read as a signed number, and E is read as it stands in the case.
-use Rattle.plan.proofs.Common.{◌≡◌, ap, ap₂, ◌∙◌, true, ◌≤◌, needs, eq-eqb, pos, le_z, param}
+use Rattle.plan.proofs.Common.{◌≡◌, ap, ap₂, ◌∙◌, true, ◌≤◌, rules, eq-eqb, pos, le_z, param}
 use Rattle.numbers.specs.inside.SignedLocals.{fit}
 use Rattle.plan.specs.law.Pipes.{is_pipe, pipe_residual, pipe_mass_kept}
 use Rattle.plan.proofs.ArcLaws.{imbalance_sized}
@@ -23,4 +23,4 @@ returns c =
 
 pub mass_kept_spec : {M : Type 1} → statement M
 mass_kept_spec = tie.close (tie.spec
-    (λ c κs. search needs) (λ c. fit (record { bound = mass_small c }) tt) (λ c κs. search needs) (λ c κs. search needs) returns)
+    (λ c κs. search rules) (λ c. fit (record { bound = mass_small c }) tt) (λ c κs. search rules) (λ c κs. search rules) returns)

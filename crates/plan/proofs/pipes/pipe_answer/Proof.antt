@@ -1,5 +1,5 @@
 -- Only a pipe, which is an arc of kind 2, is asked 28 and 29.
-use Rattle.plan.proofs.Common.{◌≡◌, sym, ap, ◌∙◌, false, needs, ne_eqb}
+use Rattle.plan.proofs.Common.{◌≡◌, sym, ap, ◌∙◌, false, rules, ne_eqb}
 use Rattle.case.specs.declared.records.Arc.{Arc}
 use Rattle.plan.specs.law.Pipes.{is_pipe, pipe_mass_kept, pipe_pressures_kept}
 use Rattle.plan.specs.law.ArcRules.{pipe_questions}
@@ -11,7 +11,7 @@ pipe_kept_requires c κs =
     record { at = c.before.before.requires; pipe = sym (ap (λ (x : Arc). x.kind) c.before.arc.ensures) ∙ c.match.keys1 }
 
 returns : tie.Need-returns
-returns c = search needs
+returns c = search rules
 
 returns_2 : tie.Need-returns-2
 unfolding pipe_questions pipe_mass_kept pipe_pressures_kept
@@ -22,4 +22,4 @@ returns_2 c =
     rw k
 
 pub pipe_answer_spec : {M : Type 1} → statement M
-pipe_answer_spec = tie.close (tie.spec (λ c κs. search needs) pipe_kept_requires returns returns_2)
+pipe_answer_spec = tie.close (tie.spec (λ c κs. search rules) pipe_kept_requires returns returns_2)

@@ -1,5 +1,5 @@
 -- 28 and then 29, each by the answer that was found.
-use Rattle.plan.proofs.Common.{◌+◌, ◌≤◌, arith, needs, counted}
+use Rattle.plan.proofs.Common.{◌+◌, ◌≤◌, arith, rules, counted}
 use Rattle.plan.specs.law.ArcRules.{pipe_questions}
 use Rattle.plan.proofs.Questions.{two_asked}
 use Rattle.plan.proofs.pipes.pipe_kept.Statement.{statement}
@@ -20,5 +20,5 @@ returns c =
 
 pub pipe_kept_spec : {M : Type 1} → statement M
 pipe_kept_spec = tie.close (tie.spec
-    (λ c κs. search needs) (λ c κs. search needs) (λ c. omega (arith, few c.before.before)) (λ c κs. search needs)
-    (λ c. omega (arith, few c.before.before.before)) (λ c κs. search needs) (λ c κs. search needs) returns)
+    (λ c κs. search rules) (λ c κs. search rules) (λ c. omega (arith, few c.before.before)) (λ c κs. search rules)
+    (λ c. omega (arith, few c.before.before.before)) (λ c κs. search rules) (λ c κs. search rules) returns)

@@ -1,5 +1,5 @@
 -- What was read makes up the sum of 28 (`sum_read`), and the residual is its size.
-use Rattle.plan.proofs.Common.{ap, ◌∙◌, arith, needs, ℤ, nat_abs, w64, to_z, of_z, Held, held, counted}
+use Rattle.plan.proofs.Common.{ap, ◌∙◌, arith, rules, ℤ, nat_abs, w64, to_z, of_z, Held, held, counted}
 use Rattle.case.specs.law.Layout.{number_at}
 use Rattle.plan.specs.law.Pipes.{pipe_imbalance, pipe_residual}
 use Rattle.plan.proofs.ArcLaws.{SumRead, sum_read, from_in, to_in}
@@ -46,5 +46,5 @@ returns c = c.size.ensures ∙ ap nat_abs (whole c.before).val
 
 pub pipe_residual_spec : {M : Type 1} → statement M
 pipe_residual_spec = tie.close (tie.spec
-    (λ c κs. search needs) (λ c κs. let a = c.before.requires.at in (counted a.accepted, a.arc)) change_requires change_requires_2
-    (λ c κs. search needs) (λ c κs. search needs) (λ c κs. (parts c).sizes) (λ c κs. omega (arith, (read_bounded (whole c)).bound)) returns)
+    (λ c κs. search rules) (λ c κs. let a = c.before.requires.at in (counted a.accepted, a.arc)) change_requires change_requires_2
+    (λ c κs. search rules) (λ c κs. search rules) (λ c κs. (parts c).sizes) (λ c κs. omega (arith, (read_bounded (whole c)).bound)) returns)

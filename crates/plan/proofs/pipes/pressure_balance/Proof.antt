@@ -1,5 +1,5 @@
 -- The seven numbers are read as case and plan have them, and are so small that each sum and product of 29 fits.
-use Rattle.plan.proofs.Common.{ap, ◌∙◌, arith, needs, ℤ, pos, ◌+ℤ◌, ◌-ℤ◌, w64, to_z, of_z, Held, held, held_fits, literal, ◌+ʳ◌, ◌-ʳ◌, ◌*ʳ◌, counted}
+use Rattle.plan.proofs.Common.{ap, ◌∙◌, arith, rules, ℤ, pos, ◌+ℤ◌, ◌-ℤ◌, w64, to_z, of_z, Held, held, held_fits, literal, ◌+ʳ◌, ◌-ʳ◌, ◌*ʳ◌, counted}
 use lib.IntN.{◌*ℤ◌}
 use Rattle.case.specs.declared.records.Arc.{Arc}
 use Rattle.case.specs.declared.records.Pipe.{Pipe}
@@ -115,7 +115,7 @@ returns c =
 
 pub pressure_balance_spec : {M : Type 1} → statement M
 pressure_balance_spec = tie.close (tie.spec
-    (λ c κs. search needs) (λ c κs. search needs) (λ c κs. let a = c.before.before.requires.at in (counted a.accepted, a.arc)) pressure_requires
+    (λ c κs. search rules) (λ c κs. search rules) (λ c κs. let a = c.before.before.requires.at in (counted a.accepted, a.arc)) pressure_requires
     pressure_requires_2 (λ c. held_fits (to c -ʳ from c) tt) (λ c. held_fits (literal (pos 1000000) *ʳ held (to c -ʳ from c) tt) tt)
     (λ c. let d = c.before.before.before.before in held_fits (f d *ʳ a d) tt) add_result
     (λ c. let d = c.before.before.before.before.before.before.before.before in held_fits (g d *ʳ b d) tt) add_result_2

@@ -1,5 +1,5 @@
 -- The first two tests are of the pressures and the bound as they were read, the third is `within_reach`.
-use Rattle.plan.proofs.Common.{◌≡◌, sym, ap₂, ◌∙◌, arith, needs, ℤ, le_z, counted}
+use Rattle.plan.proofs.Common.{◌≡◌, sym, ap₂, ◌∙◌, arith, rules, ℤ, le_z, counted}
 use Rattle.case.specs.law.Records.{node_of, artificial_of}
 use Rattle.plan.specs.law.PlanRecords.{pressure_in}
 use Rattle.plan.specs.law.ArcPressures.{out_bound, compression_kept}
@@ -50,5 +50,5 @@ pub compression_kept_spec : {M : Type 1} → statement M
 compression_kept_spec = tie.close (tie.spec
     (λ c κs. let p = c.requires.0 in omega (arith, p.out_node, (counted p.accepted).nodes))
     (λ c κs. let p = c.before.requires.0 in omega (arith, p.in_node, (counted p.accepted).nodes))
-    (λ c κs. search needs) (λ c κs. search needs) (λ c κs. search needs) (λ c κs. search needs) (λ c κs. search needs) (λ c κs. search needs)
+    (λ c κs. search rules) (λ c κs. search rules) (λ c κs. search rules) (λ c κs. search rules) (λ c κs. search rules) (λ c κs. search rules)
     returns returns_2 returns_3)

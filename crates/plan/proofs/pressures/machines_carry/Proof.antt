@@ -1,5 +1,5 @@
 -- What was counted and read are the row's machines, so the two tests are those of the rule.
-use Rattle.plan.proofs.Common.{◌≡◌, ap, ap₂, ◌∙◌, needs, le-leb, lt-leb, le_z, w64, to_z, of_z, to_z-of_z, counted}
+use Rattle.plan.proofs.Common.{◌≡◌, ap, ap₂, ◌∙◌, rules, le-leb, lt-leb, le_z, w64, to_z, of_z, to_z-of_z, counted}
 use Rattle.numbers.specs.law.Sets.{count_of}
 use Rattle.case.specs.declared.records.Artificial.{Artificial}
 use Rattle.case.specs.law.Records.{artificial_of}
@@ -44,5 +44,5 @@ returns_2 c = let k = c.before in rw (lt-leb _ _ (simp (count_is k, most_is k) a
 
 pub machines_carry_spec : {M : Type 1} → statement M
 machines_carry_spec = tie.close (tie.spec
-    (λ c κs. (counted c.requires.0, c.requires.1)) (λ c κs. search needs) (λ c κs. search needs) (λ c κs. (start c.before).requires.3)
-    (λ c κs. search needs) returns returns_2)
+    (λ c κs. (counted c.requires.0, c.requires.1)) (λ c κs. search rules) (λ c κs. search rules) (λ c κs. (start c.before).requires.3)
+    (λ c κs. search rules) returns returns_2)

@@ -1,5 +1,5 @@
 -- Only compressors and combined arcs compress; any other arc has no machines, whatever its setting.
-use Rattle.plan.proofs.Common.{◌≡◌, ap, ap₂, ◌∙◌, ◌≤◌, arith, needs, counted}
+use Rattle.plan.proofs.Common.{◌≡◌, ap, ap₂, ◌∙◌, ◌≤◌, arith, rules, counted}
 use Rattle.case.specs.declared.records.Arc.{Arc}
 use Rattle.case.specs.law.Records.{arc_of}
 use Rattle.plan.specs.law.Compared.{is_zero}
@@ -36,5 +36,5 @@ returns_2 c =
 
 pub machines_used_spec : {M : Type 1} → statement M
 machines_used_spec = tie.close (tie.spec
-    (λ c κs. let a = c.before.requires in (counted a.at.accepted, a.arc)) (λ c κs. search needs) (λ c κs. search needs) (λ c κs. search needs)
+    (λ c κs. let a = c.before.requires in (counted a.at.accepted, a.arc)) (λ c κs. search rules) (λ c κs. search rules) (λ c κs. search rules)
     (λ c κs. (c.before.before.before.before.before.before.requires, setting_is c)) returns returns_2)

@@ -1,5 +1,5 @@
 -- A compressing arc is a station's, whose machines must carry its flow; in any other mode it has no machines.
-use Rattle.plan.proofs.Common.{ap, ◌∙◌, needs, to_z-of_z, counted}
+use Rattle.plan.proofs.Common.{ap, ◌∙◌, rules, to_z-of_z, counted}
 use Rattle.plan.specs.law.Compared.{is_zero}
 use Rattle.plan.specs.law.ArcMachines.{machines_carry}
 use Rattle.plan.proofs.ArcLaws.{offset_is, offset_machines}
@@ -35,6 +35,6 @@ returns_3 c =
 
 pub mode_machines_spec : {M : Type 1} → statement M
 mode_machines_spec = tie.close (tie.spec
-    (λ c. search needs) (λ c κs. search needs) (λ c κs. search needs) machines_carry_requires (λ c. search needs)
-    (λ c κs. let a = c.before.before.before.requires.0 in (counted a.at.accepted, a.arc)) (λ c κs. search needs) (λ c. search needs)
-    (λ c κs. let a = c.before.before.before.requires.0 in (counted a.at.accepted, a.arc)) (λ c κs. search needs) returns returns_2 returns_3)
+    (λ c. search rules) (λ c κs. search rules) (λ c κs. search rules) machines_carry_requires (λ c. search rules)
+    (λ c κs. let a = c.before.before.before.requires.0 in (counted a.at.accepted, a.arc)) (λ c κs. search rules) (λ c. search rules)
+    (λ c κs. let a = c.before.before.before.requires.0 in (counted a.at.accepted, a.arc)) (λ c κs. search rules) returns returns_2 returns_3)

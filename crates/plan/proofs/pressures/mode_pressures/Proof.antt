@@ -1,5 +1,5 @@
 -- The mode chooses the test of the two end pressures, which were read as the rows have them.
-use Rattle.plan.proofs.Common.{◌<◌, arith, needs, counted}
+use Rattle.plan.proofs.Common.{◌<◌, arith, rules, counted}
 use Rattle.plan.proofs.ArcLaws.{offset_is, compresses}
 use Rattle.plan.proofs.SignedReads.{as_told}
 use Rattle.plan.proofs.pressures.mode_pressures.Statement.{statement}
@@ -36,6 +36,6 @@ returns_3 c = rw c.before.before.before.enum_told3.given.1 c.compression_kept.en
 
 pub mode_pressures_spec : {M : Type 1} → statement M
 mode_pressures_spec = tie.close (tie.spec
-    (λ c. search needs) (λ c κs. in_small c.before.before.before) (λ c κs. out_small c.before.before.before.before) (λ c κs. search needs)
-    (λ c. search needs) (λ c κs. out_small c.before.before.before) (λ c κs. in_small c.before.before.before.before) (λ c κs. search needs)
-    (λ c. search needs) (λ c κs. search needs) (λ c κs. search needs) compression_kept_requires returns returns_2 returns_3)
+    (λ c. search rules) (λ c κs. in_small c.before.before.before) (λ c κs. out_small c.before.before.before.before) (λ c κs. search rules)
+    (λ c. search rules) (λ c κs. out_small c.before.before.before) (λ c κs. in_small c.before.before.before.before) (λ c κs. search rules)
+    (λ c. search rules) (λ c κs. search rules) (λ c κs. search rules) compression_kept_requires returns returns_2 returns_3)

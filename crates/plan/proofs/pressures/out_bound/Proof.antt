@@ -1,5 +1,5 @@
 -- 0 stands for acthigh of the node that was handed over, and the test that chose reads the arc's field as it is.
-use Rattle.plan.proofs.Common.{sym, ap, ◌∙◌, needs, kept}
+use Rattle.plan.proofs.Common.{sym, ap, ◌∙◌, rules, kept}
 use Rattle.plan.specs.law.Compared.{is_zero}
 use Rattle.plan.proofs.pressures.out_bound.Statement.{statement}
 use Rattle.plan.proofs.pressures.out_bound.Tie as tie
@@ -18,4 +18,4 @@ returns_2 c =
     rw (sym (c.before.before.same.ensures ∙ ap is_zero k) ∙ c.before.if1.false) k
 
 pub out_bound_spec : {M : Type 1} → statement M
-out_bound_spec = tie.close (tie.spec (λ c κs. search needs) returns returns_2)
+out_bound_spec = tie.close (tie.spec (λ c κs. search rules) returns returns_2)

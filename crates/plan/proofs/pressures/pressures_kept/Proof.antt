@@ -1,5 +1,5 @@
 -- Along an arc of kind 1 the pressure may not rise; any other is judged by its setting, read as the row has it.
-use Rattle.plan.proofs.Common.{◌≡◌, sym, ap, ap₂, ◌∙◌, false, arith, needs, eq-eqb, ne_eqb, eqb, le_z, counted}
+use Rattle.plan.proofs.Common.{◌≡◌, sym, ap, ap₂, ◌∙◌, false, arith, rules, eq-eqb, ne_eqb, eqb, le_z, counted}
 use Rattle.case.specs.declared.records.Arc.{Arc}
 use Rattle.case.specs.law.Records.{arc_of}
 use Rattle.plan.specs.law.PlanRecords.{pressure_in}
@@ -48,6 +48,6 @@ returns_2 c =
 
 pub pressures_kept_spec : {M : Type 1} → statement M
 pressures_kept_spec = tie.close (tie.spec
-    (λ c κs. search needs) pressure_requires pressure_requires_2 (λ c κs. search needs)
-    (λ c κs. let a = c.before.before.before.requires in (counted a.at.accepted, a.arc)) (λ c κs. search needs)
+    (λ c κs. search rules) pressure_requires pressure_requires_2 (λ c κs. search rules)
+    (λ c κs. let a = c.before.before.before.requires in (counted a.at.accepted, a.arc)) (λ c κs. search rules)
     (λ c κs. (c.before.before.before.before.before.before.requires, setting_is c)) returns returns_2)

@@ -1,5 +1,5 @@
 -- An arc that is not active has no machines; an active one is judged by its mode, with the flow of its way.
-use Rattle.plan.proofs.Common.{sym, ap, ◌∙◌, needs, counted}
+use Rattle.plan.proofs.Common.{sym, ap, ◌∙◌, rules, counted}
 use Rattle.plan.specs.declared.setting.Setting.TheVariants.{Active}
 use Rattle.plan.specs.law.Compared.{is_zero}
 use Rattle.plan.specs.law.ArcMachines.{mode_machines}
@@ -56,6 +56,6 @@ returns_4 c =
 
 pub setting_machines_spec : {M : Type 1} → statement M
 setting_machines_spec = tie.close (tie.spec
-    (λ c κs. let a = c.before.requires.0 in (counted a.at.accepted, a.arc)) (λ c. search needs) (λ c κs. search needs) (λ c. search needs)
-    (λ c κs. search needs) (λ c. search needs) (λ c. search needs) mode_machines_requires (λ c. search needs) mode_machines_requires_2 returns
+    (λ c κs. let a = c.before.requires.0 in (counted a.at.accepted, a.arc)) (λ c. search rules) (λ c κs. search rules) (λ c. search rules)
+    (λ c κs. search rules) (λ c. search rules) (λ c. search rules) mode_machines_requires (λ c. search rules) mode_machines_requires_2 returns
     returns_2 returns_3 returns_4)

@@ -1,5 +1,5 @@
 -- The setting's way says which end is in; only an active arc is asked for more, by its mode.
-use Rattle.plan.proofs.Common.{sym, ap, ◌∙◌, needs}
+use Rattle.plan.proofs.Common.{sym, ap, ◌∙◌, rules}
 use Rattle.case.specs.declared.records.Arc.{Arc}
 use Rattle.plan.specs.declared.setting.Setting.TheVariants.{Active}
 use Rattle.plan.specs.law.ArcPressures.{mode_pressures}
@@ -30,7 +30,7 @@ mode_pressures_requires_2 c κs =
     -- either end is a node: which end is which, the promise decides
     let from = from_in a.at.accepted a.arc q in
     let to = to_in a.at.accepted a.arc q in
-    (a, search needs, search needs, λ m. compressing_kind _ _ w (sym p.1 ∙ t.setting.given.1 ∙ ap (Active w) m))
+    (a, search rules, search rules, λ m. compressing_kind _ _ w (sym p.1 ∙ t.setting.given.1 ∙ ap (Active w) m))
 
 returns : tie.Need-returns
 returns c = rw c.enum_told.given.1
@@ -56,5 +56,5 @@ returns_4 c =
 
 pub setting_pressures_spec : {M : Type 1} → statement M
 setting_pressures_spec = tie.close (tie.spec
-    (λ c. search needs) (λ c. search needs) (λ c. search needs) (λ c κs. search needs) (λ c. search needs) mode_pressures_requires
-    (λ c. search needs) mode_pressures_requires_2 returns returns_2 returns_3 returns_4)
+    (λ c. search rules) (λ c. search rules) (λ c. search rules) (λ c κs. search rules) (λ c. search rules) mode_pressures_requires
+    (λ c. search rules) mode_pressures_requires_2 returns returns_2 returns_3 returns_4)

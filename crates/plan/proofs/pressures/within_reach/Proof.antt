@@ -1,5 +1,5 @@
 -- The test is of the two pressures and the ratio as they were read; each is small enough to multiply.
-use Rattle.plan.proofs.Common.{ap₂, ◌∙◌, arith, needs, pos, ◌+ℤ◌, le_z, w64, to_z, of_z, Held, held, held_fits, literal, ◌+ʳ◌, ◌*ʳ◌, counted}
+use Rattle.plan.proofs.Common.{ap₂, ◌∙◌, arith, rules, pos, ◌+ℤ◌, le_z, w64, to_z, of_z, Held, held, held_fits, literal, ◌+ʳ◌, ◌*ʳ◌, counted}
 use mathlib.Core.Path.{subst}
 use Rattle.plan.specs.law.PlanRecords.{pressure_in, arc_row}
 use Rattle.plan.specs.law.Machines.{machine_gain}
@@ -55,4 +55,4 @@ within_reach_spec = tie.close (tie.spec
     (λ c κs. let p = c.before.before.requires in (counted p.accepted, p.arc))
     (λ c κs. c.before.before.before.before.requires.machines) (λ c. held_fits (literal (pos 1000) +ʳ gain c) tt)
     (λ c. held_fits (literal (pos 1000) *ʳ out_read c.before.before.before) tt)
-    (λ c. held_fits (in_read c.before.before.before.before *ʳ ratio c) tt) (λ c κs. search needs) returns)
+    (λ c. held_fits (in_read c.before.before.before.before *ʳ ratio c) tt) (λ c κs. search rules) returns)

@@ -1,6 +1,6 @@
 -- The array holds the activity of the arcs passed, and each turn sets that of the next arc.
 use Rattle.case.specs.law.Extents.{arc_capacity}
-use Rattle.plan.proofs.Common.{refl, ap, ◌∙◌, false, ◌-◌, arith, needs, pos, le_z, kept}
+use Rattle.plan.proofs.Common.{refl, ap, ◌∙◌, false, ◌-◌, arith, rules, pos, le_z, kept}
 use Rattle.plan.specs.declared.rows.ArcRow.{ArcRow}
 use Rattle.plan.specs.law.PlanRecords.{active_in}
 use Rattle.plan.proofs.Filled.{Filling, start, turn, end}
@@ -28,5 +28,5 @@ returns c = end c.before.loop.invariant c.loop-test.false
 
 pub row_active_spec : {M : Type 1} → statement M
 row_active_spec = tie.close (tie.spec
-    invariant-loop decreases-loop loop_holds (λ c κs. search needs) (λ c κs. search needs) (λ c. omega arith) (λ c. omega arith)
+    invariant-loop decreases-loop loop_holds (λ c κs. search rules) (λ c κs. search rules) (λ c. omega arith) (λ c. omega arith)
     (λ c. omega arith) loop_again returns)

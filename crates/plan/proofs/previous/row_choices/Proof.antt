@@ -1,5 +1,5 @@
 -- The arrays hold the choices of the stations passed, and each turn sets those of the next station.
-use Rattle.plan.proofs.Common.{refl, ap, ◌-◌, ◌≤◌, arith, needs}
+use Rattle.plan.proofs.Common.{refl, ap, ◌-◌, ◌≤◌, arith, rules}
 use Rattle.plan.specs.declared.rows.Choice.{Choice}
 use Rattle.plan.specs.law.PlanRecords.{direction_in, state_in}
 use Rattle.plan.proofs.Filled.{Filling, start, turn, end}
@@ -32,5 +32,5 @@ returns c = let h = c.before.loop.invariant in record { directions = end h.0 c.l
 
 pub row_choices_spec : {M : Type 1} → statement M
 row_choices_spec = tie.close (tie.spec
-    invariant-loop decreases-loop (λ c. (start refl, start refl)) (λ c κs. search needs) (λ c κs. search needs) (λ c. omega arith) (λ c. omega arith)
-    (λ c κs. search needs) (λ c. omega arith) (λ c. omega arith) (λ c. omega arith) (λ c. omega arith) loop_again returns)
+    invariant-loop decreases-loop (λ c. (start refl, start refl)) (λ c κs. search rules) (λ c κs. search rules) (λ c. omega arith) (λ c. omega arith)
+    (λ c κs. search rules) (λ c. omega arith) (λ c. omega arith) (λ c. omega arith) (λ c. omega arith) loop_again returns)

@@ -1,6 +1,6 @@
 -- The array holds the activity at the start of the arcs passed, and each turn sets that of the next arc.
 use Rattle.case.specs.law.Extents.{arc_capacity}
-use Rattle.plan.proofs.Common.{refl, false, ◌-◌, arith, needs}
+use Rattle.plan.proofs.Common.{refl, false, ◌-◌, arith, rules}
 use Rattle.case.specs.law.States.{active_at_start}
 use Rattle.plan.proofs.Filled.{Filling, start, turn, end}
 use Rattle.plan.proofs.previous.start_active.Statement.{statement}
@@ -23,5 +23,5 @@ returns c = end c.before.loop.invariant c.loop-test.false
 
 pub start_active_spec : {M : Type 1} → statement M
 start_active_spec = tie.close (tie.spec
-    invariant-loop decreases-loop loop_holds (λ c κs. search needs) (λ c. omega arith) (λ c. omega arith) (λ c. omega arith)
+    invariant-loop decreases-loop loop_holds (λ c κs. search rules) (λ c. omega arith) (λ c. omega arith) (λ c. omega arith)
     loop_again returns)

@@ -1,5 +1,5 @@
 -- The arrays hold the choices of the stations passed; each is read from the station's row, where the layout says it begins.
-use Rattle.plan.proofs.Common.{refl, ap, ◌∙◌, ◌-◌, ◌≤◌, arith, needs}
+use Rattle.plan.proofs.Common.{refl, ap, ◌∙◌, ◌-◌, ◌≤◌, arith, rules}
 use Rattle.case.specs.declared.records.Station.{Station}
 use Rattle.case.specs.law.Layout.{stations_of}
 use Rattle.case.specs.law.Records.{station_row}
@@ -32,5 +32,5 @@ returns c =
 
 pub start_choices_spec : {M : Type 1} → statement M
 start_choices_spec = tie.close (tie.spec
-    invariant-loop decreases-loop (λ c. (start refl, start refl)) (λ c. omega arith) (λ c. omega arith) (λ c κs. search needs) (λ c. omega arith)
+    invariant-loop decreases-loop (λ c. (start refl, start refl)) (λ c. omega arith) (λ c. omega arith) (λ c κs. search rules) (λ c. omega arith)
     (λ c. omega arith) (λ c. omega arith) (λ c. omega arith) (λ c. omega arith) (λ c. omega arith) loop_again returns)

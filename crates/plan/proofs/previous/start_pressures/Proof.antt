@@ -1,6 +1,6 @@
 -- The array holds p0 of the nodes passed, and each turn sets that of the next node.
 use Rattle.case.specs.law.Extents.{node_capacity}
-use Rattle.plan.proofs.Common.{refl, ap, ◌∙◌, ◌-◌, arith, needs, pos, kept}
+use Rattle.plan.proofs.Common.{refl, ap, ◌∙◌, ◌-◌, arith, rules, pos, kept}
 use Rattle.case.specs.declared.records.Node.{Node}
 use Rattle.plan.specs.law.BeforeStep.{start_pressure}
 use Rattle.plan.proofs.Filled.{Filling, start, turn, end}
@@ -27,5 +27,5 @@ returns c = end c.before.loop.invariant c.loop-test.false
 
 pub start_pressures_spec : {M : Type 1} → statement M
 start_pressures_spec = tie.close (tie.spec
-    invariant-loop decreases-loop loop_holds (λ c κs. search needs) (λ c. omega arith) (λ c. omega arith) (λ c. omega arith)
+    invariant-loop decreases-loop loop_holds (λ c κs. search rules) (λ c. omega arith) (λ c. omega arith) (λ c. omega arith)
     (λ c. omega arith) loop_again returns)

@@ -1,6 +1,6 @@
 -- One term follows the code's sum and product, and says both that they fit and what they are.
 use Rattle.plan.specs.inside.SumSizes.{most_brought, most_edges, most_supplies}
-use Rattle.plan.proofs.Common.{arith, needs, w64, to_z, of_z, Held, held, held_fits, ◌+ʳ◌, ◌*ʳ◌, ◌+◌}
+use Rattle.plan.proofs.Common.{arith, rules, w64, to_z, of_z, Held, held, held_fits, ◌+ʳ◌, ◌*ʳ◌, ◌+◌}
 use lib.IntN.{◌+ℤ◌, ◌*ℤ◌}
 use Rattle.plan.specs.law.Region.{supplies_in, edge_flows, brought_in}
 use Rattle.plan.specs.inside.RegionSet.{inside_of}
@@ -47,4 +47,4 @@ returns c = (held (brought c) tt).val
 
 pub brought_in_spec : {M : Type 1} → statement M
 brought_in_spec = tie.close (tie.spec
-    supplies_requires edge_flows_requires (λ c κs. search needs) add_result mul_result returns)
+    supplies_requires edge_flows_requires (λ c κs. search rules) add_result mul_result returns)

@@ -1,5 +1,5 @@
 -- Both flows of the arc are read back as the law has them, and the inward flow of the same two answers and flows is the same.
-use Rattle.plan.proofs.Common.{ap, ◌∙◌, needs, w64, to_z, of_z, Held, held, kept}
+use Rattle.plan.proofs.Common.{ap, ◌∙◌, rules, w64, to_z, of_z, Held, held, kept}
 use Rattle.case.specs.declared.records.Arc.{Arc}
 use Rattle.plan.specs.law.Balance.{flow_at_from, flow_at_to}
 use Rattle.plan.specs.law.Region.{edge_flow}
@@ -34,4 +34,4 @@ returns c =
 
 pub edge_flow_spec : {M : Type 1} → statement M
 edge_flow_spec = tie.close (tie.spec
-    (λ c κs. search needs) (λ c κs. search needs) (λ c κs. search needs) (λ c κs. search needs) inward_requires returns)
+    (λ c κs. search rules) (λ c κs. search rules) (λ c κs. search rules) (λ c κs. search rules) inward_requires returns)

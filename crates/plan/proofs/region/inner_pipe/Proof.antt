@@ -1,5 +1,5 @@
 -- The code asks the law's three tests in the law's order, and stops at the first no.
-use Rattle.plan.proofs.Common.{◌≡◌, sym, ap, ◌∙◌, true, needs, eq-eqb, ne_eqb, eqb}
+use Rattle.plan.proofs.Common.{◌≡◌, sym, ap, ◌∙◌, true, rules, eq-eqb, ne_eqb, eqb}
 use Rattle.case.specs.declared.records.Arc.{Arc}
 use Rattle.plan.specs.inside.RegionSet.{inside_of}
 use Rattle.plan.specs.law.Pipes.{is_pipe}
@@ -30,4 +30,4 @@ returns_3 c = rw (ap (λ (x : Arc). eqb x.kind 2) (sym c.before.before.arc.ensur
 
 pub inner_pipe_spec : {M : Type 1} → statement M
 inner_pipe_spec = tie.close (tie.spec
-    (λ c κs. search needs) (λ c κs. search needs) (λ c κs. search needs) returns returns_2 returns_3)
+    (λ c κs. search rules) (λ c κs. search rules) (λ c κs. search rules) returns returns_2 returns_3)

@@ -1,6 +1,6 @@
 -- The sum so far is that of the nodes passed; each node's net flow is read from the array that was filled first, and leaves no more than the tolerance.
 use Rattle.case.specs.law.Extents.{node_capacity}
-use Rattle.plan.proofs.Common.{◌≡◌, sym, ◌∙◌, ⊎_elim, true, ℕ, ◌-◌, ◌≤◌, arith, needs, pos, w64, to_z-of_z, counted}
+use Rattle.plan.proofs.Common.{◌≡◌, sym, ◌∙◌, ⊎_elim, true, ℕ, ◌-◌, ◌≤◌, arith, rules, pos, w64, to_z-of_z, counted}
 use lib.ListN.{get_or}
 use Rattle.case.specs.law.Layout.{nodes_of}
 use Rattle.plan.specs.law.Balance.{node_residual}
@@ -66,5 +66,5 @@ returns c = whole_n c.before.loop.invariant.1 (omega arith)
 
 pub own_nodes_spec : {M : Type 1} → statement M
 own_nodes_spec = tie.close (tie.spec
-    invariant-loop decreases-loop (λ c κs. let p = c.before.requires in (p.2.accepted, p.1, p.2.flows)) loop_holds (λ c κs. search needs) (λ c. omega arith)
+    invariant-loop decreases-loop (λ c κs. let p = c.before.requires in (p.2.accepted, p.1, p.2.flows)) loop_holds (λ c κs. search rules) (λ c. omega arith)
     (λ c. omega arith) node_residual_requires add_sum (λ c. omega arith) (λ c. omega arith) loop_again returns)

@@ -1,5 +1,5 @@
 -- The sum so far is that of the nodes passed, and no node supplies more than a bound by which the whole sum fits.
-use Rattle.plan.proofs.Common.{◌≡◌, ap, ◌∙◌, ⊎_elim, true, ◌-◌, arith, needs, w64, to_z}
+use Rattle.plan.proofs.Common.{◌≡◌, ap, ◌∙◌, ⊎_elim, true, ◌-◌, arith, rules, w64, to_z}
 use Rattle.case.specs.law.Layout.{nodes_of}
 use Rattle.plan.specs.declared.rows.NodeRow.{NodeRow}
 use Rattle.plan.specs.law.PlanRecords.{node_row}
@@ -45,4 +45,4 @@ returns c = total c.before.loop.invariant (omega arith)
 
 pub supplies_spec : {M : Type 1} → statement M
 supplies_spec = tie.close (tie.spec
-    invariant-loop decreases-loop loop_holds (λ c κs. search needs) (λ c κs. omega arith) add_sum (λ c. omega arith) (λ c. omega arith) loop_again returns)
+    invariant-loop decreases-loop loop_holds (λ c κs. search rules) (λ c κs. omega arith) add_sum (λ c. omega arith) (λ c. omega arith) loop_again returns)

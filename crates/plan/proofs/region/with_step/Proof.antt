@@ -1,7 +1,7 @@
 -- Each figure is the old one with the step's: what a kept step brings and leaves is small, and so neither sum is too large.
 use mathlib.Core.Path.{◌≡◌, ap, ap₂, subst}
 use Rattle.plan.specs.inside.SumSizes.{most_brought, most_residual}
-use Rattle.plan.proofs.Common.{ℕ, ◌+◌, ◌≤◌, arith, needs, pos, ◌+ℤ◌, w64, to_z, of_z, counted}
+use Rattle.plan.proofs.Common.{ℕ, ◌+◌, ◌≤◌, arith, rules, pos, ◌+ℤ◌, w64, to_z, of_z, counted}
 use Rattle.case.specs.law.Layout.{number_at}
 use Rattle.case.specs.law.LayoutOf.{Holds}
 use Rattle.numbers.specs.inside.SignedLocals.{Held, plain, held, held_fits, ◌+ʳ◌}
@@ -49,7 +49,7 @@ returns c =
 
 pub with_step_spec : {M : Type 1} → statement M
 with_step_spec = tie.close (tie.spec
-    (λ c κs. search needs) (λ c κs. search needs) (λ c. search needs) (λ c κs. search needs)
+    (λ c κs. search rules) (λ c κs. search rules) (λ c. search rules) (λ c κs. search rules)
     (λ c κs. omega (arith, (begin c).requires.0, (counted (begin c).requires.2.accepted).nodes))
     (λ c. held_fits (brought c.before.before.before) tt) (λ c. omega (arith, left_small c.before.before.before))
     (λ c. let o = c.before.before.before.before in omega (arith, left_small o, (begin o).requires.3.residual)) returns)

@@ -1,6 +1,6 @@
 -- Each number is read where the law places it: the count of nodes is the case's, and no offset is large.
 use Rattle.case.specs.law.Extents.{arc_capacity, node_capacity}
-use Rattle.plan.proofs.Common.{◌≡◌, ◌∙◌, ◌<◌, ◌≤◌, arith, needs, kept}
+use Rattle.plan.proofs.Common.{◌≡◌, ◌∙◌, ◌<◌, ◌≤◌, arith, rules, kept}
 use Rattle.case.specs.law.Layout.{nodes_of}
 use Rattle.plan.proofs.Adding.{count_read}
 use Rattle.plan.proofs.rows.arc_row.Statement.{statement}
@@ -24,7 +24,7 @@ returns c =
 
 pub arc_row_spec : {M : Type 1} → statement M
 arc_row_spec = tie.close (tie.spec
-    (λ c κs. search needs) (λ c κs. search needs) (λ c. omega (arith, few c)) (λ c. search needs)
-    (λ c. omega (arith, few c)) (λ c κs. search needs) (λ c. omega (arith, few c.before)) (λ c κs. search needs)
-    (λ c. omega (arith, few c.before.before)) (λ c κs. search needs)
-    (λ c. omega (arith, few c.before.before.before)) (λ c κs. search needs) returns)
+    (λ c κs. search rules) (λ c κs. search rules) (λ c. omega (arith, few c)) (λ c. search rules)
+    (λ c. omega (arith, few c)) (λ c κs. search rules) (λ c. omega (arith, few c.before)) (λ c κs. search rules)
+    (λ c. omega (arith, few c.before.before)) (λ c κs. search rules)
+    (λ c. omega (arith, few c.before.before.before)) (λ c κs. search rules) returns)

@@ -1,6 +1,6 @@
 -- Each number is read where the law places it: the counts of nodes and arcs are the case's, and no offset is large.
 use Rattle.case.specs.law.Extents.{arc_capacity, node_capacity}
-use Rattle.plan.proofs.Common.{◌≡◌, ◌∙◌, ◌<◌, ◌≤◌, arith, needs, kept}
+use Rattle.plan.proofs.Common.{◌≡◌, ◌∙◌, ◌<◌, ◌≤◌, arith, rules, kept}
 use Rattle.case.specs.law.Layout.{nodes_of, arcs_of}
 use Rattle.plan.proofs.Adding.{count_read}
 use Rattle.plan.proofs.rows.choice_of.Statement.{statement}
@@ -29,7 +29,7 @@ returns c =
 
 pub choice_of_spec : {M : Type 1} → statement M
 choice_of_spec = tie.close (tie.spec
-    (λ c κs. search needs) (λ c κs. search needs) (λ c κs. search needs) (λ c κs. search needs)
-    (λ c. omega (arith, few c)) (λ c. omega (arith, few c)) (λ c. omega (arith, few c)) (λ c. search needs)
-    (λ c. omega (arith, few c)) (λ c κs. search needs) (λ c. omega (arith, few c.before)) (λ c κs. search needs)
+    (λ c κs. search rules) (λ c κs. search rules) (λ c κs. search rules) (λ c κs. search rules)
+    (λ c. omega (arith, few c)) (λ c. omega (arith, few c)) (λ c. omega (arith, few c)) (λ c. search rules)
+    (λ c. omega (arith, few c)) (λ c κs. search rules) (λ c. omega (arith, few c.before)) (λ c κs. search rules)
     returns)

@@ -1,5 +1,5 @@
 -- Each number is read back as the list has it at the row's place; what is past the end reads as 0 on both sides.
-use Rattle.plan.proofs.Common.{needs}
+use Rattle.plan.proofs.Common.{rules}
 use Rattle.plan.proofs.SignedReads.{as_told}
 use Rattle.plan.proofs.rows.node_row.Statement.{statement}
 use Rattle.plan.proofs.rows.node_row.Tie as tie
@@ -22,6 +22,6 @@ returns c =
 
 pub node_row_spec : {M : Type 1} → statement M
 node_row_spec = tie.close (tie.spec
-    (λ c. search needs) (λ c κs. search needs) (λ c. search needs) (λ c κs. search needs) (λ c. search needs)
-    (λ c κs. search needs) (λ c. search needs) (λ c κs. search needs) (λ c. search needs) (λ c κs. search needs)
-    (λ c. search needs) (λ c κs. search needs) returns)
+    (λ c. search rules) (λ c κs. search rules) (λ c. search rules) (λ c κs. search rules) (λ c. search rules)
+    (λ c κs. search rules) (λ c. search rules) (λ c κs. search rules) (λ c. search rules) (λ c κs. search rules)
+    (λ c. search rules) (λ c κs. search rules) returns)

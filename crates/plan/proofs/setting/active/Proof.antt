@@ -1,5 +1,5 @@
 -- The arc's kind chooses the table of its settings.
-use Rattle.plan.proofs.Common.{◌<◌, ◌≤◌, arith, needs, le-leb, lt-leb, ne_eqb}
+use Rattle.plan.proofs.Common.{◌<◌, ◌≤◌, arith, rules, le-leb, lt-leb, ne_eqb}
 use Rattle.plan.specs.law.Setting.{active_of}
 use Rattle.plan.proofs.setting.active.Statement.{statement}
 use Rattle.plan.proofs.setting.active.Tie as tie
@@ -37,5 +37,5 @@ returns_6 c =
 
 pub active_spec : {M : Type 1} → statement M
 active_spec = tie.close (tie.spec
-    (λ c κs. search needs) (λ c κs. search needs) (λ c κs. search needs) (λ c κs. search needs) (λ c κs. search needs)
+    (λ c κs. search rules) (λ c κs. search rules) (λ c κs. search rules) (λ c κs. search rules) (λ c κs. search rules)
     returns returns_2 returns_3 returns_4 returns_5 returns_6)

@@ -1,5 +1,5 @@
 -- Numbers up to 2 regulate and those above compress, each by the same table of ways.
-use Rattle.plan.proofs.Common.{needs, le-leb, lt-leb}
+use Rattle.plan.proofs.Common.{rules, le-leb, lt-leb}
 use Rattle.plan.specs.law.Setting.{combined_of}
 use Rattle.plan.proofs.setting.combined.Statement.{statement}
 use Rattle.plan.proofs.setting.combined.Tie as tie
@@ -13,4 +13,4 @@ unfolding combined_of
 returns_2 c = rw (lt-leb _ _ c.before.if1.false) c.directed2.ensures
 
 pub combined_spec : {M : Type 1} → statement M
-combined_spec = tie.close (tie.spec (λ c κs. search needs) (λ c. search needs) (λ c κs. search needs) returns returns_2)
+combined_spec = tie.close (tie.spec (λ c κs. search rules) (λ c. search rules) (λ c κs. search rules) returns returns_2)

@@ -1,5 +1,5 @@
 -- The number's sign and whether it is 0 choose the case, and what was tested is the parameter.
-use Rattle.plan.proofs.Common.{◌≡◌, sym, ap, ◌∙◌, needs, eq-eqb, ne_eqb, pos, le_z, to_z-of_z}
+use Rattle.plan.proofs.Common.{◌≡◌, sym, ap, ◌∙◌, rules, eq-eqb, ne_eqb, pos, le_z, to_z-of_z}
 use Rattle.numbers.specs.law.Signed.{pos_part}
 use Rattle.plan.specs.law.Setting.{setting_of}
 use Rattle.plan.proofs.setting.setting_of.Statement.{statement}
@@ -29,4 +29,4 @@ unfolding setting_of
 returns_3 c = rw (sym (sign c.before) ∙ c.if1.false)
 
 pub setting_of_spec : {M : Type 1} → statement M
-setting_of_spec = tie.close (tie.spec (λ c κs. search needs) (λ c κs. search needs) (λ c κs. search needs) returns returns_2 returns_3)
+setting_of_spec = tie.close (tie.spec (λ c κs. search rules) (λ c κs. search rules) (λ c κs. search rules) returns returns_2 returns_3)

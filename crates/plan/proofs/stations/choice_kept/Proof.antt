@@ -1,5 +1,5 @@
 -- Both choices must be items of the station before the state is asked; the active arcs fit a signed number.
-use Rattle.plan.proofs.Common.{◌≡◌, sym, ap, ap₂, ◌∙◌, Bool, ℕ, ◌^◌, ◌<◌, arith, needs, ℤ, pos, w64, to_z, of_z, to_z_pos, counted}
+use Rattle.plan.proofs.Common.{◌≡◌, sym, ap, ap₂, ◌∙◌, Bool, ℕ, ◌^◌, ◌<◌, arith, rules, ℤ, pos, w64, to_z, of_z, to_z_pos, counted}
 use Rattle.numbers.specs.law.Signed.{pos_part}
 use Rattle.case.specs.law.Records.{station_row, state_row, station_of, state_of}
 use Rattle.case.specs.declared.records.Station.{Station}
@@ -73,6 +73,6 @@ returns_3 c = rw (sym (direction_in_lem c.before) ∙ c.if1.false)
 
 pub choice_kept_spec : {M : Type 1} → statement M
 choice_kept_spec = tie.close (tie.spec
-    (λ c κs. search needs) (λ c κs. (counted c.before.requires.0, c.before.requires.1)) (λ c κs. search needs) (λ c κs. search needs)
+    (λ c κs. search rules) (λ c κs. (counted c.before.requires.0, c.before.requires.1)) (λ c κs. search rules) (λ c κs. search rules)
     (λ c. record { sfits = small c.before.before.before.before.before.before.before.before })
-    (λ c κs. search needs) (λ c κs. search needs) (λ c κs. search needs) returns returns_2 returns_3)
+    (λ c κs. search rules) (λ c κs. search rules) (λ c κs. search rules) returns returns_2 returns_3)

@@ -1,5 +1,5 @@
 -- Entry, exit or neither chooses the test, and the flow that it reads is the parameter.
-use Rattle.plan.proofs.Common.{ap, ◌∙◌, needs, ℤ, pos, le_z, to_z-of_z}
+use Rattle.plan.proofs.Common.{ap, ◌∙◌, rules, ℤ, pos, le_z, to_z-of_z}
 use Rattle.plan.specs.law.Compared.{is_zero}
 use Rattle.plan.proofs.stations.fence_flow_kept.Statement.{statement}
 use Rattle.plan.proofs.stations.fence_flow_kept.Tie as tie
@@ -18,4 +18,4 @@ returns_3 c =
     rw (e.if1.false, c.before.if2.false) (c.same.ensures ∙ ap is_zero (to_z-of_z e.before.ranges.flow))
 
 pub fence_flow_kept_spec : {M : Type 1} → statement M
-fence_flow_kept_spec = tie.close (tie.spec (λ c κs. search needs) returns (λ c κs. search needs) (λ c κs. search needs) returns_2 returns_3)
+fence_flow_kept_spec = tie.close (tie.spec (λ c κs. search rules) returns (λ c κs. search rules) (λ c κs. search rules) returns_2 returns_3)

@@ -1,5 +1,5 @@
 -- The direction and both node sets are read as the case has them, so that 32 was asked of every node by the flow into artificial arcs.
-use Rattle.plan.proofs.Common.{◌≡◌, ap, ap₂, ◌∙◌, ◌<◌, arith, needs, counted}
+use Rattle.plan.proofs.Common.{◌≡◌, ap, ap₂, ◌∙◌, ◌<◌, arith, rules, counted}
 use Rattle.numbers.specs.law.Signed.{pos_part}
 use Rattle.case.specs.law.Records.{direction_row, direction_of}
 use Rattle.plan.specs.declared.rows.Choice.{Choice}
@@ -42,5 +42,5 @@ returns c =
 
 pub fence_flows_kept_spec : {M : Type 1} → statement M
 fence_flows_kept_spec = tie.close (tie.spec
-    (λ c κs. (counted c.requires.0, c.requires.2)) (λ c κs. search needs) (λ c κs. search needs)
+    (λ c κs. (counted c.requires.0, c.requires.2)) (λ c κs. search rules) (λ c κs. search rules)
     (λ c. omega (arith, few c.before.before.before.before)) (λ c. omega (arith, few c.before.before.before.before)) fences_kept_requires returns)

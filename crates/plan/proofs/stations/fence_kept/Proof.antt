@@ -1,5 +1,5 @@
 -- A fence node is in both sets; of any other node nothing is asked.
-use Rattle.plan.proofs.Common.{◌≡◌, sym, ap, ◌∙◌, needs, ℤ, to_z-of_z, kept}
+use Rattle.plan.proofs.Common.{◌≡◌, sym, ap, ◌∙◌, rules, ℤ, to_z-of_z, kept}
 use Rattle.numbers.specs.law.Sets.{member_of}
 use Rattle.plan.specs.law.StationRules.{fence_flow_kept, fence_node_kept}
 use Rattle.plan.proofs.stations.fence_kept.Statement.{statement}
@@ -38,4 +38,4 @@ returns_3 c = rw (sym (in_station_lem c.before) ∙ c.if1.false)
 
 pub fence_kept_spec : {M : Type 1} → statement M
 fence_kept_spec = tie.close (tie.spec
-    (λ c κs. search needs) (λ c κs. search needs) (λ c κs. search needs) (λ c κs. search needs) (λ c κs. search needs) returns returns_2 returns_3)
+    (λ c κs. search rules) (λ c κs. search rules) (λ c κs. search rules) (λ c κs. search rules) (λ c κs. search rules) returns returns_2 returns_3)

@@ -1,5 +1,5 @@
 -- 32 holds of the nodes passed; a node of which it does not hold ends the loop.
-use Rattle.plan.proofs.Common.{◌≡◌, ap, ◌∙◌, ◌-◌, arith, needs, not-true, not-false, w64, to_z, of_z, to_z-of_z, kept}
+use Rattle.plan.proofs.Common.{◌≡◌, ap, ◌∙◌, ◌-◌, arith, rules, not-true, not-false, w64, to_z, of_z, to_z-of_z, kept}
 use Rattle.case.specs.inside.CountLaws.{Keeping, keeping, keep_on, keep_no, keep_end}
 use Rattle.plan.specs.law.StationRules.{fence_node_kept}
 use Rattle.plan.specs.inside.StationPass.{fence_at, fences_kept}
@@ -23,7 +23,7 @@ returns c =
     let t = c.before.before.before in
     let s = t.before.before in
     rw (← (to_z-of_z s.ranges.inside), ← (to_z-of_z s.ranges.plain))
-    (keep_no t.before.loop.invariant t.loop-test.true (found c.before) (not-true _ c.if1.true))
+    (keep_no t.before.loop.invariant t.loop-test.true (found c.before) c.if1.true)
 
 loop_again : tie.Need-loop-preserved invariant-loop decreases-loop
 loop_again c = let t = c.before.before.before in keep_on t.before.loop.invariant t.loop-test.true (found c.before) (not-false _ c.if1.false)
@@ -36,5 +36,5 @@ returns_2 c =
 
 pub fences_kept_spec : {M : Type 1} → statement M
 fences_kept_spec = tie.close (tie.spec
-    invariant-loop decreases-loop (λ c. keeping) (λ c. omega arith) (λ c. omega arith) (λ c κs. search needs) returns (λ c. omega arith) (λ c. omega arith)
+    invariant-loop decreases-loop (λ c. keeping) (λ c. omega arith) (λ c. omega arith) (λ c κs. search rules) returns (λ c. omega arith) (λ c. omega arith)
     loop_again returns_2)

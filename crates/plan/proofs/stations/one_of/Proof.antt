@@ -1,5 +1,5 @@
 -- A negative number is no index, and any other is its own positive part.
-use Rattle.plan.proofs.Common.{◌≡◌, sym, ap, ◌∙◌, needs, pos, le_z, to_z-of_z}
+use Rattle.plan.proofs.Common.{◌≡◌, sym, ap, ◌∙◌, rules, pos, le_z, to_z-of_z}
 use Rattle.numbers.specs.law.Signed.{pos_part}
 use Rattle.plan.proofs.stations.one_of.Statement.{statement}
 use Rattle.plan.proofs.stations.one_of.Tie as tie
@@ -18,4 +18,4 @@ returns_2 : tie.Need-returns-2
 returns_2 c = rw (sym (tested c.before) ∙ c.if1.false)
 
 pub one_of_spec : {M : Type 1} → statement M
-one_of_spec = tie.close (tie.spec (λ c κs. search needs) (λ c κs. search needs) returns returns_2)
+one_of_spec = tie.close (tie.spec (λ c κs. search rules) (λ c κs. search rules) returns returns_2)

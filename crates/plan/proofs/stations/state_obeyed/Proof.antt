@@ -1,5 +1,5 @@
 -- The three tests are of the state's own sets, as they were read, and of the parameter.
-use Rattle.plan.proofs.Common.{◌≡◌, sym, ap, ap₂, ◌∙◌, needs, ℤ, to_z-of_z}
+use Rattle.plan.proofs.Common.{◌≡◌, sym, ap, ap₂, ◌∙◌, rules, ℤ, to_z-of_z}
 use Rattle.numbers.specs.law.Sets.{member_of, subset_of, disjoint_of}
 use Rattle.case.specs.law.Records.{state_row}
 use Rattle.case.specs.declared.records.State.{State}
@@ -47,4 +47,4 @@ returns_3 c = rw (sym (supports c.before) ∙ c.if1.false)
 
 pub state_obeyed_spec : {M : Type 1} → statement M
 state_obeyed_spec = tie.close (tie.spec
-    (λ c κs. search needs) (λ c κs. search needs) (λ c κs. search needs) (λ c κs. search needs) returns returns_2 returns_3)
+    (λ c κs. search rules) (λ c κs. search rules) (λ c κs. search rules) (λ c κs. search rules) returns returns_2 returns_3)

@@ -1,5 +1,5 @@
 -- 30, 31 and 32 of the station, one after the other, each by the answer that was found.
-use Rattle.plan.proofs.Common.{◌∙◌, ◌<◌, arith, needs, counted}
+use Rattle.plan.proofs.Common.{◌∙◌, ◌<◌, arith, rules, counted}
 use Rattle.plan.proofs.StationParts.{station_asked}
 use Rattle.plan.proofs.stations.station_answer.Statement.{statement}
 use Rattle.plan.proofs.stations.station_answer.Tie as tie
@@ -30,5 +30,5 @@ fence_flows_kept_requires c κs =
 
 pub station_answer_spec : {M : Type 1} → statement M
 station_answer_spec = tie.close (tie.spec
-    (λ c κs. few c) choice_kept_requires (λ c. search needs) (λ c κs. search needs) (λ c. search needs) (λ c κs. search needs)
-    fence_flows_kept_requires (λ c. search needs) (λ c κs. search needs) (λ c κs. search needs) (λ c κs. search needs) returns)
+    (λ c κs. few c) choice_kept_requires (λ c. search rules) (λ c κs. search rules) (λ c. search rules) (λ c κs. search rules)
+    fence_flows_kept_requires (λ c. search rules) (λ c κs. search rules) (λ c κs. search rules) (λ c κs. search rules) returns)

@@ -1,5 +1,5 @@
 -- The first "no" of all stations is that of the stations not yet passed; what the passes over the arcs found holds of each.
-use Rattle.plan.proofs.Common.{◌≡◌, sym, ◌∙◌, true, false, ℕ, ◌-◌, ◌<◌, ◌≤◌, arith, needs, length, counted}
+use Rattle.plan.proofs.Common.{◌≡◌, sym, ◌∙◌, true, false, ℕ, ◌-◌, ◌<◌, ◌≤◌, arith, rules, length, counted}
 use mathlib.Core.List.{List}
 use Rattle.numbers.specs.inside.ItemLaws.{rest, rest_on, rest_no, rest_end}
 use Rattle.numbers.specs.law.Question.{Question, first_no}
@@ -88,5 +88,5 @@ returns_2 c =
 pub station_answers_spec : {M : Type 1} → statement M
 station_answers_spec = tie.close (tie.spec
     invariant-loop decreases-loop (λ c κs. (c.requires.0.accepted, c.requires.0.laid.arcs)) machines_once_requires artificial_flows_requires loop_holds
-    (λ c. omega (arith, station_few c)) (λ c. omega (arith, station_few c)) (λ c. omega (arith, station_few c)) (λ c. search needs)
-    station_answer_requires (λ c. search needs) (λ c. search needs) returns (λ c. omega arith) (λ c. omega arith) loop_again returns_2)
+    (λ c. omega (arith, station_few c)) (λ c. omega (arith, station_few c)) (λ c. omega (arith, station_few c)) (λ c. search rules)
+    station_answer_requires (λ c. search rules) (λ c. search rules) returns (λ c. omega arith) (λ c. omega arith) loop_again returns_2)

@@ -1,5 +1,5 @@
 -- The end less the offset is the width, so that the part is the step's own.
-use Rattle.plan.proofs.Common.{◌+◌, ◌*◌, needs}
+use Rattle.plan.proofs.Common.{◌+◌, ◌*◌, rules}
 use native.Mathlib.Nat.{add-sub_cancel_left}
 use Rattle.plan.proofs.steps.part_of.Statement.{statement}
 use Rattle.plan.proofs.steps.part_of.Tie as tie
@@ -9,5 +9,5 @@ returns c = let a = c.before.args in rw (add-sub_cancel_left (2 + a.i * a.width)
 
 pub part_of_spec : {M : Type 1} → statement M
 part_of_spec = tie.close (tie.spec
-    (λ c. search needs) (λ c. search needs) (λ c. search needs) (λ c. search needs) (λ c. search needs)
-    (λ c. search needs) (λ c. search needs) returns)
+    (λ c. search rules) (λ c. search rules) (λ c. search rules) (λ c. search rules) (λ c. search rules)
+    (λ c. search rules) (λ c. search rules) returns)

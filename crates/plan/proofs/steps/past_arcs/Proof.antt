@@ -1,5 +1,5 @@
 -- A no of the stations is the step's; past their yes the balance decides.
-use Rattle.plan.proofs.Common.{sym, ◌∙◌, needs}
+use Rattle.plan.proofs.Common.{sym, ◌∙◌, rules}
 use Rattle.plan.proofs.StepGroups.{stations_stop, stations_passed}
 use Rattle.plan.proofs.steps.past_arcs.Statement.{statement}
 use Rattle.plan.proofs.steps.past_arcs.Tie as tie
@@ -20,5 +20,5 @@ returns_2 c =
 
 pub past_arcs_spec : {M : Type 1} → statement M
 past_arcs_spec = tie.close (tie.spec
-    (λ c κs. (c.requires.0, c.requires.1, c.requires.3)) (λ c. search needs) (λ c κs. search needs) (λ c. search needs)
-    (λ c κs. search needs) returns returns_2)
+    (λ c κs. (c.requires.0, c.requires.1, c.requires.3)) (λ c. search rules) (λ c κs. search rules) (λ c. search rules)
+    (λ c κs. search rules) returns returns_2)

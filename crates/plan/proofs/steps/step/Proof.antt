@@ -1,5 +1,5 @@
 -- Node, arc and later questions are asked in turn; a no of one group is the step's, and each yes bounds what the next group reads.
-use Rattle.plan.proofs.Common.{◌≡◌, sym, ◌∙◌, needs}
+use Rattle.plan.proofs.Common.{◌≡◌, sym, ◌∙◌, rules}
 use Rattle.numbers.specs.law.Question.{first_no}
 use Rattle.numbers.specs.declared.answer.Answer.TheVariants.{Yes}
 use Rattle.case.specs.law.Layout.{number_at}
@@ -63,6 +63,6 @@ returns_3 c =
 
 pub step_spec : {M : Type 1} → statement M
 step_spec = tie.close (tie.spec
-    (λ c κs. search needs) (λ c. search needs) (λ c. search needs) (λ c κs. search needs) returns (λ c. search needs)
-    arc_answers_requires (λ c. search needs) past_arcs_requires (λ c. search needs) (λ c κs. search needs) returns_2
+    (λ c κs. search rules) (λ c. search rules) (λ c. search rules) (λ c κs. search rules) returns (λ c. search rules)
+    arc_answers_requires (λ c. search rules) past_arcs_requires (λ c. search rules) (λ c κs. search rules) returns_2
     returns_3)

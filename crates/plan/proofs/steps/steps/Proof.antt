@@ -1,5 +1,5 @@
 -- What was before step `i` and the totals of the steps before it are `Going`; each turn and both ways out cite its laws.
-use Rattle.plan.proofs.Common.{◌≡◌, refl, ◌-◌, ◌<◌, arith, needs, counted}
+use Rattle.plan.proofs.Common.{◌≡◌, refl, ◌-◌, ◌<◌, arith, rules, counted}
 use Rattle.numbers.specs.law.Question.{first_no}
 use Rattle.numbers.specs.declared.answer.Answer.TheVariants.{Yes}
 use Rattle.case.specs.law.Layout.{number_at, steps_of}
@@ -99,7 +99,7 @@ pub steps_spec : {M : Type 1} → statement M
 steps_spec = tie.close (tie.spec
     invariant-loop decreases-loop (λ c κs. (small c.requires.0 c.requires.1).few)
     (λ c κs. (counted c.before.requires.0, c.before.requires.1)) opened_requires loop_holds part_of_requires
-    (λ c κs. (at_step c.before, c.before.before.loop.invariant.pressures)) (λ c. search needs) added_requires
-    after_requires (λ c. search needs) returns add_i
+    (λ c κs. (at_step c.before, c.before.before.loop.invariant.pressures)) (λ c. search rules) added_requires
+    after_requires (λ c. search rules) returns add_i
     (λ c. omega (arith, within c.before.before.before.before.before.before.before)) loop_again closed_requires
     returns_2)

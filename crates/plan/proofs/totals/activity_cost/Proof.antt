@@ -1,5 +1,5 @@
 -- The weight counts where both tests of the law hold: the code's two answers are those tests.
-use Rattle.plan.proofs.Common.{◌≡◌, sym, ap, ◌∙◌, true, needs, le-leb, lt-leb, leb, pos, le_z, kept, counted}
+use Rattle.plan.proofs.Common.{◌≡◌, sym, ap, ◌∙◌, true, rules, le-leb, lt-leb, leb, pos, le_z, kept, counted}
 use Rattle.case.specs.declared.records.Arc.{Arc}
 use Rattle.case.specs.declared.records.Artificial.{Artificial}
 use Rattle.case.specs.law.Records.{arc_of}
@@ -41,5 +41,5 @@ returns_3 c = first_no_lem _ _ (ap (λ (x : Arc). leb 3 x.kind) (sym c.before.be
 
 pub activity_cost_spec : {M : Type 1} → statement M
 activity_cost_spec = tie.close (tie.spec
-    (λ c κs. search needs) arc_row_requires (λ c κs. search needs) (λ c κs. search needs) (λ c κs. search needs) returns
+    (λ c κs. search rules) arc_row_requires (λ c κs. search rules) (λ c κs. search rules) (λ c κs. search rules) returns
     returns_2 returns_3)

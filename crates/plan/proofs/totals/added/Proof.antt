@@ -1,6 +1,6 @@
 -- Each total is the old one with what the step adds; what a kept step adds is small, and so no sum is too large.
 use Rattle.plan.specs.inside.SumSizes.{most_demand_slack, most_pressure_slack, most_residual, most_switching}
-use Rattle.plan.proofs.Common.{refl, sym, ◌+◌, ◌≤◌, arith, needs, ◌+ℤ◌, w64, to_z, of_z, Held, held, held_fits, ◌+ʳ◌, kept}
+use Rattle.plan.proofs.Common.{refl, sym, ◌+◌, ◌≤◌, arith, rules, ◌+ℤ◌, w64, to_z, of_z, Held, held, held_fits, ◌+ʳ◌, kept}
 use lib.ListN.{length-map}
 use Rattle.plan.specs.inside.PreviousHolds.{active_of, index_of}
 use Rattle.plan.specs.law.Totals.{pressure_slack_in, demand_slack_in}
@@ -85,5 +85,5 @@ returns c =
 
 pub added_spec : {M : Type 1} → statement M
 added_spec = tie.close (tie.spec
-    (λ c κs. search needs) (λ c κs. search needs) (λ c κs. search needs) slice_aggregate_pipe_residuals
-    (λ c κs. search needs) add_t18 add_t19 add_t20 add_t21 add_t22 add_t23 returns)
+    (λ c κs. search rules) (λ c κs. search rules) (λ c κs. search rules) slice_aggregate_pipe_residuals
+    (λ c κs. search rules) add_t18 add_t19 add_t20 add_t21 add_t22 add_t23 returns)

@@ -1,5 +1,5 @@
 -- The weight counts where the direction that the plan chooses is another one than before.
-use Rattle.plan.proofs.Common.{◌≡◌, sym, ap, ◌∙◌, ℕ, needs, counted}
+use Rattle.plan.proofs.Common.{◌≡◌, sym, ap, ◌∙◌, ℕ, rules, counted}
 use Rattle.case.specs.declared.records.Direction.{Direction}
 use Rattle.case.specs.law.Records.{direction_row, direction_of}
 use Rattle.plan.specs.declared.rows.Choice.{Choice}
@@ -31,4 +31,4 @@ returns_2 c =
 
 pub direction_cost_spec : {M : Type 1} → statement M
 direction_cost_spec = tie.close (tie.spec
-    (λ c κs. (counted c.requires.0, c.requires.1)) (λ c κs. search needs) (λ c κs. search needs) returns returns_2)
+    (λ c κs. (counted c.requires.0, c.requires.1)) (λ c κs. search rules) (λ c κs. search rules) returns returns_2)

@@ -1,5 +1,5 @@
 -- One term follows the code's product and sum, and says both that they fit and what they are.
-use Rattle.plan.proofs.Common.{◌≡◌, refl, sym, ap, ◌∙◌, needs, eq-eqb, ne_eqb, w64, to_z, of_z, Held, held, held_fits, ◌+ʳ◌, ◌*ʳ◌}
+use Rattle.plan.proofs.Common.{◌≡◌, refl, sym, ap, ◌∙◌, rules, eq-eqb, ne_eqb, w64, to_z, of_z, Held, held, held_fits, ◌+ʳ◌, ◌*ʳ◌}
 use lib.IntN.{◌+ℤ◌, ◌*ℤ◌}
 use Rattle.case.specs.declared.records.Arc.{Arc}
 use Rattle.case.specs.declared.records.Pipe.{Pipe}
@@ -56,5 +56,5 @@ returns_2 c =
 
 pub pipe_gas_spec : {M : Type 1} → statement M
 pipe_gas_spec = tie.close (tie.spec
-    (λ c κs. search needs) (λ c κs. search needs) (λ c κs. search needs) (λ c κs. search needs) add_result mul_result
+    (λ c κs. search rules) (λ c κs. search rules) (λ c κs. search rules) (λ c κs. search rules) add_result mul_result
     returns returns_2)

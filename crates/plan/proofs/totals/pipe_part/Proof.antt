@@ -1,5 +1,5 @@
 -- The residual counts where the arc is a pipe, and is 0 where it is not.
-use Rattle.plan.proofs.Common.{◌≡◌, sym, ap, ◌∙◌, needs, eq-eqb, ne_eqb}
+use Rattle.plan.proofs.Common.{◌≡◌, sym, ap, ◌∙◌, rules, eq-eqb, ne_eqb}
 use Rattle.case.specs.declared.records.Arc.{Arc}
 use Rattle.case.specs.law.Records.{arc_of}
 use Rattle.plan.specs.law.Totals.{pipe_part}
@@ -25,4 +25,4 @@ unfolding pipe_part
 returns_2 c = let a = c.before.before in rw (ne_eqb _ 2 (λ k. c.if1.false (sym (kind_is a) ∙ k)))
 
 pub pipe_part_spec : {M : Type 1} → statement M
-pipe_part_spec = tie.close (tie.spec (λ c κs. search needs) pipe_residual_requires returns returns_2)
+pipe_part_spec = tie.close (tie.spec (λ c κs. search rules) pipe_residual_requires returns returns_2)
