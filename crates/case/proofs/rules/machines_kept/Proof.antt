@@ -9,7 +9,7 @@ use Rattle.case.specs.declared.records.Artificial.{Artificial}
 use Rattle.case.specs.inside.CountLaws.{Keeping, keeping, keep_on, keep_no, keep_end}
 use lib.Signed.{mag}
 use Rattle.case.proofs.rules.machines_kept.Statement.{statement}
-use Rattle.case.proofs.rules.machines_kept.Lts.{then-belongs, else-belongs}
+use Rattle.case.proofs.rules.machines_kept.Lts.{then-belongs+else-not-subset, else-belongs}
 use Rattle.case.proofs.rules.machines_kept.Tie as tie
 
 abbrev invariant-loop-e : tie.invariant-loop-e
@@ -48,8 +48,11 @@ loop_again c =
     let b = c.before in
     let f = sym b.belongs.ensures in
     keep_on b.loop-e.invariant {one = true} b.loop-e-test.true
-    (elim c.if-belongs.branch [ then-belongs x ↦     let m = machines_is x.2.given.1.1.1.1.0.1 x.1.ensures in
-    rw (f ∙ x.if-belongs.true, simp m at (sym x.3.ensures ∙ not-false _ x.4.left)) | else-belongs x ↦ rw (f ∙ x.if-belongs.false) ])
+    (elim c.if-belongs.branch [
+      then-belongs+else-not-subset x ↦ let m = machines_is x.artificial-machines.type_inv.1.1.1.1.1.1.0.1 x.artificial-machines.ensures in
+        rw (f ∙ x.if-belongs.true, simp m at (sym x.subset.ensures ∙ x.if-not-subset.false))
+      | else-belongs x ↦ rw (f ∙ x.if-belongs.false)
+    ])
     refl
 
 returns_2 : tie.Need-returns invariant-loop-e decreases-loop-e
