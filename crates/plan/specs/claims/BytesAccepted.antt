@@ -37,8 +37,8 @@ numbers_in bytes room = (read_of bytes room).stored
 
 -- both are read to their ends, and every rule holds of the numbers
 pub record BytesAccepted (case_bytes plan_bytes : List ℕ) (case_room plan_room : ℕ) : Type 0 where
-  pub case_read_lem : (read_of case_bytes case_room).ended ≡ all
-  pub plan_read_lem : (read_of plan_bytes plan_room).ended ≡ all
+  pub case_read : (read_of case_bytes case_room).ended ≡ all
+  pub plan_read : (read_of plan_bytes plan_room).ended ≡ all
   pub rules : PlanRules (numbers_in case_bytes case_room) (numbers_in plan_bytes plan_room)
 
 -- where 0 is told in the end, nothing before was refused
@@ -68,7 +68,7 @@ module _ (case_bytes plan_bytes : List ℕ) (case_list plan_list : List ℤ) whe
       let c = past limit _ (first_no (case_questions case)) (case_small case) r.1 in
       let w = plan_read_fit plan_bytes (length plan_list) longest (omega arith) (omega arith) in
       let p = plan_read_past longest _ (read_of plan_bytes (length plan_list)).ended w c.1 in
-      record { case_read_lem = r.0; plan_read_lem = p.0; rules = sound case plan (totals_of case plan) (zero_accepted case plan p.1) }
+      record { case_read = r.0; plan_read = p.0; rules = sound case plan (totals_of case plan) (zero_accepted case plan p.1) }
 
   pub accepted_bytes : BytesAccepted case_bytes plan_bytes (length case_list) (length plan_list)
       → (bytes_judged case_bytes plan_bytes case_list plan_list).told

@@ -21,7 +21,7 @@ use Rattle.plan.specs.claims.StationFacts.{Rule30, Rule31, Rule32, Rule33, rule3
 
 -- Steps go by index from 0: index i is document 01's step i + 1.
 pub record PlanFacts (case plan : List ℤ) : Type 0 where
-  pub case_rules_lem : CaseRules case
+  pub case_rules : CaseRules case
   pub rule20 : Rule20 case plan
   pub rule21 : (i v : ℕ) → i < steps_of case → v < nodes_of case → Rule21 (node_of case v i) (node_row (step_rows case plan i) v)
   pub rule22 : (i v : ℕ) → i < steps_of case → v < nodes_of case → Rule22 (node_of case v i) (node_row (step_rows case plan i) v)
@@ -46,7 +46,7 @@ module _ (case plan : List ℤ) where
   facts_of r =
       let ok = accepted_rules case r.case_yes in
       record {
-        case_rules_lem = ok;
+        case_rules = ok;
         rule20 = (rule20_says case plan).fact r.rule20;
         rule21 = λ i v p q. (rule21_says _ _ (at_most (ok.nodes v q).kind)).fact ((r.steps i p).nodes v q).rule21;
         rule22 = λ i v p q. (rule22_says _ _).fact ((r.steps i p).nodes v q).rule22;

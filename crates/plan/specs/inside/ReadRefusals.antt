@@ -40,7 +40,7 @@ turned k n least most e = go (eqb k 1) refl (eqb k 2) refl e
 
 -- the case is read and accepted, and the reading of the plan is refused by n
 pub record PlanRefused (n p : ℕ) (c : Ending) (j : Answer) (d : Ending) : Type 0 where
-  pub case_read_lem : c ≡ all
+  pub case_read : c ≡ all
   pub case_yes : j ≡ Yes
   pub refused : d ≡ no n p
 
@@ -63,5 +63,5 @@ module _ {n p : ℕ} {next : Told} (most : n ≤ 3) where
   plan_refused all Yes (no m q) judged few k s e =
       let x = refused_same e in
       let w = k m q refl in
-      record { case_read_lem = refl; case_yes = refl; refused = rw (turned m n w.0 w.1 x.0, x.2) }
+      record { case_read = refl; case_yes = refl; refused = rw (turned m n w.0 w.1 x.0, x.2) }
   plan_refused all Yes all judged few k s e = absurd (judged e)

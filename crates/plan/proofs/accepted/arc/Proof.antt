@@ -5,18 +5,18 @@ use Rattle.plan.specs.inside.CaseSizes.{arc_there}
 use Rattle.plan.proofs.accepted.arc.Statement.{statement}
 use Rattle.plan.proofs.accepted.arc.Tie as tie
 
-row : (c : tie.After-arc-at) → c.arc_at.result + 10 < length c.before.args.case.now
-row c = omega (arith, c.arc_at.ensures, arc_there c.before.requires.0 c.before.args.e c.before.requires.1)
+row : (c : tie.After-arc_at-offset) → c.arc_at-offset.result + 10 < length c.args.case.now
+row c = omega (arith, c.arc_at-offset.ensures, arc_there c.requires.0 c.args.e c.requires.1)
 
 returns : tie.Need-returns
 returns c =
     let s = c.before.before.before.before.before in
     let l = s.args.case.now in
-    let r = c.before.before.before.before.arc_at.ensures in
+    let r = c.arc_at-offset.ensures in
     let first : arc_at l s.args.e + 0 ≡ arc_at l s.args.e = omega arith in
-    let k0 = rw r at c.before.before.before.count.ensures ∙ ap (count_at l) first in
-    let k1 = rw r at c.before.before.count2.ensures in
-    let k2 = rw r at c.before.count3.ensures in
+    let k0 = rw r at c.count.ensures ∙ ap (count_at l) first in
+    let k1 = rw r at c.count-2.ensures in
+    let k2 = rw r at c.count-3.ensures in
     rw (k0, k1, k2, kept _ c.number.type_inv ∙ rw r at c.number.ensures)
 
 pub arc_spec : {M : Type 1} → statement M

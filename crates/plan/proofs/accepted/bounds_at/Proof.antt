@@ -4,7 +4,7 @@ use Rattle.case.specs.law.Layout.{bounds_in, demand_in}
 use Rattle.plan.proofs.accepted.bounds_at.Statement.{statement}
 use Rattle.plan.proofs.accepted.bounds_at.Tie as tie
 
-add_result : tie.Need-overflow-add-result
+add_result : tie.Need-overflow_add-result
 unfolding demand_in
 add_result c = omega (arith, c.requires)
 

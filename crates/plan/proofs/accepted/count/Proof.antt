@@ -5,7 +5,7 @@ use Rattle.plan.proofs.accepted.count.Statement.{statement}
 use Rattle.plan.proofs.accepted.count.Tie as tie
 
 returns : tie.Need-returns
-returns c = c.index.ensures ∙ ap pos_part (kept _ c.before.number.type_inv ∙ c.before.number.ensures)
+returns c = c.index.ensures ∙ ap pos_part (kept _ c.number.type_inv ∙ c.number.ensures)
 
 pub count_spec : {M : Type 1} → statement M
 count_spec = tie.close (tie.spec (λ c κs. search rules) (λ c κs. search rules) returns)

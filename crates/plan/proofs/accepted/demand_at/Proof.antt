@@ -4,11 +4,11 @@ use Rattle.case.specs.law.Layout.{demand_in}
 use Rattle.plan.proofs.accepted.demand_at.Statement.{statement}
 use Rattle.plan.proofs.accepted.demand_at.Tie as tie
 
-add_result : tie.Need-overflow-add-result
+add_result : tie.Need-overflow_add-result
 unfolding demand_in
 add_result c = omega (arith, c.requires)
 
-add_result_2 : tie.Need-overflow-add-result-2
+add_result_2 : tie.Need-overflow_add-result-2
 unfolding demand_in
 add_result_2 c = omega (arith, c.requires)
 

@@ -8,14 +8,14 @@ use Rattle.plan.proofs.SignedReads.{as_told}
 use Rattle.plan.proofs.accepted.node.Statement.{statement}
 use Rattle.plan.proofs.accepted.node.Tie as tie
 
-row : (c : tie.After-node-at) → let a = c.before.args in c.node_at.result + demand_in a.case.now a.i < length a.case.now
-row c = let s = c.before in omega (arith, c.node_at.ensures, node_there s.requires.0 s.args.v s.requires.1 s.args.i s.requires.2)
+row : (c : tie.After-node_at-offset) → let a = c.args in c.node_at-offset.result + demand_in a.case.now a.i < length a.case.now
+row c = let s = c.before in omega (arith, c.node_at-offset.ensures, node_there s.requires.0 s.args.v s.requires.1 s.args.i s.requires.2)
 
 -- the four bounds are inside too
-four : (c : tie.After-bounds-at) → let s = c.before.before in c.bounds_at.result + 3 < length s.args.case.now
+four : (c : tie.After-bounds_at-bounds) → let s = c.before.before in c.bounds_at-bounds.result + 3 < length s.args.case.now
 four c =
     let s = c.before.before in
-    omega (arith, row c.before, c.bounds_at.ensures, bounds_before s.args.case.now s.args.i)
+    omega (arith, row c.before, c.bounds_at-bounds.ensures, bounds_before s.args.case.now s.args.i)
 
 returns : tie.Need-returns
 returns c =
@@ -30,17 +30,17 @@ returns c =
     let l = s.args.case.now in
     let v = s.args.v in
     let i = s.args.i in
-    let r = b.before.node_at.ensures in
-    let e : b.bounds_at.result ≡ bounds_at l v i = b.bounds_at.ensures ∙ ap (λ x. x + bounds_in l i) r in
+    let r = b.node_at-offset.ensures in
+    let e : b.bounds_at-bounds.result ≡ bounds_at l v i = b.bounds_at-bounds.ensures ∙ ap (λ x. x + bounds_in l i) r in
     let t : d.demand_at.result + 0 ≡ demand_at l v i = add-zero _ ∙ d.demand_at.ensures ∙ ap (λ x. x + demand_in l i) r in
     λ j. record {
-      kind = (p0.before.count.ensures ∙ ap (count_at l) (add-zero _ ∙ r)) j;
+      kind = (p0.count.ensures ∙ ap (count_at l) (add-zero _ ∙ r)) j;
       p0 = as_told p0.number.type_inv (p0.number.ensures ∙ ap (λ x. number_at l (x + 1)) r) j;
-      low = as_told low.number2.type_inv (low.number2.ensures ∙ ap (number_at l) (add-zero _ ∙ e)) j;
-      high = as_told high.number3.type_inv (high.number3.ensures ∙ ap (λ x. number_at l (x + 1)) e) j;
-      actlow = as_told actlow.number4.type_inv (actlow.number4.ensures ∙ ap (λ x. number_at l (x + 2)) e) j;
-      acthigh = as_told acthigh.number5.type_inv (acthigh.number5.ensures ∙ ap (λ x. number_at l (x + 3)) e) j;
-      demand = as_told c.number6.type_inv (c.number6.ensures ∙ ap (number_at l) t) j;
+      low = as_told low.number-2.type_inv (low.number-2.ensures ∙ ap (number_at l) (add-zero _ ∙ e)) j;
+      high = as_told high.number-3.type_inv (high.number-3.ensures ∙ ap (λ x. number_at l (x + 1)) e) j;
+      actlow = as_told actlow.number-4.type_inv (actlow.number-4.ensures ∙ ap (λ x. number_at l (x + 2)) e) j;
+      acthigh = as_told acthigh.number-5.type_inv (acthigh.number-5.ensures ∙ ap (λ x. number_at l (x + 3)) e) j;
+      demand = as_told c.number-6.type_inv (c.number-6.ensures ∙ ap (number_at l) t) j;
     }
 
 pub node_spec : {M : Type 1} → statement M

@@ -4,16 +4,16 @@ use Rattle.plan.specs.inside.CaseSizes.{arc_there}
 use Rattle.plan.proofs.accepted.pipe.Statement.{statement}
 use Rattle.plan.proofs.accepted.pipe.Tie as tie
 
-row : (c : tie.After-arc-at) → c.arc_at.result + 10 < length c.before.args.case.now
-row c = omega (arith, c.arc_at.ensures, arc_there c.before.requires.0 c.before.args.e c.before.requires.1)
+row : (c : tie.After-arc_at-offset) → c.arc_at-offset.result + 10 < length c.args.case.now
+row c = omega (arith, c.arc_at-offset.ensures, arc_there c.requires.0 c.args.e c.requires.1)
 
 returns : tie.Need-returns
 returns c =
-    let r = c.before.before.before.before.arc_at.ensures in
-    let k0 = kept _ c.before.before.before.number.type_inv ∙ rw r at c.before.before.before.number.ensures in
-    let k1 = kept _ c.before.before.number2.type_inv ∙ rw r at c.before.before.number2.ensures in
-    let k2 = kept _ c.before.number3.type_inv ∙ rw r at c.before.number3.ensures in
-    let k3 = kept _ c.number4.type_inv ∙ rw r at c.number4.ensures in
+    let r = c.arc_at-offset.ensures in
+    let k0 = kept _ c.number.type_inv ∙ rw r at c.number.ensures in
+    let k1 = kept _ c.number-2.type_inv ∙ rw r at c.number-2.ensures in
+    let k2 = kept _ c.number-3.type_inv ∙ rw r at c.number-3.ensures in
+    let k3 = kept _ c.number-4.type_inv ∙ rw r at c.number-4.ensures in
     rw (k0, k1, k2, k3)
 
 pub pipe_spec : {M : Type 1} → statement M

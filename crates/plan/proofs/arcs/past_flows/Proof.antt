@@ -6,14 +6,14 @@ use Rattle.plan.proofs.ArcLaws.{at_flow}
 use Rattle.plan.proofs.arcs.past_flows.Statement.{statement}
 use Rattle.plan.proofs.arcs.past_flows.Tie as tie
 
-returns : tie.Need-returns
+returns : tie.Need-returns-in-Yes
 returns c =
-    went_on (pressure_questions _ _ _ _) (pipe_questions _ _ _ _ _) c.before.before.before.pressure_answer.ensures c.before.enum_told.given.1
+    went_on (pressure_questions _ _ _ _) (pipe_questions _ _ _ _ _) c.pressure_answer-a.ensures c.in-Yes.is
     c.pipe_answer.ensures
 
-returns_2 : tie.Need-returns-2
-returns_2 c = stopped (pressure_questions _ _ _ _) (pipe_questions _ _ _ _ _) c.before.before.pressure_answer.ensures c.enum_told2.given.1
+returns_2 : tie.Need-returns-in-No
+returns_2 c = stopped (pressure_questions _ _ _ _) (pipe_questions _ _ _ _ _) c.pressure_answer-a.ensures c.in-No.is
 
 pub past_flows_spec : {M : Type 1} → statement M
 past_flows_spec = tie.close (tie.spec
-    (λ c κs. c.before.requires.at) (λ c. search rules) (λ c κs. at_flow c.before.before.before.before.requires) (λ c. search rules) returns returns_2)
+    (λ c κs. c.requires.at) (λ c. search rules) (λ c κs. at_flow c.requires) (λ c. search rules) returns returns_2)

@@ -12,28 +12,28 @@ use Rattle.plan.proofs.balance.end_flows.Tie as tie
 abbrev row_of : tie.Start → ArcRow
 row_of s = arc_row s.args.case.now s.args.rows.now s.args.e
 
-a_is : (c : tie.After-arc-row) → Held (to_z w64 (of_z w64 c.arc_row.result.a)) (row_of c.before).a 10000000
-a_is c = let s = c.before in read (ap (λ (r : ArcRow). r.a) c.arc_row.ensures) (s.requires.2.each s.args.e s.requires.1).a tt
+a_is : (c : tie.After-arc_row-r) → Held (to_z w64 (of_z w64 c.arc_row-r.result.a)) (row_of c.before).a 10000000
+a_is c = let s = c.before in read (ap (λ (r : ArcRow). r.a) c.arc_row-r.ensures) (s.requires.2.each s.args.e s.requires.1).a tt
 
-b_is : (c : tie.After-arc-row) → Held (to_z w64 (of_z w64 c.arc_row.result.b)) (row_of c.before).b 10000000
-b_is c = let s = c.before in read (ap (λ (r : ArcRow). r.b) c.arc_row.ensures) (s.requires.2.each s.args.e s.requires.1).b tt
+b_is : (c : tie.After-arc_row-r) → Held (to_z w64 (of_z w64 c.arc_row-r.result.b)) (row_of c.before).b 10000000
+b_is c = let s = c.before in read (ap (λ (r : ArcRow). r.b) c.arc_row-r.ensures) (s.requires.2.each s.args.e s.requires.1).b tt
 
-returns : tie.Need-returns
+returns : tie.Need-returns-in-2
 unfolding flow_at_from flow_at_to
 returns c =
     let r = c.before.before.before in
     let s = r.before in
-    let k = ap (λ (x : Arc). x.kind) c.before.before.arc.ensures in
-    let y : is_pipe s.args.case.now s.args.e ≡ true = eq-eqb _ 2 (sym k ∙ c.before.match.keys1) in
+    let k = ap (λ (x : Arc). x.kind) c.arc-kind.ensures in
+    let y : is_pipe s.args.case.now s.args.e ≡ true = eq-eqb _ 2 (sym k ∙ c.in-2.is) in
     rw y ((a_is r).val, (b_is r).val)
 
-returns_2 : tie.Need-returns-2
+returns_2 : tie.Need-returns-in_default
 unfolding flow_at_from flow_at_to
 returns_2 c =
     let r = c.before.before.before.before in
     let s = r.before in
-    let k = ap (λ (x : Arc). x.kind) c.before.before.before.arc.ensures in
-    let y : is_pipe s.args.case.now s.args.e ≡ false = ne_eqb _ 2 (λ q. c.before.before.match.rest.1 (k ∙ q)) in
+    let k = ap (λ (x : Arc). x.kind) c.arc-kind.ensures in
+    let y : is_pipe s.args.case.now s.args.e ≡ false = ne_eqb _ 2 (λ q. c.in_default.in_default-own.rest.1 (k ∙ q)) in
     let d = (held (a_is r -ʳ b_is r) tt).val in
     rw y (d, d)
 

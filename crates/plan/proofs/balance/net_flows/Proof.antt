@@ -12,71 +12,71 @@ use Rattle.plan.proofs.SignedReads.{read, read_bounded}
 use Rattle.plan.proofs.balance.net_flows.Statement.{statement}
 use Rattle.plan.proofs.balance.net_flows.Tie as tie
 
-abbrev invariant-loop : tie.invariant-loop
-invariant-loop case rows arcs net₀ e₀ net e = (e ≤ arcs) × Gathers net (node_part case rows) e × (length net ≡ node_capacity)
+abbrev invariant-loop-e : tie.invariant-loop-e
+invariant-loop-e case rows arcs net₀ e₀ net e = (e ≤ arcs) × Gathers net (node_part case rows) e × (length net ≡ node_capacity)
 
-abbrev decreases-loop : tie.decreases-loop
-decreases-loop case rows arcs net₀ e₀ net e = arcs - e
+abbrev decreases-loop-e : tie.decreases-loop-e
+decreases-loop-e case rows arcs net₀ e₀ net e = arcs - e
 
 -- an arc of the case
-arc_in : (c : tie.In-loop invariant-loop decreases-loop) → c.before.loop.e < arcs_of c.before.before.args.case.now
-arc_in c = rw (← c.before.before.requires.1) c.loop-test.true
+arc_in : (c : tie.In-loop-e invariant-loop-e decreases-loop-e) → c.loop-e.e < arcs_of c.args.case.now
+arc_in c = rw (← c.requires.1) c.loop-e-test.true
 
-from_is : (c : tie.After-end-flows invariant-loop decreases-loop) → let h = c.before.before.before in let a = h.before.args in
-    Held (to_z w64 (of_z w64 c.end_flows.result.from)) (flow_at_from a.case.now a.rows.now h.loop.e) 20000000
-from_is c = let t = c.before.before in read c.end_flows.ensures.0 (from_sized t.before.before.requires.2 t.before.loop.e (arc_in t)) tt
+from_is : (c : tie.After-end_flows-flow invariant-loop-e decreases-loop-e) → let h = c.before.before.before in let a = h.args in
+    Held (to_z w64 (of_z w64 c.end_flows-flow.result.from)) (flow_at_from a.case.now a.rows.now h.loop-e.e) 20000000
+from_is c = let t = c.before.before in read c.end_flows-flow.ensures.0 (from_sized t.requires.2 t.loop-e.e (arc_in t)) tt
 
-to_is : (c : tie.After-end-flows invariant-loop decreases-loop) → let h = c.before.before.before in let a = h.before.args in
-    Held (to_z w64 (of_z w64 c.end_flows.result.to)) (flow_at_to a.case.now a.rows.now h.loop.e) 20000000
-to_is c = let t = c.before.before in read c.end_flows.ensures.1 (to_sized t.before.before.requires.2 t.before.loop.e (arc_in t)) tt
+to_is : (c : tie.After-end_flows-flow invariant-loop-e decreases-loop-e) → let h = c.before.before.before in let a = h.args in
+    Held (to_z w64 (of_z w64 c.end_flows-flow.result.to)) (flow_at_to a.case.now a.rows.now h.loop-e.e) 20000000
+to_is c = let t = c.before.before in read c.end_flows-flow.ensures.1 (to_sized t.requires.2 t.loop-e.e (arc_in t)) tt
 
-loop_holds : tie.Need-loop-init invariant-loop decreases-loop
+loop_holds : tie.Need-loop-e-init invariant-loop-e decreases-loop-e
 loop_holds c = (omega arith, gathers_none (node_part c.args.case.now c.args.rows.now), refl)
 
-moved_requires : tie.Need-moved-requires invariant-loop decreases-loop
+moved_requires : tie.Need-moved-requires invariant-loop-e decreases-loop-e
 moved_requires c κs =
     let f = c.before.before.before in
     let a = f.before in
     let h = a.before.before in
     let s = h.before in
     let p = arc_in a.before in (
-      from_small s.requires.0 p a.arc.ensures,
-      to_small s.requires.0 p a.arc.ensures,
-      h.loop.invariant.2,
+      from_small s.requires.0 p a.arc-c.ensures,
+      to_small s.requires.0 p a.arc-c.ensures,
+      h.loop-e.invariant.2,
       read_bounded (from_is f),
       read_bounded (to_is f),
-      gathers_sized h.loop.invariant.1 (omega (arith, h.loop.invariant.0, s.requires.1, (counted s.requires.0).arcs))
+      gathers_sized h.loop-e.invariant.1 (omega (arith, h.loop-e.invariant.0, s.requires.1, (counted s.requires.0).arcs))
           (λ i k q. part_sized s.requires.2 i k (omega (arith, q, p))),
     )
 
-loop_again : tie.Need-loop-preserved invariant-loop decreases-loop
+loop_again : tie.Need-loop-e-preserved invariant-loop-e decreases-loop-e
 loop_again c =
     let m = c.before in
     let f = m.before.before.before.before in
     let a = f.before in
     let h = a.before.before in
     let s = h.before in
-    let from = ap (λ (x : Arc). x.from) a.arc.ensures in
-    let to = ap (λ (x : Arc). x.to) a.arc.ensures in (
+    let from = ap (λ (x : Arc). x.from) a.arc-c.ensures in
+    let to = ap (λ (x : Arc). x.to) a.arc-c.ensures in (
       omega arith,
-      gathers_more h.loop.invariant.1 a.arc.result.from a.arc.result.to _ _ m.moved.ensures.1
-          (λ i. node_part_lem s.args.case.now s.args.rows.now h.loop.e i from to (from_is f).val (to_is f).val),
+      gathers_more h.loop-e.invariant.1 a.arc-c.result.from a.arc-c.result.to _ _ m.moved.ensures.1
+          (λ i. node_part_lem s.args.case.now s.args.rows.now h.loop-e.e i from to (from_is f).val (to_is f).val),
       m.moved.ensures.0,
     )
 
-returns : tie.Need-returns invariant-loop decreases-loop
+returns : tie.Need-returns invariant-loop-e decreases-loop-e
 returns c =
     let h = c.before in
     let s = h.before in
     let l = s.args.case.now in
     let r = s.args.rows.now in
-    let e : h.loop.e ≡ arcs_of l = omega (arith, s.requires.1, h.loop.invariant.0, c.loop-test.false) in
+    let e : h.loop-e.e ≡ arcs_of l = omega (arith, s.requires.1, h.loop-e.invariant.0, c.loop-e-test.false) in
     record {
-      each = λ i p. h.loop.invariant.1.each i (omega (arith, p, (counted s.requires.0).nodes)) ∙ ap (λ (n : ℕ). sum n (node_part l r i)) e ∙ net_flow_lem l r i;
+      each = λ i p. h.loop-e.invariant.1.each i (omega (arith, p, (counted s.requires.0).nodes)) ∙ ap (λ (n : ℕ). sum n (node_part l r i)) e ∙ net_flow_lem l r i;
     }
 
 pub net_flows_spec : {M : Type 1} → statement M
 net_flows_spec = tie.close (tie.spec
-    invariant-loop decreases-loop loop_holds (λ c κs. (c.before.before.requires.0, arc_in c))
+    invariant-loop-e decreases-loop-e loop_holds (λ c κs. (c.requires.0, arc_in c))
     (λ c κs. let s = c.before.before.before in (s.requires.0, arc_in c.before, s.requires.2))
-    (λ c. sym c.before.before.before.before.loop.invariant.2) moved_requires (λ c. omega arith) (λ c. omega arith) loop_again returns)
+    (λ c. sym c.loop-e.invariant.2) moved_requires (λ c. omega arith) (λ c. omega arith) loop_again returns)

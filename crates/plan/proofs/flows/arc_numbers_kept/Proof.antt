@@ -27,13 +27,13 @@ returns c =
     let setting = allowed.before in
     let t = setting.before in
     let flows = t.before in
-    let a = flows.before.args in
+    let a = flows.args in
     three a.c a.x a.r
-    (kept a.r.setting t.struct_told.given.1.1.0.1)
-    (kept a.r.machines row.struct_told3.given.1.1.1.0.1)
-    (kept a.x.machines own.struct_told2.given.1.1.1.1.0.1)
+    (kept a.r.setting t.struct_told-1.given.1.1.0.1)
+    (kept a.r.machines row.struct_told-3-1.given.1.1.1.0.1)
+    (kept a.x.machines own.struct_told-2-1.given.1.1.1.1.0.1)
     flows.flows_kept.ensures setting.setting_of.ensures allowed.setting_allowed.ensures machines.machines_within.ensures
-    two.both.ensures c.both2.ensures
+    two.both.ensures c.both-2.ensures
 
 pub arc_numbers_kept_spec : {M : Type 1} → statement M
 arc_numbers_kept_spec = tie.close (tie.spec

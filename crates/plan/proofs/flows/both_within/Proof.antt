@@ -8,11 +8,11 @@ returns : tie.Need-returns
 returns c =
     let two = c.before in
     let one = two.before in
-    let f = one.before.ranges in
+    let f = one.ranges in
     let least = to_z-of_z f.least in
     c.both.ensures
     ∙ ap₂ ◌&&◌ (one.within.ensures ∙ within_read least (to_z-of_z f.a) (to_z-of_z f.most))
-    (two.within2.ensures ∙ within_read least (to_z-of_z f.b) (to_z-of_z f.back))
+    (two.within-2.ensures ∙ within_read least (to_z-of_z f.b) (to_z-of_z f.back))
 
 pub both_within_spec : {M : Type 1} → statement M
 both_within_spec = tie.close (tie.spec (λ c κs. search rules) (λ c κs. search rules) (λ c κs. search rules) returns)

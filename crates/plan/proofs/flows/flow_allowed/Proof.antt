@@ -1,11 +1,12 @@
 -- 25 asks nothing of kinds 1 and 2; of any other the setting that was read decides.
-use Rattle.plan.proofs.Common.{◌≡◌, Bool, true, false, ◌&&◌, ⊎_elim, ℕ, ℤ, ◌<◌, ◌≤◌, arith, rules, le-leb, lt-leb, leb, kept}
+use Rattle.plan.proofs.Common.{◌≡◌, Bool, true, false, ◌&&◌, ℕ, ℤ, ◌<◌, ◌≤◌, arith, rules, le-leb, lt-leb, leb, kept}
 use Rattle.case.specs.declared.records.Arc.{Arc}
 use Rattle.plan.specs.declared.rows.ArcRow.{ArcRow}
 use Rattle.plan.specs.declared.setting.Setting.{Setting}
 use Rattle.plan.specs.law.Setting.{setting_of}
 use Rattle.plan.specs.law.ArcFlows.{no_flow_against, flow_allowed}
 use Rattle.plan.proofs.flows.flow_allowed.Statement.{statement}
+use Rattle.plan.proofs.flows.flow_allowed.Lts.{then-kind-lt1-own, else-kind-lt1-own}
 use Rattle.plan.proofs.flows.flow_allowed.Tie as tie
 
 valve : (k : ℕ) → k < 1 → (leb 1 k && leb k 2) ≡ false
@@ -25,19 +26,19 @@ module _ (c : Arc) (r : ArcRow) where
   unfolding flow_allowed
   decided k p q e = rw (k, e, q, p)
 
-returns : tie.Need-returns
+returns : tie.Need-returns-in-1
 returns c =
-    let a = c.before.before.args in
-    free a.c a.r c.before.if1.false c.if2.true
+    let a = c.args in
+    free a.c a.r c.in-1.if-kind-lt1-own.false c.in-1.if-kind-lt3-own.true
 
-returns_2 : tie.Need-returns-2
+returns_2 : tie.Need-returns-in_default
 returns_2 c =
     let n = c.before in
     let t = n.before in
     let j = t.before in
-    let a = j.before.args in
-    decided a.c a.r (⊎_elim (λ w. valve a.c.kind w.taken) (λ w. above a.c.kind w.1.left) j.if1.branch)
-    (kept a.r.setting t.struct_told.given.1.1.0.1) n.setting_of.ensures c.no_flow_against.ensures
+    let a = j.args in
+    decided a.c a.r (elim j.in-1.if-kind-lt1-own.branch [ then-kind-lt1-own w ↦ valve a.c.kind w.if-kind-lt1-own.true | else-kind-lt1-own w ↦ above a.c.kind w.1.left ])
+    (kept a.r.setting t.struct_told-1.given.1.1.0.1) n.setting_of.ensures c.no_flow_against.ensures
 
 pub flow_allowed_spec : {M : Type 1} → statement M
 flow_allowed_spec = tie.close (tie.spec (λ c κs. search rules) (λ c κs. search rules) returns returns_2)

@@ -21,13 +21,13 @@ returns c =
     let k = one.before in
     let r = k.before in
     let x = r.before in
-    let a = x.before.before.args in
-    let numbers = k.arc_numbers_kept.ensures ∙ three x.before.arc.ensures x.artificial.ensures r.arc_row.ensures in
-    let flow = two.before.flow_allowed.ensures ∙ ap₂ flow_allowed x.before.arc.ensures r.arc_row.ensures in
-    two_asked 24 25 (a.i + 1) a.e numbers flow one.ask.ensures two.ask2.ensures c.or_else.ensures
+    let a = x.args in
+    let numbers = k.arc_numbers_kept.ensures ∙ three x.arc-c.ensures x.artificial-x.ensures r.arc_row-r.ensures in
+    let flow = two.flow_allowed.ensures ∙ ap₂ flow_allowed x.arc-c.ensures r.arc_row-r.ensures in
+    two_asked 24 25 (a.i + 1) a.e numbers flow one.ask.ensures two.ask-2.ensures c.or_else.ensures
 
 pub flow_answer_spec : {M : Type 1} → statement M
 flow_answer_spec = tie.close (tie.spec
-    (λ c κs. search rules) (λ c κs. search rules) (λ c κs. let p = c.before.before.requires in (counted p.0, p.2))
-    (λ c κs. let p = c.before.before.before.requires in rw c.before.before.arc.ensures (qmax_sized p.0 _ p.2)) (λ c. search rules)
+    (λ c κs. search rules) (λ c κs. search rules) (λ c κs. let p = c.requires in (counted p.0, p.2))
+    (λ c κs. let p = c.requires in rw c.arc-c.ensures (qmax_sized p.0 _ p.2)) (λ c. search rules)
     (λ c κs. search rules) (λ c κs. search rules) (λ c. search rules) (λ c κs. search rules) (λ c κs. search rules) returns)

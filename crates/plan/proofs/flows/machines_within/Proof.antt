@@ -15,17 +15,17 @@ module _ (kind : ℕ) (own machines : ℤ) {m : ℤ} (p : m ≡ machines) {y : B
   unfolding machines_within
   own_ones k q least subset e = rw (lt-leb _ _ k, e, least, subset, p, q)
 
-returns : tie.Need-returns
+returns : tie.Need-returns-in-0
 returns c =
     let s = c.before.before in
-    none s.args.kind s.args.own_val s.args.machines (to_z-of_z s.ranges.machines) c.before.if1.true c.same.ensures
+    none s.args.kind s.args.own s.args.machines (to_z-of_z s.ranges.machines) c.in-0.is c.same.ensures
 
-returns_2 : tie.Need-returns-2
+returns_2 : tie.Need-returns-in_default
 returns_2 c =
     let b = c.before in
     let l = b.before in
     let s = l.before.before in
-    own_ones s.args.kind s.args.own_val s.args.machines (to_z-of_z s.ranges.machines) l.before.if1.false (to_z-of_z s.ranges.own_val)
+    own_ones s.args.kind s.args.own s.args.machines (to_z-of_z s.ranges.machines) l.in_default.if-kind-lt5-own.false (to_z-of_z s.ranges.own)
     l.at_most.ensures b.subset.ensures c.both.ensures
 
 pub machines_within_spec : {M : Type 1} → statement M

@@ -27,42 +27,42 @@ module _ (artificial : Bool) {s : Setting} (r : ArcRow) {n : ℤ} {y : Bool} whe
     backward : way ≡ Backward → artificial ≡ true → n ≡ r.a → y ≡ is_zero n → y ≡ no_flow_against artificial s r
     backward f g p h = rw (h, p, e, f, g)
 
-returns : tie.Need-returns
+returns : tie.Need-returns-in-Unknown
 returns c = search rules
 
-returns_2 : tie.Need-returns-2
+returns_2 : tie.Need-returns-in-Off
 returns_2 c =
     let b = c.before in
     let a = b.before.before in
     let t = a.before in
-    let p = t.before.before.before.args in
+    let p = t.args in
     let r = p.r in
     off p.artificial r
-    t.before.enum_told2.given.1 (kept r.a t.struct_told.given.0.1) (kept r.b b.before.struct_told2.given.1.0.1)
-    a.same.ensures b.same2.ensures c.both.ensures
+    t.in-Off.is (kept r.a t.struct_told-1.given.0.1) (kept r.b b.struct_told-in-Off-1.given.1.0.1)
+    a.same.ensures b.same-in-Off.ensures c.both.ensures
 
-returns_3 : tie.Need-returns-3
+returns_3 : tie.Need-returns-in-Forward
 returns_3 c =
     let w = c.before.before in
-    let t = w.before.before in
-    let s = t.before.before in
-    let p = s.before.before.args in
-    forward p.artificial p.r s.s.given.1
-    w.enum_told3.given.1 t.if1.true (kept p.r.b c.before.struct_told3.given.1.0.1) c.same3.ensures
+    let t = w.before in
+    let s = t.before in
+    let p = s.args in
+    forward p.artificial p.r s.in-Active.is
+    w.in-Forward.is t.if-artificial.true (kept p.r.b c.struct_told-in-Forward-1.given.1.0.1) c.same-in-Forward.ensures
 
-returns_4 : tie.Need-returns-4
+returns_4 : tie.Need-returns-in-Backward
 returns_4 c =
     let w = c.before.before in
-    let t = w.before.before in
-    let s = t.before.before in
-    let p = s.before.before.args in
-    backward p.artificial p.r s.s.given.1
-    w.enum_told4.given.1 t.if1.true (kept p.r.a c.before.struct_told4.given.0.1) c.same4.ensures
+    let t = w.before in
+    let s = t.before in
+    let p = s.args in
+    backward p.artificial p.r s.in-Active.is
+    w.in-Backward.is t.if-artificial.true (kept p.r.a c.struct_told-in-Backward-1.given.0.1) c.same-in-Backward.ensures
 
-returns_5 : tie.Need-returns-5
+returns_5 : tie.Need-returns-else-artificial
 returns_5 c =
-    let s = c.before.before in
-    rw (s.s.given.1, c.if1.false) (open_valve s.s.given.0.0 s.s.given.0.1.0 s.before.before.args.r)
+    let s = c.before in
+    rw (s.in-Active.is, c.if-artificial.false) (open_valve s.in-Active.way s.in-Active.mode s.args.r)
 
 pub no_flow_against_spec : {M : Type 1} → statement M
 no_flow_against_spec = tie.close (tie.spec

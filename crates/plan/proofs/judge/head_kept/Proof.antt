@@ -8,49 +8,49 @@ use Rattle.plan.proofs.judge.head_kept.Statement.{statement}
 use Rattle.plan.proofs.judge.head_kept.Tie as tie
 
 -- the two comparisons of the code are those of 20
-first_is : (c : tie.After-same) → c.same.result ≡ same (number_at c.before.before.args.plan.now 0) (pos 1)
-first_is c = simp (kept _ c.before.at.type_inv ∙ c.before.at.ensures) at c.same.ensures
+first_is : (c : tie.After-same) → c.same.result ≡ same (number_at c.args.plan.now 0) (pos 1)
+first_is c = simp (kept _ c.at.type_inv ∙ c.at.ensures) at c.same.ensures
 
-second_is : (c : tie.After-same2) → let s = c.before.before.before.before.before.before in
-    c.same2.result ≡ same (number_at s.args.plan.now 1) (pos (steps_of s.args.case.now))
+second_is : (c : tie.After-same-then-same) → let s = c.before.before.before.before.before.before in
+    c.same-then-same.result ≡ same (number_at s.args.plan.now 1) (pos (steps_of s.args.case.now))
 second_is c =
     let a = c.before.before in
-    let p = a.before.before.before.before.requires in
+    let p = a.requires in
     let t = kept _ (omega (arith, (small p.0 p.1).steps)) ∙ ap pos p.1.steps in
-    simp (kept _ a.at2.type_inv ∙ a.at2.ensures, t) at c.same2.ensures
+    simp (kept _ a.at-then-same.type_inv ∙ a.at-then-same.ensures, t) at c.same-then-same.ensures
 
-cast_same : tie.Need-overflow-cast-same
-cast_same c = let p = c.before.before.before.before.before.requires in record { sfits = omega (arith, (small p.0 p.1).steps) }
+cast_same : tie.Need-overflow_cast-layout
+cast_same c = let p = c.requires in record { sfits = omega (arith, (small p.0 p.1).steps) }
 
-step_width_requires : tie.Need-step-width-requires
-step_width_requires c κs = let p = c.before.before.before.before.before.before.before.requires in (small p.0 p.1).few
+step_width_requires : tie.Need-step_width-width-requires
+step_width_requires c κs = let p = c.requires in (small p.0 p.1).few
 
-mul_result : tie.Need-overflow-mul-result
+mul_result : tie.Need-overflow_mul-result
 mul_result c =
-    let p = c.before.before.before.before.before.before.before.before.before.requires in
-    rw c.before.step_width.ensures (record { fits = omega (arith, (small p.0 p.1).all) })
+    let p = c.requires in
+    rw c.step_width-width.ensures (record { fits = omega (arith, (small p.0 p.1).all) })
 
-add_result : tie.Need-overflow-add-result
+add_result : tie.Need-overflow_add-result
 add_result c =
-    let p = c.before.before.before.before.before.before.before.before.before.requires in
-    rw c.before.step_width.ensures (record { fits = omega (arith, (small p.0 p.1).all) })
+    let p = c.requires in
+    rw c.step_width-width.ensures (record { fits = omega (arith, (small p.0 p.1).all) })
 
-returns : tie.Need-returns
+returns : tie.Need-returns-then-same-2
 returns c =
     let t = c.before.before in
     let o = t.before.before.before.before in
     let s = o.before.before.before in
     let n = head_length s.args.case.now s.args.plan.now s.args.layout s.requires.1 in
-    rw c.before.step_width.ensures (ap (eqb (length s.args.plan.now)) n)
-    ∙ head_yes _ _ (first_is o.before) (second_is t.before) o.if1.true t.if2.true
+    rw c.step_width-width.ensures (ap (eqb (length s.args.plan.now)) n)
+    ∙ head_yes _ _ (first_is o.before) (second_is t.before) o.if-same.true t.if-same-2.true
 
-returns_2 : tie.Need-returns-2
+returns_2 : tie.Need-returns-else-same-2
 returns_2 c =
     let o = c.before.before.before.before in
-    head_second _ _ (first_is o.before) (second_is c.before) o.if1.true c.if2.false
+    head_second _ _ (first_is o.before) (second_is c.before) o.if-same.true c.if-same-2.false
 
-returns_3 : tie.Need-returns-3
-returns_3 c = head_first _ _ (first_is c.before) c.if1.false
+returns_3 : tie.Need-returns-else-same
+returns_3 c = head_first _ _ (first_is c.before) c.if-same.false
 
 pub head_kept_spec : {M : Type 1} → statement M
 head_kept_spec = tie.close (tie.spec

@@ -11,30 +11,30 @@ use Rattle.plan.proofs.judge.judge_head.Statement.{statement}
 use Rattle.plan.proofs.judge.judge_head.Tie as tie
 
 -- the answer on the case is that of its questions
-asked : (j : tie.After-judge-and-lay) → first_no (case_questions j.before.args.case.now) ≡ j.judge_and_lay.result.answer
-asked j = case_answer _ _ j.judge_and_lay.ensures.told_is
+asked : (j : tie.After-judge_and_lay-found) → first_no (case_questions j.args.case.now) ≡ j.judge_and_lay-found.result.answer
+asked j = case_answer _ _ j.judge_and_lay-found.ensures.told_is
 
 -- the layout, beside that answer
-laid : (j : tie.After-judge-and-lay) → let case = j.before.args.case.now in LayingOf case (case_laying case j.judge_and_lay.result.layout)
+laid : (j : tie.After-judge_and_lay-found) → let case = j.args.case.now in LayingOf case (case_laying case j.judge_and_lay-found.result.layout)
 unfolding judged_case
-laid j = let l = j.judge_and_lay.ensures in record { told_is = refl; passed = l.passed; refused = l.refused }
+laid j = let l = j.judge_and_lay-found.ensures in record { told_is = refl; passed = l.passed; refused = l.refused }
 
-returns : tie.Need-returns
+returns : tie.Need-returns-in-Yes
 unfolding head_judged head_questions
 returns c =
     let k = c.before in
     let e = k.before.before in
-    let j = e.before.before in
+    let j = e.before in
     let h = one_asked 20 0 0 k.head_kept.ensures c.ask.ensures in
-    record { told_is = ap told (went_on (case_questions _) (head_question _ _ ∷ []) (sym (asked j)) e.enum_told.given.1 h); laid = laid j }
+    record { told_is = ap told (went_on (case_questions _) (head_question _ _ ∷ []) (sym (asked j)) e.in-Yes.is h); laid = laid j }
 
-returns_2 : tie.Need-returns-2
+returns_2 : tie.Need-returns-in-No
 unfolding head_judged head_questions
 returns_2 c =
-    let j = c.before.before in
-    record { told_is = ap told (stopped (case_questions _) (head_question _ _ ∷ []) (sym (asked j)) c.enum_told2.given.1); laid = laid j }
+    let j = c.before in
+    record { told_is = ap told (stopped (case_questions _) (head_question _ _ ∷ []) (sym (asked j)) c.in-No.is); laid = laid j }
 
 pub judge_head_spec : {M : Type 1} → statement M
 judge_head_spec = tie.close (tie.spec
-    (λ c κs. search rules) (λ c. search rules) (λ c κs. case_laid c.before.before.before.judge_and_lay.ensures c.before.enum_told.given.1)
+    (λ c κs. search rules) (λ c. search rules) (λ c κs. case_laid c.judge_and_lay-found.ensures c.in-Yes.is)
     (λ c κs. search rules) (λ c. search rules) returns returns_2)

@@ -6,14 +6,14 @@ use Rattle.plan.proofs.judge.judge_plan.Tie as tie
 
 steps_requires : tie.Need-steps-requires
 steps_requires c κs =
-    let p = c.before.before.requires in
-    (p.0, p.1, plan_laid _ _ (sym c.before.head_kept.ensures ∙ c.if1.true))
+    let p = c.requires in
+    (p.0, p.1, plan_laid _ _ (sym c.head_kept.ensures ∙ c.if-head_kept.true))
 
-returns : tie.Need-returns
-returns c = head_passed _ _ (sym c.before.before.head_kept.ensures ∙ c.before.if1.true) c.steps.ensures
+returns : tie.Need-returns-then-head_kept
+returns c = head_passed _ _ (sym c.head_kept.ensures ∙ c.if-head_kept.true) c.steps.ensures
 
-returns_2 : tie.Need-returns-2
-returns_2 c = head_refused _ _ (sym c.before.head_kept.ensures ∙ c.if1.false)
+returns_2 : tie.Need-returns-else-head_kept
+returns_2 c = head_refused _ _ (sym c.head_kept.ensures ∙ c.if-head_kept.false)
 
 pub judge_plan_spec : {M : Type 1} → statement M
 judge_plan_spec = tie.close (tie.spec (λ c κs. search rules) steps_requires returns returns_2)

@@ -7,20 +7,20 @@ use Rattle.plan.proofs.SignedReads.{as_told}
 use Rattle.plan.proofs.ledger.figures.Statement.{statement}
 use Rattle.plan.proofs.ledger.figures.Tie as tie
 
-abbrev begin : tie.After-gather → tie.Start
+abbrev begin : tie.After-gather-g → tie.Start
 begin g = g.before.before.before
 
 -- what is gathered
-gathered : (g : tie.After-gather) → let a = (begin g).args in
-    Gathering a.case.now a.plan.now (inside_of a.inside.now) a.s a.t g.gather.result
-gathered g = g.gather.ensures
+gathered : (g : tie.After-gather-g) → let a = (begin g).args in
+    Gathering a.case.now a.plan.now (inside_of a.inside.now) a.s a.t g.gather-g.result
+gathered g = g.gather-g.ensures
 
-inner_pipes_requires : tie.Need-inner-pipes-requires
+inner_pipes_requires : tie.Need-inner_pipes-inner-requires
 inner_pipes_requires c κs =
     let g = c.before.before.before in
     let y = (begin g).requires.0 in
     let r = y.laid.rules in
-    (pressures_held r _ (omega (arith, y.order, y.last)) g.before.pressures_at.ensures, pressures_held r _ y.last (gathered g).held, y.counted)
+    (pressures_held r _ (omega (arith, y.order, y.last)) g.pressures_at-opening.ensures, pressures_held r _ y.last (gathered g).held, y.counted)
 
 returns : tie.Need-returns
 returns c =
@@ -28,13 +28,13 @@ returns c =
     let g = d.before.before.before.before in
     let s = begin g in
     let a = s.args in
-    let r = s.pre.0.laid.rules in
+    let r = s.requires.0.laid.rules in
     let inside = inside_of a.inside.now in
-    let i = d.inner_pipes.ensures in
-    figures_are a.case.now a.plan.now inside a.s a.t s.pre.1 i.pipes
-    (as_told c.before.struct_told.given.1.0.1 (i.opening ∙ gas_held r inside a.s g.before.pressures_at.ensures))
-    (as_told c.before.struct_told.given.1.1.0.1 (i.closing ∙ gas_held r inside a.t (gathered g).held))
-    (gathered g) (as_told c.struct_told2.given.1.0.1 refl)
+    let i = d.inner_pipes-inner.ensures in
+    figures_are a.case.now a.plan.now inside a.s a.t s.requires.1 i.pipes
+    (as_told c.struct_told-1.given.1.0.1 (i.opening ∙ gas_held r inside a.s g.pressures_at-opening.ensures))
+    (as_told c.struct_told-1.given.1.1.0.1 (i.closing ∙ gas_held r inside a.t (gathered g).held))
+    (gathered g) (as_told c.struct_told-2-1.given.1.0.1 refl)
 
 pub figures_spec : {M : Type 1} → statement M
 figures_spec = tie.close (tie.spec

@@ -5,10 +5,10 @@ use Rattle.numbers.specs.inside.ItemBits.{shifted, items_fit}
 use Rattle.plan.proofs.ledger.first_nodes.Statement.{statement}
 use Rattle.plan.proofs.ledger.first_nodes.Tie as tie
 
-sub_result : tie.Need-overflow-sub-result
+sub_result : tie.Need-overflow_sub-result
 sub_result c = rw (shifted c.args.n (omega (arith, c.requires))) (pow_pos c.args.n)
 
-cast_result : tie.Need-overflow-cast-result
+cast_result : tie.Need-overflow_cast-result
 cast_result c = rw (shifted c.args.n (omega (arith, c.requires))) (record { sfits = items_fit c.args.n (omega (arith, c.requires)) })
 
 returns : tie.Need-returns

@@ -7,23 +7,23 @@ use Rattle.plan.specs.inside.LedgerAnswer.{answers}
 use Rattle.plan.proofs.ledger.ledger.Statement.{statement}
 use Rattle.plan.proofs.ledger.ledger.Tie as tie
 
-region_ledger_requires : tie.Need-region-ledger-requires
-region_ledger_requires c κs = sound _ _ _ (sym c.before.before.judge.ensures ∙ ap verdict_told c.enum_told.given.1)
+region_ledger_requires : tie.Need-region_ledger-requires
+region_ledger_requires c κs = sound _ _ _ (sym c.judge-v.ensures ∙ ap verdict_told c.in-Accepted.is)
 
-returns : tie.Need-returns
+returns : tie.Need-returns-in-Accepted
 returns c =
-    let j = c.before.before.before in
-    let a = j.before.args in
-    let f = j.before.ranges in
-    let v = sym j.judge.ensures ∙ ap verdict_told c.before.enum_told.given.1 in
+    let j = c.before.before in
+    let a = j.args in
+    let f = j.ranges in
+    let v = sym j.judge-v.ensures ∙ ap verdict_told c.in-Accepted.is in
     let h = rw (to_z-of_z f.set, to_z-of_z f.s, to_z-of_z f.t) at c.region_ledger.ensures in
     answers a.case.now a.plan.now a.set a.s a.t (ledger_after a.case.now a.plan.now a.set a.s a.t _ v h)
 
-returns_2 : tie.Need-returns-2
+returns_2 : tie.Need-returns-in-Refused
 returns_2 c =
-    let j = c.before.before.before in
-    let a = j.before.args in
-    let v = sym j.judge.ensures ∙ ap verdict_told c.before.v.given.1 in
+    let j = c.before in
+    let a = j.args in
+    let v = sym j.judge-v.ensures ∙ ap verdict_told c.in-Refused.is in
     answers a.case.now a.plan.now a.set a.s a.t (ledger_refused a.case.now a.plan.now a.set a.s a.t _ _ _ v)
 
 pub ledger_spec : {M : Type 1} → statement M

@@ -9,30 +9,30 @@ use Rattle.plan.proofs.Filled.{Filling, start, turn, end}
 use Rattle.plan.proofs.ledger.members.Statement.{statement}
 use Rattle.plan.proofs.ledger.members.Tie as tie
 
-abbrev invariant-loop : tie.invariant-loop
-invariant-loop set nodes inside₀ v₀ inside v = Filling false inside (member_of (to_z w64 set)) node_capacity nodes v × Clear false inside v
+abbrev invariant-loop-v : tie.invariant-loop-v
+invariant-loop-v set nodes inside₀ v₀ inside v = Filling false inside (member_of (to_z w64 set)) node_capacity nodes v × Clear false inside v
 
-abbrev decreases-loop : tie.decreases-loop
-decreases-loop set nodes inside₀ v₀ inside v = nodes - v
+abbrev decreases-loop-v : tie.decreases-loop-v
+decreases-loop-v set nodes inside₀ v₀ inside v = nodes - v
 
-loop_holds : tie.Need-loop-init invariant-loop decreases-loop
+loop_holds : tie.Need-loop-v-init invariant-loop-v decreases-loop-v
 loop_holds c = (start refl, clear_new node_capacity 0)
 
-loop_again : tie.Need-loop-preserved invariant-loop decreases-loop
+loop_again : tie.Need-loop-v-preserved invariant-loop-v decreases-loop-v
 loop_again c =
     let h = c.before.before in
-    let k = h.loop.invariant in
-    (turn k.0 c.before.loop-test.true h.before.requires.0 c.member.ensures, clear_more k.1 _)
+    let k = h.loop-v.invariant in
+    (turn k.0 c.loop-v-test.true h.requires.0 c.member.ensures, clear_more k.1 _)
 
-returns : tie.Need-returns invariant-loop decreases-loop
+returns : tie.Need-returns invariant-loop-v decreases-loop-v
 returns c =
     let l = c.before in
     let s = l.before in
-    let e : l.loop.v ≡ s.args.nodes = omega arith in
-    let h = end l.loop.invariant.0 c.loop-test.false in
-    members_are s.args.set s.args.nodes s.requires.1 (rw (to_z-of_z s.ranges.set) at h) (rw e at l.loop.invariant.1)
+    let e : l.loop-v.v ≡ s.args.nodes = omega arith in
+    let h = end l.loop-v.invariant.0 c.loop-v-test.false in
+    members_are s.args.set s.args.nodes s.requires.1 (rw (to_z-of_z s.ranges.set) at h) (rw e at l.loop-v.invariant.1)
 
 pub members_spec : {M : Type 1} → statement M
 members_spec = tie.close (tie.spec
-    invariant-loop decreases-loop loop_holds (λ c κs. search rules) (λ c. omega arith) (λ c. omega arith) (λ c. omega arith)
+    invariant-loop-v decreases-loop-v loop_holds (λ c κs. search rules) (λ c. omega arith) (λ c. omega arith) (λ c. omega arith)
     loop_again returns)

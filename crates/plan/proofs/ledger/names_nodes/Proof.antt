@@ -9,27 +9,27 @@ use Rattle.plan.proofs.ledger.names_nodes.Statement.{statement}
 use Rattle.plan.proofs.ledger.names_nodes.Tie as tie
 
 -- the case's count of nodes
-nodes_is : (c : tie.After-index) → c.index.result ≡ nodes_of c.before.before.args.case.now
-nodes_is c = count_read c.index.ensures c.before.at.type_inv c.before.at.ensures
+nodes_is : (c : tie.After-index-nodes) → c.index-nodes.result ≡ nodes_of c.args.case.now
+nodes_is c = count_read c.index-nodes.ensures c.at.type_inv c.at.ensures
 
-few : (c : tie.After-index) → c.index.result ≤ set_room
-few c = omega (arith, nodes_is c, c.before.before.requires)
+few : (c : tie.After-index-nodes) → c.index-nodes.result ≤ set_room
+few c = omega (arith, nodes_is c, c.requires)
 
-in_range : (w : tie.After-within) → w.within.result ≡ is_node_set w.before.before.before.before.args.set
-in_range w = let f = w.before.first_nodes in rw (to_z-of_z w.before.before.before.before.ranges.set, kept _ f.type_inv ∙ f.ensures) at w.within.ensures
+in_range : (w : tie.After-within) → w.within.result ≡ is_node_set w.args.set
+in_range w = let f = w.first_nodes in rw (to_z-of_z w.ranges.set, kept _ f.type_inv ∙ f.ensures) at w.within.ensures
 
-returns : tie.Need-returns
+returns : tie.Need-returns-then-within
 unfolding names_nodes
 returns c =
     let w = c.before.before.before in
-    let f = c.before.first_nodes2 in
+    let f = c.first_nodes-then-within in
     let b = kept _ f.type_inv ∙ f.ensures ∙ ap first_items (nodes_is w.before.before) in
-    let e = rw (to_z-of_z w.before.before.before.before.ranges.set, b) at c.subset.ensures in
-    rw (sym (in_range w) ∙ c.before.before.if1.true) e
+    let e = rw (to_z-of_z w.ranges.set, b) at c.subset.ensures in
+    rw (sym (in_range w) ∙ c.if-within.true) e
 
-returns_2 : tie.Need-returns-2
+returns_2 : tie.Need-returns-else-within
 unfolding names_nodes
-returns_2 c = rw (sym (in_range c.before) ∙ c.if1.false)
+returns_2 c = rw (sym (in_range c.before) ∙ c.if-within.false)
 
 pub names_nodes_spec : {M : Type 1} → statement M
 names_nodes_spec = tie.close (tie.spec

@@ -8,24 +8,24 @@ use Rattle.plan.specs.law.Ledger.{names_nodes, region_questions}
 use Rattle.plan.proofs.ledger.region_answer.Statement.{statement}
 use Rattle.plan.proofs.ledger.region_answer.Tie as tie
 
-named : (n : tie.After-names-nodes) → names_nodes n.before.args.case.now n.before.args.set ≡ n.names_nodes.result
-named n = sym (rw (to_z-of_z n.before.ranges.set) at n.names_nodes.ensures)
+named : (n : tie.After-names_nodes) → names_nodes n.args.case.now n.args.set ≡ n.names_nodes.result
+named n = sym (rw (to_z-of_z n.ranges.set) at n.names_nodes.ensures)
 
-returns : tie.Need-returns
+returns : tie.Need-returns-then-names_nodes
 unfolding region_questions
 returns c =
     let n = c.before.before.before in
-    let f = n.before.ranges in
-    let b = rw (to_z-of_z f.s, to_z-of_z f.t) at c.before.times_ordered.ensures in
-    rw (named n ∙ c.before.before.if1.true) (c.ask.ensures ∙ ap (λ (x : Bool). answer x 41 0 0) b ∙ sym (or_else_yes _))
+    let f = n.ranges in
+    let b = rw (to_z-of_z f.s, to_z-of_z f.t) at c.times_ordered.ensures in
+    rw (named n ∙ c.if-names_nodes.true) (c.ask.ensures ∙ ap (λ (x : Bool). answer x 41 0 0) b ∙ sym (or_else_yes _))
 
-returns_2 : tie.Need-returns-2
+returns_2 : tie.Need-returns-else-names_nodes
 unfolding region_questions
 returns_2 c =
     let n = c.before.before in
-    rw (named n ∙ c.before.if1.false) (ap (No 40 0) (rw (to_z-of_z n.before.ranges.set) at c.foreign_node.ensures))
+    rw (named n ∙ c.if-names_nodes.false) (ap (No 40 0) (rw (to_z-of_z n.ranges.set) at c.foreign_node.ensures))
 
 pub region_answer_spec : {M : Type 1} → statement M
 region_answer_spec = tie.close (tie.spec
-    (λ c κs. nodes_in_set _ (counted c.requires)) (λ c κs. (counted c.before.before.requires).steps) (λ c κs. search rules)
-    (λ c κs. nodes_in_set _ (counted c.before.before.requires)) returns returns_2)
+    (λ c κs. nodes_in_set _ (counted c.requires)) (λ c κs. (counted c.requires).steps) (λ c κs. search rules)
+    (λ c κs. nodes_in_set _ (counted c.requires)) returns returns_2)

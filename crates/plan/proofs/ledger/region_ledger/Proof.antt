@@ -16,21 +16,21 @@ as_read : (s : tie.Start) {r : Ledger} → let a = s.args in let set = to_z w64 
     → r ≡ ledger_by (first_no (region_questions a.case.now a.set a.s a.t)) (figures_for a.case.now a.plan.now a.set a.s a.t)
 as_read s e = let f = s.ranges in rw (to_z-of_z f.set, to_z-of_z f.s, to_z-of_z f.t) at e
 
-asked_yes : (c : tie.After-enum-told) → let a = c.before.before.before.args in
+asked_yes : (c : tie.In-Yes) → let a = c.args in
     first_no (region_questions a.case.now (to_z w64 (of_z w64 a.set)) (to_z w64 (of_z w64 a.s)) (to_z w64 (of_z w64 a.t))) ≡ Yes
-asked_yes c = sym c.before.before.region_answer.ensures ∙ c.enum_told.given.1
+asked_yes c = sym c.region_answer-a.ensures ∙ c.in-Yes.is
 
-set_figures_requires : tie.Need-set-figures-requires
+set_figures_requires : tie.Need-set_figures-requires
 set_figures_requires c κs =
-    let s = c.before.before.before in
+    let s = c.before.before in
     let plan = s.args.plan.now in
     (s.requires, nodes_kept _ plan _ _ _ (asked_yes c), times_kept _ plan _ _ _ (asked_yes c))
 
-returns : tie.Need-returns
-returns c = as_read c.before.before.before.before (rw (asked_yes c.before) (ap Given c.set_figures.ensures))
+returns : tie.Need-returns-in-Yes
+returns c = as_read c.before.before.before (rw (asked_yes c.before) (ap Given c.set_figures.ensures))
 
-returns_2 : tie.Need-returns-2
-returns_2 c = as_read c.before.before.before.before (rw (sym c.before.before.before.region_answer.ensures ∙ c.before.a.given.1))
+returns_2 : tie.Need-returns-in-No
+returns_2 c = as_read c.before.before (rw (sym c.region_answer-a.ensures ∙ c.in-No.is))
 
 pub region_ledger_spec : {M : Type 1} → statement M
 region_ledger_spec = tie.close (tie.spec

@@ -14,47 +14,47 @@ use Rattle.plan.proofs.ledger.set_figures.Statement.{statement}
 use Rattle.plan.proofs.ledger.set_figures.Tie as tie
 
 -- the case's counts, which are small
-nodes_is : (c : tie.After-index) → c.index.result ≡ nodes_of c.before.before.args.case.now
-nodes_is c = count_read c.index.ensures c.before.at.type_inv c.before.at.ensures
+nodes_is : (c : tie.After-index-nodes) → c.index-nodes.result ≡ nodes_of c.args.case.now
+nodes_is c = count_read c.index-nodes.ensures c.at.type_inv c.at.ensures
 
-arcs_is : (c : tie.After-index2) → c.index2.result ≡ arcs_of c.before.before.before.before.args.case.now
-arcs_is c = count_read c.index2.ensures c.before.at2.type_inv c.before.at2.ensures
+arcs_is : (c : tie.After-index-arcs) → c.index-arcs.result ≡ arcs_of c.args.case.now
+arcs_is c = count_read c.index-arcs.ensures c.at-2.type_inv c.at-2.ensures
 
-stations_is : (c : tie.After-index3) → c.index3.result ≡ stations_of c.before.before.before.before.before.before.args.case.now
-stations_is c = count_read c.index3.ensures c.before.at3.type_inv c.before.at3.ensures
+stations_is : (c : tie.After-index) → c.index.result ≡ stations_of c.args.case.now
+stations_is c = count_read c.index.ensures c.at-3.type_inv c.at-3.ensures
 
 small : (s : tie.Start) → Counted s.args.case.now
 small s = counted (record { yes = s.requires.0.case_yes })
 
-step_width_requires : tie.Need-step-width-requires
+step_width_requires : tie.Need-step_width-width-requires
 step_width_requires c κs =
     let m = c.before.before in
     let n = m.before.before in
     let k = small n.before.before in
     (omega (arith, nodes_is n, k.nodes), omega (arith, arcs_is m, k.arcs), omega (arith, stations_is c, k.stations))
 
-members_requires : tie.Need-members-requires
+members_requires : tie.Need-members-inside-requires
 members_requires c κs =
     let n = c.before.before.before.before.before in
     let s = n.before.before in
     (omega (arith, nodes_is n, (small s).nodes), rw (to_z-of_z s.ranges.set, nodes_is n) (within s.args.case.now s.args.set s.requires.1))
 
-inside_is : (m : tie.After-members) → let s = m.before.before.before.before.before.before.before.before in
-    inside_of m.members.result ≡ member_of s.args.set
-inside_is m = m.members.ensures ∙ ap member_of (to_z-of_z m.before.before.before.before.before.before.before.before.ranges.set)
+inside_is : (m : tie.After-members-inside) → let s = m.before.before.before.before.before.before.before.before in
+    inside_of m.members-inside.result ≡ member_of s.args.set
+inside_is m = m.members-inside.ensures ∙ ap member_of (to_z-of_z m.ranges.set)
 
-abbrev arrayed : tie.After-index5 → tie.After-members
+abbrev arrayed : tie.After-index-3 → tie.After-members-inside
 arrayed c = c.before.before.before.before
 
-abbrev begin : tie.After-index5 → tie.Start
+abbrev begin : tie.After-index-3 → tie.Start
 begin c = (arrayed c).before.before.before.before.before.before.before.before
 
 -- the two times
-first_is : (c : tie.After-index5) → c.before.index4.result ≡ pos_part (begin c).args.s
-first_is c = c.before.index4.ensures ∙ ap pos_part (to_z-of_z (begin c).ranges.s)
+first_is : (c : tie.After-index-3) → c.index-2.result ≡ pos_part (begin c).args.s
+first_is c = c.index-2.ensures ∙ ap pos_part (to_z-of_z (begin c).ranges.s)
 
-last_is : (c : tie.After-index5) → c.index5.result ≡ pos_part (begin c).args.t
-last_is c = c.index5.ensures ∙ ap pos_part (to_z-of_z (begin c).ranges.t)
+last_is : (c : tie.After-index-3) → c.index-3.result ≡ pos_part (begin c).args.t
+last_is c = c.index-3.ensures ∙ ap pos_part (to_z-of_z (begin c).ranges.t)
 
 figures_requires : tie.Need-figures-requires
 unfolding step_width
@@ -63,11 +63,11 @@ figures_requires c κs =
     let w = (arrayed c).before in
     let n = nodes_is w.before.before.before.before.before in
     let m = arcs_is w.before.before.before in
-    let o = in_order s.args.case.now s.args.s s.args.t s.pre.2 in
-    let size = rw (to_z-of_z s.fits.set) at c.before.before.before.count.ensures in
-    let k = nodes_counted s.args.case.now s.args.set s.pre.1 in (
+    let o = in_order s.args.case.now s.args.s s.args.t s.requires.2 in
+    let size = rw (to_z-of_z s.fits.set) at c.count-size.ensures in
+    let k = nodes_counted s.args.case.now s.args.set s.requires.1 in (
       record {
-        laid = record { rules = s.pre.0; counted = n; wide = omega (arith, w.step_width.ensures, n, m, stations_is w.before) };
+        laid = record { rules = s.requires.0; counted = n; wide = omega (arith, w.step_width-width.ensures, n, m, stations_is w.before) };
         counted = m;
         order = omega (arith, first_is c, last_is c, o.order);
         last = omega (arith, last_is c, o.last);

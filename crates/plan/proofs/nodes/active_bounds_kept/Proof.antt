@@ -5,22 +5,22 @@ use Rattle.plan.specs.law.NodeRules.{active_bounds_kept}
 use Rattle.plan.proofs.nodes.active_bounds_kept.Statement.{statement}
 use Rattle.plan.proofs.nodes.active_bounds_kept.Tie as tie
 
-add_at_most : tie.Need-overflow-add-at-most
-add_at_most c = let p = c.before.before.before.before.before.requires in held_fits (param p.p tt +ʳ param p.uplus tt) tt
+add_at_most : tie.Need-overflow_add-r
+add_at_most c = let p = c.requires in held_fits (param p.p tt +ʳ param p.uplus tt) tt
 
-sub_at_most : tie.Need-overflow-sub-at-most
+sub_at_most : tie.Need-overflow_sub-r
 sub_at_most c =
-    let p = c.before.before.before.before.before.before.before.before.before.requires in
+    let p = c.requires in
     held_fits (param p.p tt -ʳ param p.uminus tt) tt
 
-returns : tie.Need-returns
+returns : tie.Need-returns-then-same
 unfolding active_bounds_kept
 returns c =
     let t = c.before.before in
-    let demand = kept t.before.args.n.demand t.struct_told.given.1.1.1.1.1.1.0.1 in
-    rw (sym (c.before.same.ensures ∙ ap is_zero demand) ∙ c.if1.true)
+    let demand = kept t.args.n.demand t.struct_told-1.given.1.1.1.1.1.1.0.1 in
+    rw (sym (c.same.ensures ∙ ap is_zero demand) ∙ c.if-same.true)
 
-returns_2 : tie.Need-returns-2
+returns_2 : tie.Need-returns-else-same
 unfolding active_bounds_kept
 returns_2 c =
     let high = c.before in
@@ -29,12 +29,12 @@ returns_2 c =
     let t = m.before.before in
     let s = t.before in
     let n = s.args.n in
-    let fits = t.struct_told.given in
+    let fits = t.struct_told-1.given in
     let up = (held (param s.requires.p tt +ʳ param s.requires.uplus tt) tt).val in
     let down = (held (param s.requires.p tt -ʳ param s.requires.uminus tt) tt).val in
     let a = low.at_most.ensures ∙ ap₂ le_z (kept n.actlow fits.1.1.1.1.0.1) up in
-    let b = high.at_most2.ensures ∙ ap₂ le_z down (kept n.acthigh fits.1.1.1.1.1.0.1) in
-    rw (sym (m.before.same.ensures ∙ ap is_zero (kept n.demand fits.1.1.1.1.1.1.0.1)) ∙ m.if1.false)
+    let b = high.at_most-else-same.ensures ∙ ap₂ le_z down (kept n.acthigh fits.1.1.1.1.1.0.1) in
+    rw (sym (m.same.ensures ∙ ap is_zero (kept n.demand fits.1.1.1.1.1.1.0.1)) ∙ m.if-same.false)
     (c.both.ensures ∙ ap₂ ◌&&◌ a b)
 
 pub active_bounds_kept_spec : {M : Type 1} → statement M

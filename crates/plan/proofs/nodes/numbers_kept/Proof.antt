@@ -13,14 +13,14 @@ returns c =
     let range = flow.before.before in
     let u = range.before.before in
     let t = u.before in
-    let n = t.before.args.n in
-    let r = t.before.args.r in
-    let fits = t.struct_told.given in
-    let row = u.struct_told2.given in
+    let n = t.args.n in
+    let r = t.args.r in
+    let fits = t.struct_told-1.given in
+    let row = u.struct_told-2-1.given in
     let p = within_read (kept n.low fits.1.1.0.1) (kept r.p row.0.1) (kept n.high fits.1.1.1.0.1) in
     let d = ap (boundary_flow_kept n.kind) (kept r.d row.1.0.1) in
-    c.both2.ensures
-    ∙ ap₂ ◌&&◌ (range.within.ensures ∙ p) (c.before.both.ensures ∙ ap₂ ◌&&◌ (flow.flow_kept.ensures ∙ d) slacks.slacks_kept.ensures)
+    c.both-2.ensures
+    ∙ ap₂ ◌&&◌ (range.within.ensures ∙ p) (c.both.ensures ∙ ap₂ ◌&&◌ (flow.flow_kept.ensures ∙ d) slacks.slacks_kept.ensures)
 
 pub numbers_kept_spec : {M : Type 1} → statement M
 numbers_kept_spec = tie.close (tie.spec

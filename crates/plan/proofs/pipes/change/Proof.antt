@@ -6,9 +6,9 @@ use Rattle.plan.proofs.SignedReads.{read}
 use Rattle.plan.proofs.pipes.change.Statement.{statement}
 use Rattle.plan.proofs.pipes.change.Tie as tie
 
-moved : (c : tie.After-at) → let a = c.before.before.args in
-    Held (to_z w64 (of_z w64 c.before.pressure.result) -ℤ to_z w64 (of_z w64 c.at.result)) (change (number_at a.old.now) a.rows.now a.v) 400000
-moved c = let s = c.before.before in read c.before.pressure.ensures s.requires.2 tt -ʳ read c.at.ensures s.requires.1 tt
+moved : (c : tie.After-at) → let a = c.args in
+    Held (to_z w64 (of_z w64 c.pressure.result) -ℤ to_z w64 (of_z w64 c.at.result)) (change (number_at a.old.now) a.rows.now a.v) 400000
+moved c = let s = c.before.before in read c.pressure.ensures s.requires.2 tt -ʳ read c.at.ensures s.requires.1 tt
 
 returns : tie.Need-returns
 returns c = (held (moved c) tt).val

@@ -6,12 +6,12 @@ use Rattle.plan.proofs.SignedReads.{as_told}
 use Rattle.plan.proofs.pipes.duration.Statement.{statement}
 use Rattle.plan.proofs.pipes.duration.Tie as tie
 
-passed : (c : tie.After-time-before) → let a = c.before.before.args in
-    Held (to_z w64 (of_z w64 c.before.time.result) -ℤ to_z w64 (of_z w64 c.time_before.result)) (duration a.case.now a.i) 86400
+passed : (c : tie.After-time_before) → let a = c.args in
+    Held (to_z w64 (of_z w64 c.time.result) -ℤ to_z w64 (of_z w64 c.time_before.result)) (duration a.case.now a.i) 86400
 unfolding duration
 passed c =
     let s = c.before.before in
-    let t = c.before.time in
+    let t = c.time in
     record {
       val = ap₂ ◌-ℤ◌ (as_told t.type_inv t.ensures) (as_told c.time_before.type_inv c.time_before.ensures);
       bound = (duration_sized s.requires.0 s.args.i s.requires.1).bound;

@@ -7,9 +7,9 @@ use Rattle.plan.proofs.SignedReads.{as_told}
 use Rattle.plan.proofs.pipes.mass_kept.Statement.{statement}
 use Rattle.plan.proofs.pipes.mass_kept.Tie as tie
 
-mass_small : (c : tie.After-pipe-residual) → c.pipe_residual.result ≤ 100000000000000
+mass_small : (c : tie.After-pipe_residual-mass) → c.pipe_residual-mass.result ≤ 100000000000000
 unfolding pipe_residual
-mass_small c = rw c.pipe_residual.ensures (imbalance_sized c.before.requires).bound
+mass_small c = rw c.pipe_residual-mass.ensures (imbalance_sized c.requires).bound
 
 returns : tie.Need-returns
 unfolding pipe_mass_kept
@@ -18,7 +18,7 @@ returns c =
     let m = t.before in
     let s = m.before in
     let k : is_pipe s.args.case.now s.args.e ≡ true = eq-eqb _ 2 s.requires.pipe in
-    let mass = (param {z = pos m.pipe_residual.result} (record { bound = mass_small m }) tt).val ∙ ap pos m.pipe_residual.ensures in
+    let mass = (param {z = pos m.pipe_residual-mass.result} (record { bound = mass_small m }) tt).val ∙ ap pos m.pipe_residual-mass.ensures in
     rw k (c.at_most.ensures ∙ ap₂ le_z mass (as_told t.at.type_inv t.at.ensures))
 
 pub mass_kept_spec : {M : Type 1} → statement M

@@ -15,8 +15,8 @@ returns c =
     let two = c.before in
     let one = two.before in
     let e = one.before in
-    let a = e.before.before.args in
-    two_asked 28 29 (a.i + 1) a.e e.before.mass_kept.ensures e.ends_kept.ensures one.ask.ensures two.ask2.ensures c.or_else.ensures
+    let a = e.args in
+    two_asked 28 29 (a.i + 1) a.e e.mass_kept-mass.ensures e.ends_kept-ends.ensures one.ask.ensures two.ask-2.ensures c.or_else.ensures
 
 pub pipe_kept_spec : {M : Type 1} → statement M
 pipe_kept_spec = tie.close (tie.spec

@@ -7,37 +7,37 @@ use Rattle.plan.proofs.SignedReads.{read_bounded}
 use Rattle.plan.proofs.pipes.pipe_residual.Statement.{statement}
 use Rattle.plan.proofs.pipes.pipe_residual.Tie as tie
 
-abbrev start : tie.After-struct-told3 → tie.Start
+abbrev start : tie.After-struct_told-3-1 → tie.Start
 start c = c.before.before.before.before.before.before.before.before.before
 
-abbrev imbalance_of : tie.After-struct-told3 → ℤ
+abbrev imbalance_of : tie.After-struct_told-3-1 → ℤ
 imbalance_of c = let a = (start c).args in pipe_imbalance a.case.now (number_at a.old.now) a.rows.now a.i a.e
 
-parts : (c : tie.After-struct-told3) →
+parts : (c : tie.After-struct_told-3-1) →
     let p = c.before.before.before in
     let y = p.before.before in
-    let r = y.before.before.arc_row.result in
-    SumRead p.before.duration.result r.a r.b p.pipe.result.c y.before.change.result y.change2.result (imbalance_of c)
+    let r = y.arc_row-r.result in
+    SumRead p.duration.result r.a r.b p.pipe.result.c y.change-x.result y.change-y.result (imbalance_of c)
 parts c =
     let p = c.before.before.before in
     let y = p.before.before in
     let r = y.before.before in
-    sum_read (start c).requires p.before.duration.ensures r.arc_row.ensures p.pipe.ensures r.before.arc.ensures
-    y.before.change.ensures y.change2.ensures
+    sum_read (start c).requires p.duration.ensures r.arc_row-r.ensures p.pipe.ensures r.arc-c.ensures
+    y.change-x.ensures y.change-y.ensures
 
 whole : (c : tie.After-imbalance) → Held (to_z w64 (of_z w64 c.imbalance.result)) (imbalance_of c.before) 100000000000000
 whole c = let t = (parts c.before).total in held (record { val = c.imbalance.ensures ∙ t.val; bound = t.bound }) tt
 
-change_requires : tie.Need-change-requires
+change_requires : tie.Need-change-x-requires
 change_requires c κs =
-    let a = c.before.before.requires.at in
-    let n = from_in a.accepted a.arc c.before.arc.ensures in
+    let a = c.requires.at in
+    let n = from_in a.accepted a.arc c.arc-c.ensures in
     (omega (arith, n, (counted a.accepted).nodes), a.before.each _ n, a.pressures.each _ n)
 
-change_requires_2 : tie.Need-change-requires-2
+change_requires_2 : tie.Need-change-y-requires
 change_requires_2 c κs =
-    let a = c.before.before.before.requires.at in
-    let n = to_in a.accepted a.arc c.before.before.arc.ensures in
+    let a = c.requires.at in
+    let n = to_in a.accepted a.arc c.arc-c.ensures in
     (omega (arith, n, (counted a.accepted).nodes), a.before.each _ n, a.pressures.each _ n)
 
 returns : tie.Need-returns
@@ -46,5 +46,5 @@ returns c = c.size.ensures ∙ ap nat_abs (whole c.before).val
 
 pub pipe_residual_spec : {M : Type 1} → statement M
 pipe_residual_spec = tie.close (tie.spec
-    (λ c κs. search rules) (λ c κs. let a = c.before.requires.at in (counted a.accepted, a.arc)) change_requires change_requires_2
+    (λ c κs. search rules) (λ c κs. let a = c.requires.at in (counted a.accepted, a.arc)) change_requires change_requires_2
     (λ c κs. search rules) (λ c κs. search rules) (λ c κs. (parts c).sizes) (λ c κs. omega (arith, (read_bounded (whole c)).bound)) returns)

@@ -33,7 +33,7 @@ module _ {to' to from' from f' f a' a : ℤ}
         (pos 1000000 *ℤ (to -ℤ from) +ℤ f *ℤ a +ℤ g *ℤ b +ℤ h *ℤ (from +ℤ to)) 200480000000000
     all x = held two tt +ʳ held (x *ʳ held (u +ʳ t) tt) tt
 
-abbrev start : tie.After-pressure2 → tie.Start
+abbrev start : tie.After-pressure-to → tie.Start
 start c = c.before.before.before.before.before
 
 abbrev arc_of_lem : tie.Start → Arc
@@ -45,64 +45,64 @@ pipe_of_lem s = pipe_of s.args.case.now s.args.e
 abbrev row_of : tie.Start → ArcRow
 row_of s = arc_row s.args.case.now s.args.rows.now s.args.e
 
-from : (c : tie.After-pressure2) → let s = start c in
-    Held (to_z w64 (of_z w64 c.before.pressure.result)) (pressure_in s.args.rows.now (arc_of_lem s).from) 200000
+from : (c : tie.After-pressure-to) → let s = start c in
+    Held (to_z w64 (of_z w64 c.pressure-from.result)) (pressure_in s.args.rows.now (arc_of_lem s).from) 200000
 from c =
     let s = start c in
-    let a = s.pre.at in
-    let k = ap (λ (x : Arc). pressure_in s.args.rows.now x.from) c.before.before.before.before.arc.ensures in
-    read (c.before.pressure.ensures ∙ k) (a.pressures.each _ (from_node a.accepted s.args.e a.arc)) tt
+    let a = s.requires.at in
+    let k = ap (λ (x : Arc). pressure_in s.args.rows.now x.from) c.arc-c.ensures in
+    read (c.pressure-from.ensures ∙ k) (a.pressures.each _ (from_node a.accepted s.args.e a.arc)) tt
 
-to : (c : tie.After-pressure2) → let s = start c in
-    Held (to_z w64 (of_z w64 c.pressure2.result)) (pressure_in s.args.rows.now (arc_of_lem s).to) 200000
+to : (c : tie.After-pressure-to) → let s = start c in
+    Held (to_z w64 (of_z w64 c.pressure-to.result)) (pressure_in s.args.rows.now (arc_of_lem s).to) 200000
 to c =
     let s = start c in
-    let a = s.pre.at in
-    let k = ap (λ (x : Arc). pressure_in s.args.rows.now x.to) c.before.before.before.before.arc.ensures in
-    read (c.pressure2.ensures ∙ k) (a.pressures.each _ (to_node a.accepted s.args.e a.arc)) tt
+    let a = s.requires.at in
+    let k = ap (λ (x : Arc). pressure_in s.args.rows.now x.to) c.arc-c.ensures in
+    read (c.pressure-to.ensures ∙ k) (a.pressures.each _ (to_node a.accepted s.args.e a.arc)) tt
 
-a : (c : tie.After-pressure2) → Held (to_z w64 (of_z w64 c.before.before.arc_row.result.a)) (row_of (start c)).a 10000000
-a c = read (ap (λ (x : ArcRow). x.a) c.before.before.arc_row.ensures) (start c).requires.at.flows.a tt
+a : (c : tie.After-pressure-to) → Held (to_z w64 (of_z w64 c.arc_row-r.result.a)) (row_of (start c)).a 10000000
+a c = read (ap (λ (x : ArcRow). x.a) c.arc_row-r.ensures) (start c).requires.at.flows.a tt
 
-b : (c : tie.After-pressure2) → Held (to_z w64 (of_z w64 c.before.before.arc_row.result.b)) (row_of (start c)).b 10000000
-b c = read (ap (λ (x : ArcRow). x.b) c.before.before.arc_row.ensures) (start c).requires.at.flows.b tt
+b : (c : tie.After-pressure-to) → Held (to_z w64 (of_z w64 c.arc_row-r.result.b)) (row_of (start c)).b 10000000
+b c = read (ap (λ (x : ArcRow). x.b) c.arc_row-r.ensures) (start c).requires.at.flows.b tt
 
 sizes : (s : tie.Start) → PipeSized (pipe_of_lem s)
 sizes s = pipe_sized s.requires.at.accepted s.args.e s.requires.at.arc s.requires.pipe
 
-f : (c : tie.After-pressure2) → Held (to_z w64 (of_z w64 c.before.before.before.pipe.result.f)) (pipe_of_lem (start c)).f 10000000
-f c = read (ap (λ (x : Pipe). x.f) c.before.before.before.pipe.ensures) (sizes (start c)).f tt
+f : (c : tie.After-pressure-to) → Held (to_z w64 (of_z w64 c.pipe-x.result.f)) (pipe_of_lem (start c)).f 10000000
+f c = read (ap (λ (x : Pipe). x.f) c.pipe-x.ensures) (sizes (start c)).f tt
 
-g : (c : tie.After-pressure2) → Held (to_z w64 (of_z w64 c.before.before.before.pipe.result.g)) (pipe_of_lem (start c)).g 10000000
-g c = read (ap (λ (x : Pipe). x.g) c.before.before.before.pipe.ensures) (sizes (start c)).g tt
+g : (c : tie.After-pressure-to) → Held (to_z w64 (of_z w64 c.pipe-x.result.g)) (pipe_of_lem (start c)).g 10000000
+g c = read (ap (λ (x : Pipe). x.g) c.pipe-x.ensures) (sizes (start c)).g tt
 
-h : (c : tie.After-pressure2) → Held (to_z w64 (of_z w64 c.before.before.before.pipe.result.h)) (pipe_of_lem (start c)).h 200000
-h c = read (ap (λ (x : Pipe). x.h) c.before.before.before.pipe.ensures) (sizes (start c)).h tt
+h : (c : tie.After-pressure-to) → Held (to_z w64 (of_z w64 c.pipe-x.result.h)) (pipe_of_lem (start c)).h 200000
+h c = read (ap (λ (x : Pipe). x.h) c.pipe-x.ensures) (sizes (start c)).h tt
 
-pressure_requires : tie.Need-pressure-requires
+pressure_requires : tie.Need-pressure-from-requires
 pressure_requires c κs =
-    let a = c.before.before.before.requires.at in
-    omega (arith, from_small a.accepted a.arc c.before.before.arc.ensures)
+    let a = c.requires.at in
+    omega (arith, from_small a.accepted a.arc c.arc-c.ensures)
 
-pressure_requires_2 : tie.Need-pressure-requires-2
+pressure_requires_2 : tie.Need-pressure-to-requires
 pressure_requires_2 c κs =
-    let a = c.before.before.before.before.requires.at in
-    omega (arith, to_small a.accepted a.arc c.before.before.before.arc.ensures)
+    let a = c.requires.at in
+    omega (arith, to_small a.accepted a.arc c.arc-c.ensures)
 
-add_result : tie.Need-overflow-add-result
+add_result : tie.Need-overflow_add-result
 add_result c =
     let d = c.before.before.before.before in
     held_fits (one (to d) (from d) (f d) (a d)) tt
 
-add_result_2 : tie.Need-overflow-add-result-2
+add_result_2 : tie.Need-overflow_add-result-2
 add_result_2 c =
     let d = c.before.before.before.before.before.before.before.before in
     held_fits (two (to d) (from d) (f d) (a d) (g d) (b d)) tt
 
-mul_result_4 : tie.Need-overflow-mul-result-4
+mul_result_4 : tie.Need-overflow_mul-result-4
 mul_result_4 c = let d = c.before.before.before.before.before.before.before.before.before.before in held_fits (h d *ʳ held (from d +ʳ to d) tt) tt
 
-add_result_4 : tie.Need-overflow-add-result-4
+add_result_4 : tie.Need-overflow_add-result-4
 add_result_4 c =
     let d = c.before.before.before.before.before.before.before.before.before.before in
     held_fits (all (to d) (from d) (f d) (a d) (g d) (b d) (h d)) tt
@@ -115,7 +115,7 @@ returns c =
 
 pub pressure_balance_spec : {M : Type 1} → statement M
 pressure_balance_spec = tie.close (tie.spec
-    (λ c κs. search rules) (λ c κs. search rules) (λ c κs. let a = c.before.before.requires.at in (counted a.accepted, a.arc)) pressure_requires
+    (λ c κs. search rules) (λ c κs. search rules) (λ c κs. let a = c.requires.at in (counted a.accepted, a.arc)) pressure_requires
     pressure_requires_2 (λ c. held_fits (to c -ʳ from c) tt) (λ c. held_fits (literal (pos 1000000) *ʳ held (to c -ʳ from c) tt) tt)
     (λ c. let d = c.before.before.before.before in held_fits (f d *ʳ a d) tt) add_result
     (λ c. let d = c.before.before.before.before.before.before.before.before in held_fits (g d *ʳ b d) tt) add_result_2

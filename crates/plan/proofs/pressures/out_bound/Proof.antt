@@ -4,18 +4,18 @@ use Rattle.plan.specs.law.Compared.{is_zero}
 use Rattle.plan.proofs.pressures.out_bound.Statement.{statement}
 use Rattle.plan.proofs.pressures.out_bound.Tie as tie
 
-returns : tie.Need-returns
+returns : tie.Need-returns-then-same
 returns c =
     let t = c.before.before.before in
-    let a = t.before.args in
-    let k = kept a.x.outbound t.struct_told.given.1.1.1.1.1.1.0.1 in
-    rw (sym (c.before.before.same.ensures ∙ ap is_zero k) ∙ c.before.if1.true) (kept a.out.acthigh c.struct_told2.given.1.1.1.1.1.0.1)
+    let a = t.args in
+    let k = kept a.x.outbound t.struct_told-1.given.1.1.1.1.1.1.0.1 in
+    rw (sym (c.same.ensures ∙ ap is_zero k) ∙ c.if-same.true) (kept a.out.acthigh c.struct_told-then-same-1.given.1.1.1.1.1.0.1)
 
-returns_2 : tie.Need-returns-2
+returns_2 : tie.Need-returns-else-same
 returns_2 c =
     let t = c.before.before.before in
-    let k = kept t.before.args.x.outbound t.struct_told.given.1.1.1.1.1.1.0.1 in
-    rw (sym (c.before.before.same.ensures ∙ ap is_zero k) ∙ c.before.if1.false) k
+    let k = kept t.args.x.outbound t.struct_told-1.given.1.1.1.1.1.1.0.1 in
+    rw (sym (c.same.ensures ∙ ap is_zero k) ∙ c.if-same.false) k
 
 pub out_bound_spec : {M : Type 1} → statement M
 out_bound_spec = tie.close (tie.spec (λ c κs. search rules) returns returns_2)

@@ -14,9 +14,9 @@ unfolding pressure_questions
 returns c =
     let two = c.before in
     let one = two.before.before in
-    let a = one.before.before.before.args in
-    two_asked 26 27 (a.i + 1) a.e one.before.pressures_kept.ensures two.before.machines_used.ensures
-    one.ask.ensures two.ask2.ensures c.or_else.ensures
+    let a = one.args in
+    two_asked 26 27 (a.i + 1) a.e one.pressures_kept.ensures two.machines_used.ensures
+    one.ask.ensures two.ask-2.ensures c.or_else.ensures
 
 pub pressure_answer_spec : {M : Type 1} → statement M
 pressure_answer_spec = tie.close (tie.spec

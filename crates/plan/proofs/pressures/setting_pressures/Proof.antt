@@ -7,7 +7,7 @@ use Rattle.plan.proofs.ArcLaws.{compressing_kind, from_in, to_in}
 use Rattle.plan.proofs.pressures.setting_pressures.Statement.{statement}
 use Rattle.plan.proofs.pressures.setting_pressures.Tie as tie
 
-mode_pressures_requires : tie.Need-mode-pressures-requires
+mode_pressures_requires : tie.Need-mode_pressures-requires
 mode_pressures_requires c κs =
     let t = c.before.before.before.before in
     let p = t.before.before.before.requires in
@@ -20,7 +20,7 @@ mode_pressures_requires c κs =
       λ m. compressing_kind _ _ w (sym p.1 ∙ t.setting.given.1 ∙ ap (Active w) m),
     )
 
-mode_pressures_requires_2 : tie.Need-mode-pressures-requires-2
+mode_pressures_requires_2 : tie.Need-mode_pressures-requires-in-Backward
 mode_pressures_requires_2 c κs =
     let t = c.before.before.before.before in
     let p = t.before.before.before.requires in
@@ -32,27 +32,27 @@ mode_pressures_requires_2 c κs =
     let to = to_in a.at.accepted a.arc q in
     (a, search rules, search rules, λ m. compressing_kind _ _ w (sym p.1 ∙ t.setting.given.1 ∙ ap (Active w) m))
 
-returns : tie.Need-returns
-returns c = rw c.enum_told.given.1
+returns : tie.Need-returns-in-Unknown
+returns c = rw c.in-Unknown.is
 
-returns_2 : tie.Need-returns-2
-returns_2 c = rw c.enum_told2.given.1
+returns_2 : tie.Need-returns-in-Off
+returns_2 c = rw c.in-Off.is
 
-returns_3 : tie.Need-returns-3
+returns_3 : tie.Need-returns-in-Forward
 returns_3 c =
-    let t = c.before.before.before.before.before in
-    let a = t.before.before.before.args in
-    let mode = mode_pressures a.case.now a.rows.now a.i a.e t.setting.given.0.1.0 in
-    rw (t.setting.given.1, c.before.enum_told3.given.1)
-    (c.mode_pressures.ensures ∙ ap (λ (x : Arc). mode x.from x.to) c.before.before.before.arc.ensures)
+    let t = c.before.before.before in
+    let a = t.args in
+    let mode = mode_pressures a.case.now a.rows.now a.i a.e t.in-Active.mode in
+    rw (t.in-Active.is, c.in-Forward.is)
+    (c.mode_pressures.ensures ∙ ap (λ (x : Arc). mode x.from x.to) c.arc-c.ensures)
 
-returns_4 : tie.Need-returns-4
+returns_4 : tie.Need-returns-in-Backward
 returns_4 c =
-    let t = c.before.before.before.before.before in
-    let a = t.before.before.before.args in
-    let mode = mode_pressures a.case.now a.rows.now a.i a.e t.setting.given.0.1.0 in
-    rw (t.setting.given.1, c.before.enum_told4.given.1)
-    (c.mode_pressures2.ensures ∙ ap (λ (x : Arc). mode x.to x.from) c.before.before.before.arc.ensures)
+    let t = c.before.before.before in
+    let a = t.args in
+    let mode = mode_pressures a.case.now a.rows.now a.i a.e t.in-Active.mode in
+    rw (t.in-Active.is, c.in-Backward.is)
+    (c.mode_pressures-in-Backward.ensures ∙ ap (λ (x : Arc). mode x.to x.from) c.arc-c.ensures)
 
 pub setting_pressures_spec : {M : Type 1} → statement M
 setting_pressures_spec = tie.close (tie.spec

@@ -13,30 +13,30 @@ use Rattle.plan.proofs.pressures.within_reach.Statement.{statement}
 use Rattle.plan.proofs.pressures.within_reach.Tie as tie
 
 -- the two pressures
-in_read : (c : tie.After-pressure) → let a = c.before.args in
-    Held (to_z w64 (of_z w64 c.pressure.result)) (pressure_in a.rows.now a.u) 200000
-in_read c = read c.pressure.ensures c.before.requires.in_sized tt
+in_read : (c : tie.After-pressure-p_in) → let a = c.args in
+    Held (to_z w64 (of_z w64 c.pressure-p_in.result)) (pressure_in a.rows.now a.u) 200000
+in_read c = read c.pressure-p_in.ensures c.requires.in_sized tt
 
-out_read : (c : tie.After-pressure2) → let a = c.before.before.args in
-    Held (to_z w64 (of_z w64 c.pressure2.result)) (pressure_in a.rows.now a.w) 200000
-out_read c = read c.pressure2.ensures c.before.before.requires.out_sized tt
+out_read : (c : tie.After-pressure-p_out) → let a = c.args in
+    Held (to_z w64 (of_z w64 c.pressure-p_out.result)) (pressure_in a.rows.now a.w) 200000
+out_read c = read c.pressure-p_out.ensures c.requires.out_sized tt
 
 -- the ratio
-abbrev start : tie.After-machine-sum → tie.Start
+abbrev start : tie.After-machine_sum-ratio → tie.Start
 start c = c.before.before.before.before.before
 
-gain : (c : tie.After-machine-sum) → let a = (start c).args in let l = a.case.now in
-    Held (to_z w64 (of_z w64 c.machine_sum.result))
+gain : (c : tie.After-machine_sum-ratio) → let a = (start c).args in let l = a.case.now in
+    Held (to_z w64 (of_z w64 c.machine_sum-ratio.result))
     (machine_gain l (station_offset l a.e) (arc_row l a.rows.now a.e).machines) 132000
 gain c =
     let s = start c in
     let case = s.args.case.now in
-    let m = machines_read c.before.struct_told.given.1.1.1.0.1 c.before.before.arc_row.ensures in
-    let z = subst (MachinesSized case) s.pre.offset_of s.pre.machines in
-    read (c.machine_sum.ensures ∙ gain_sum case _ _ ∙ ap₂ (machine_gain case) s.pre.offset_of m) (gain_sized _ z) tt
+    let m = machines_read c.struct_told-1.given.1.1.1.0.1 c.arc_row.ensures in
+    let z = subst (MachinesSized case) s.requires.offset_of s.requires.machines in
+    read (c.machine_sum-ratio.ensures ∙ gain_sum case _ _ ∙ ap₂ (machine_gain case) s.requires.offset_of m) (gain_sized _ z) tt
 
-ratio : (c : tie.After-machine-sum) → let a = (start c).args in
-    Held (to_z w64 (of_z w64 (pos 1000 +ℤ to_z w64 (of_z w64 c.machine_sum.result)))) (ratio_of a.case.now a.rows.now a.e) 133000
+ratio : (c : tie.After-machine_sum-ratio) → let a = (start c).args in
+    Held (to_z w64 (of_z w64 (pos 1000 +ℤ to_z w64 (of_z w64 c.machine_sum-ratio.result)))) (ratio_of a.case.now a.rows.now a.e) 133000
 ratio c = held (literal (pos 1000) +ʳ gain c) tt
 
 returns : tie.Need-returns
@@ -51,8 +51,8 @@ returns c =
 pub within_reach_spec : {M : Type 1} → statement M
 within_reach_spec = tie.close (tie.spec
     (λ c κs. omega (arith, c.requires.in_node, (counted c.requires.accepted).nodes))
-    (λ c κs. let p = c.before.requires in omega (arith, p.out_node, (counted p.accepted).nodes))
-    (λ c κs. let p = c.before.before.requires in (counted p.accepted, p.arc))
-    (λ c κs. c.before.before.before.before.requires.machines) (λ c. held_fits (literal (pos 1000) +ʳ gain c) tt)
+    (λ c κs. let p = c.requires in omega (arith, p.out_node, (counted p.accepted).nodes))
+    (λ c κs. let p = c.requires in (counted p.accepted, p.arc))
+    (λ c κs. c.requires.machines) (λ c. held_fits (literal (pos 1000) +ʳ gain c) tt)
     (λ c. held_fits (literal (pos 1000) *ʳ out_read c.before.before.before) tt)
     (λ c. held_fits (in_read c.before.before.before.before *ʳ ratio c) tt) (λ c κs. search rules) returns)

@@ -7,12 +7,12 @@ returns : tie.Need-returns
 returns c =
     let k = c.before.before in
     let b = k.before.before in
-    let l = b.before.requires.1 in
+    let l = b.requires.1 in
     record {
-      pressures = rw l.nodes at b.row_pressures.ensures;
-      active = rw l.arcs at k.before.row_active.ensures;
-      directions = rw l.stations at k.row_choices.ensures.directions;
-      states = rw l.stations at k.row_choices.ensures.states;
+      pressures = rw l.nodes at b.row_pressures-pressures.ensures;
+      active = rw l.arcs at k.row_active-active.ensures;
+      directions = rw l.stations at k.row_choices-choices.ensures.directions;
+      states = rw l.stations at k.row_choices-choices.ensures.states;
     }
 
 pub after_spec : {M : Type 1} → statement M

@@ -7,26 +7,26 @@ use Rattle.plan.proofs.Filled.{Filling, start, turn, end}
 use Rattle.plan.proofs.previous.row_active.Statement.{statement}
 use Rattle.plan.proofs.previous.row_active.Tie as tie
 
-abbrev invariant-loop : tie.invariant-loop
-invariant-loop case rows arcs on₀ e₀ on e = Filling false on (active_in case rows) arc_capacity arcs e
+abbrev invariant-loop-e : tie.invariant-loop-e
+invariant-loop-e case rows arcs on₀ e₀ on e = Filling false on (active_in case rows) arc_capacity arcs e
 
-abbrev decreases-loop : tie.decreases-loop
-decreases-loop case rows arcs on₀ e₀ on e = arcs - e
+abbrev decreases-loop-e : tie.decreases-loop-e
+decreases-loop-e case rows arcs on₀ e₀ on e = arcs - e
 
-loop_holds : tie.Need-loop-init invariant-loop decreases-loop
+loop_holds : tie.Need-loop-e-init invariant-loop-e decreases-loop-e
 loop_holds c = start refl
 
-loop_again : tie.Need-loop-preserved invariant-loop decreases-loop
+loop_again : tie.Need-loop-e-preserved invariant-loop-e decreases-loop-e
 loop_again c =
     let t = c.before.before.before in
-    let y = t.before.before.requires in
-    let r = kept _ c.before.struct_told.given.1.1.0.1 ∙ ap (λ (x : ArcRow). x.setting) c.before.before.arc_row.ensures in
-    turn t.before.loop.invariant t.loop-test.true (omega (arith, y.0.arcs, y.1)) (c.at_most.ensures ∙ ap (le_z (pos 1)) r)
+    let y = t.requires in
+    let r = kept _ c.struct_told-1.given.1.1.0.1 ∙ ap (λ (x : ArcRow). x.setting) c.arc_row.ensures in
+    turn t.loop-e.invariant t.loop-e-test.true (omega (arith, y.0.arcs, y.1)) (c.at_most.ensures ∙ ap (le_z (pos 1)) r)
 
-returns : tie.Need-returns invariant-loop decreases-loop
-returns c = end c.before.loop.invariant c.loop-test.false
+returns : tie.Need-returns invariant-loop-e decreases-loop-e
+returns c = end c.loop-e.invariant c.loop-e-test.false
 
 pub row_active_spec : {M : Type 1} → statement M
 row_active_spec = tie.close (tie.spec
-    invariant-loop decreases-loop loop_holds (λ c κs. search rules) (λ c κs. search rules) (λ c. omega arith) (λ c. omega arith)
+    invariant-loop-e decreases-loop-e loop_holds (λ c κs. search rules) (λ c κs. search rules) (λ c. omega arith) (λ c. omega arith)
     (λ c. omega arith) loop_again returns)

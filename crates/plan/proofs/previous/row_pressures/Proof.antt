@@ -6,24 +6,24 @@ use Rattle.plan.proofs.Filled.{Filling, start, turn, end}
 use Rattle.plan.proofs.previous.row_pressures.Statement.{statement}
 use Rattle.plan.proofs.previous.row_pressures.Tie as tie
 
-abbrev invariant-loop : tie.invariant-loop
-invariant-loop rows nodes pressures₀ v₀ pressures v = Filling (pos 0) pressures (pressure_in rows) node_capacity nodes v
+abbrev invariant-loop-v : tie.invariant-loop-v
+invariant-loop-v rows nodes pressures₀ v₀ pressures v = Filling (pos 0) pressures (pressure_in rows) node_capacity nodes v
 
-abbrev decreases-loop : tie.decreases-loop
-decreases-loop rows nodes pressures₀ v₀ pressures v = nodes - v
+abbrev decreases-loop-v : tie.decreases-loop-v
+decreases-loop-v rows nodes pressures₀ v₀ pressures v = nodes - v
 
-loop_holds : tie.Need-loop-init invariant-loop decreases-loop
+loop_holds : tie.Need-loop-v-init invariant-loop-v decreases-loop-v
 loop_holds c = start refl
 
-loop_again : tie.Need-loop-preserved invariant-loop decreases-loop
+loop_again : tie.Need-loop-v-preserved invariant-loop-v decreases-loop-v
 loop_again c =
     let h = c.before.before in
-    turn h.loop.invariant c.before.loop-test.true h.before.requires (kept _ c.pressure.type_inv ∙ c.pressure.ensures)
+    turn h.loop-v.invariant c.loop-v-test.true h.requires (kept _ c.pressure.type_inv ∙ c.pressure.ensures)
 
-returns : tie.Need-returns invariant-loop decreases-loop
-returns c = end c.before.loop.invariant c.loop-test.false
+returns : tie.Need-returns invariant-loop-v decreases-loop-v
+returns c = end c.loop-v.invariant c.loop-v-test.false
 
 pub row_pressures_spec : {M : Type 1} → statement M
 row_pressures_spec = tie.close (tie.spec
-    invariant-loop decreases-loop loop_holds (λ c κs. omega arith) (λ c. omega arith) (λ c. omega arith) (λ c. omega arith)
+    invariant-loop-v decreases-loop-v loop_holds (λ c κs. omega arith) (λ c. omega arith) (λ c. omega arith) (λ c. omega arith)
     (λ c. omega arith) loop_again returns)

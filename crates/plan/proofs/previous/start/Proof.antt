@@ -7,12 +7,12 @@ returns : tie.Need-returns
 returns c =
     let k = c.before.before in
     let b = k.before.before in
-    let l = b.before.requires.1 in
+    let l = b.requires.1 in
     record {
-      pressures = rw l.nodes at b.start_pressures.ensures;
-      active = rw l.arcs at k.before.start_active.ensures;
-      directions = k.start_choices.ensures.directions;
-      states = k.start_choices.ensures.states;
+      pressures = rw l.nodes at b.start_pressures-pressures.ensures;
+      active = rw l.arcs at k.start_active-active.ensures;
+      directions = k.start_choices-choices.ensures.directions;
+      states = k.start_choices-choices.ensures.states;
     }
 
 pub start_spec : {M : Type 1} → statement M

@@ -6,22 +6,22 @@ use Rattle.plan.proofs.Filled.{Filling, start, turn, end}
 use Rattle.plan.proofs.previous.start_active.Statement.{statement}
 use Rattle.plan.proofs.previous.start_active.Tie as tie
 
-abbrev invariant-loop : tie.invariant-loop
-invariant-loop case arcs on₀ e₀ on e = Filling false on (active_at_start case) arc_capacity arcs e
+abbrev invariant-loop-e : tie.invariant-loop-e
+invariant-loop-e case arcs on₀ e₀ on e = Filling false on (active_at_start case) arc_capacity arcs e
 
-abbrev decreases-loop : tie.decreases-loop
-decreases-loop case arcs on₀ e₀ on e = arcs - e
+abbrev decreases-loop-e : tie.decreases-loop-e
+decreases-loop-e case arcs on₀ e₀ on e = arcs - e
 
-loop_holds : tie.Need-loop-init invariant-loop decreases-loop
+loop_holds : tie.Need-loop-e-init invariant-loop-e decreases-loop-e
 loop_holds c = start refl
 
-loop_again : tie.Need-loop-preserved invariant-loop decreases-loop
-loop_again c = let h = c.before.before in turn h.loop.invariant c.before.loop-test.true h.before.requires c.active.ensures
+loop_again : tie.Need-loop-e-preserved invariant-loop-e decreases-loop-e
+loop_again c = let h = c.before.before in turn h.loop-e.invariant c.loop-e-test.true h.requires c.active.ensures
 
-returns : tie.Need-returns invariant-loop decreases-loop
-returns c = end c.before.loop.invariant c.loop-test.false
+returns : tie.Need-returns invariant-loop-e decreases-loop-e
+returns c = end c.loop-e.invariant c.loop-e-test.false
 
 pub start_active_spec : {M : Type 1} → statement M
 start_active_spec = tie.close (tie.spec
-    invariant-loop decreases-loop loop_holds (λ c κs. search rules) (λ c. omega arith) (λ c. omega arith) (λ c. omega arith)
+    invariant-loop-e decreases-loop-e loop_holds (λ c κs. search rules) (λ c. omega arith) (λ c. omega arith) (λ c. omega arith)
     loop_again returns)

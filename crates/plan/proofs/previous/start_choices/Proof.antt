@@ -8,29 +8,29 @@ use Rattle.plan.proofs.Filled.{Filling, start, turn, end}
 use Rattle.plan.proofs.previous.start_choices.Statement.{statement}
 use Rattle.plan.proofs.previous.start_choices.Tie as tie
 
-abbrev invariant-loop : tie.invariant-loop
-invariant-loop case layout directions₀ states₀ s₀ directions states s =
+abbrev invariant-loop-s : tie.invariant-loop-s
+invariant-loop-s case layout directions₀ states₀ s₀ directions states s =
     Filling 0 directions (start_direction case) 8 (stations_of case) s × Filling 0 states (start_state case) 8 (stations_of case) s
 
-abbrev decreases-loop : tie.decreases-loop
-decreases-loop case layout directions₀ states₀ s₀ directions states s = stations_of case - s
+abbrev decreases-loop-s : tie.decreases-loop-s
+decreases-loop-s case layout directions₀ states₀ s₀ directions states s = stations_of case - s
 
-loop_again : tie.Need-loop-preserved invariant-loop decreases-loop
+loop_again : tie.Need-loop-s-preserved invariant-loop-s decreases-loop-s
 loop_again c =
     let l = c.before.before.before in
-    let y = l.before.requires in
-    let e = c.station.ensures ∙ ap (station_row l.before.args.case.now) (y.1.offsets.each l.loop.s (omega arith)) in (
-      turn l.loop.invariant.0 (omega arith) y.0.stations (ap (λ (x : Station). x.direction) e),
-      turn l.loop.invariant.1 (omega arith) y.0.stations (ap (λ (x : Station). x.state) e),
+    let y = l.requires in
+    let e = c.station-x.ensures ∙ ap (station_row l.args.case.now) (y.1.offsets.each l.loop-s.s (omega arith)) in (
+      turn l.loop-s.invariant.0 (omega arith) y.0.stations (ap (λ (x : Station). x.direction) e),
+      turn l.loop-s.invariant.1 (omega arith) y.0.stations (ap (λ (x : Station). x.state) e),
     )
 
-returns : tie.Need-returns invariant-loop decreases-loop
+returns : tie.Need-returns invariant-loop-s decreases-loop-s
 returns c =
-    let h = c.before.loop.invariant in
-    let p : stations_of c.before.before.args.case.now ≤ c.before.loop.s = omega (arith, c.loop-test.false, c.before.before.requires.1.stations) in
+    let h = c.loop-s.invariant in
+    let p : stations_of c.args.case.now ≤ c.loop-s.s = omega (arith, c.loop-s-test.false, c.requires.1.stations) in
     record { directions = end h.0 p; states = end h.1 p }
 
 pub start_choices_spec : {M : Type 1} → statement M
 start_choices_spec = tie.close (tie.spec
-    invariant-loop decreases-loop (λ c. (start refl, start refl)) (λ c. omega arith) (λ c. omega arith) (λ c κs. search rules) (λ c. omega arith)
+    invariant-loop-s decreases-loop-s (λ c. (start refl, start refl)) (λ c. omega arith) (λ c. omega arith) (λ c κs. search rules) (λ c. omega arith)
     (λ c. omega arith) (λ c. omega arith) (λ c. omega arith) (λ c. omega arith) (λ c. omega arith) loop_again returns)

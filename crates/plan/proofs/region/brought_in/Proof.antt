@@ -9,37 +9,37 @@ use Rattle.plan.specs.inside.RegionSizes.{supplies_small, edges_small, step_flow
 use Rattle.plan.proofs.region.brought_in.Statement.{statement}
 use Rattle.plan.proofs.region.brought_in.Tie as tie
 
-supplies_requires : tie.Need-supplies-requires
-supplies_requires c κs = let p = c.before.requires in let r = counted p.2.accepted in (p.0, omega (arith, r.nodes, p.0), p.2.node_rows)
+supplies_requires : tie.Need-supplies-supplied-requires
+supplies_requires c κs = let p = c.requires in let r = counted p.2.accepted in (p.0, omega (arith, r.nodes, p.0), p.2.node_rows)
 
-edge_flows_requires : tie.Need-edge-flows-requires
+edge_flows_requires : tie.Need-edge_flows-flowed-requires
 edge_flows_requires c κs = let s = c.before.before in (step_flows s.requires.2, s.requires.1)
 
 -- what the nodes supply and the edge brings, added
-inflow : (d : tie.After-duration) → let a = d.before.before.before.before.args in
-    Held (to_z w64 (of_z w64 d.before.before.supplies.result) +ℤ to_z w64 (of_z w64 d.before.edge_flows.result))
+inflow : (d : tie.After-duration) → let a = d.args in
+    Held (to_z w64 (of_z w64 d.supplies-supplied.result) +ℤ to_z w64 (of_z w64 d.edge_flows-flowed.result))
     (supplies_in a.case.now (inside_of a.inside.now) a.rows.now +ℤ edge_flows a.case.now (inside_of a.inside.now) a.rows.now)
     (most_supplies + most_edges)
 inflow d =
     let s = d.before.before.before.before in
     let h = s.requires.2 in
-    held (record { val = d.before.before.supplies.ensures; bound = supplies_small h.node_rows (counted h.accepted).nodes _ }) tt
-    +ʳ held (record { val = d.before.edge_flows.ensures; bound = edges_small (step_flows h) _ }) tt
+    held (record { val = d.supplies-supplied.ensures; bound = supplies_small h.node_rows (counted h.accepted).nodes _ }) tt
+    +ʳ held (record { val = d.edge_flows-flowed.ensures; bound = edges_small (step_flows h) _ }) tt
 
 -- over the time of the step
-brought : (d : tie.After-duration) → let a = d.before.before.before.before.args in
+brought : (d : tie.After-duration) → let a = d.args in
     Held (to_z w64 (of_z w64 d.duration.result)
-    *ℤ to_z w64 (of_z w64 (to_z w64 (of_z w64 d.before.before.supplies.result) +ℤ to_z w64 (of_z w64 d.before.edge_flows.result))))
+    *ℤ to_z w64 (of_z w64 (to_z w64 (of_z w64 d.supplies-supplied.result) +ℤ to_z w64 (of_z w64 d.edge_flows-flowed.result))))
     (brought_in a.case.now (inside_of a.inside.now) a.rows.now a.i) most_brought
 unfolding brought_in
 brought d =
-    let h = d.before.before.before.before.requires.2 in
+    let h = d.requires.2 in
     held (record { val = d.duration.ensures; bound = (duration_sized h.accepted _ h.step).bound }) tt *ʳ held (inflow d) tt
 
-add_result : tie.Need-overflow-add-result
+add_result : tie.Need-overflow_add-result
 add_result c = held_fits (inflow c) tt
 
-mul_result : tie.Need-overflow-mul-result
+mul_result : tie.Need-overflow_mul-result
 mul_result c = held_fits (brought c) tt
 
 returns : tie.Need-returns

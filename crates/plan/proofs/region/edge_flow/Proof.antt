@@ -11,13 +11,13 @@ use Rattle.plan.proofs.region.edge_flow.Statement.{statement}
 use Rattle.plan.proofs.region.edge_flow.Tie as tie
 
 -- the arc's two flows, as they are read
-from_read : (f : tie.After-end-flows) → let s = f.before.before.before in
-    Held (to_z w64 (of_z w64 f.end_flows.result.from)) (flow_at_from s.args.case.now s.args.rows.now s.args.e) 20000000
-from_read f = let p = f.before.before.before.requires in held (record { val = f.end_flows.ensures.0; bound = from_small p.0 _ p.1 }) tt
+from_read : (f : tie.After-end_flows-flow) → let s = f.before.before.before in
+    Held (to_z w64 (of_z w64 f.end_flows-flow.result.from)) (flow_at_from s.args.case.now s.args.rows.now s.args.e) 20000000
+from_read f = let p = f.requires in held (record { val = f.end_flows-flow.ensures.0; bound = from_small p.0 _ p.1 }) tt
 
-to_read : (f : tie.After-end-flows) → let s = f.before.before.before in
-    Held (to_z w64 (of_z w64 f.end_flows.result.to)) (flow_at_to s.args.case.now s.args.rows.now s.args.e) 20000000
-to_read f = let p = f.before.before.before.requires in held (record { val = f.end_flows.ensures.1; bound = to_small p.0 _ p.1 }) tt
+to_read : (f : tie.After-end_flows-flow) → let s = f.before.before.before in
+    Held (to_z w64 (of_z w64 f.end_flows-flow.result.to)) (flow_at_to s.args.case.now s.args.rows.now s.args.e) 20000000
+to_read f = let p = f.requires in held (record { val = f.end_flows-flow.ensures.1; bound = to_small p.0 _ p.1 }) tt
 
 inward_requires : tie.Need-inward-requires
 inward_requires c κs = read_bounded (from_read c.before.before.before.before)
@@ -27,9 +27,9 @@ unfolding edge_flow
 returns c =
     let m = c.before.before.before in
     let f = m.before.before in
-    let inside = inside_of f.before.before.before.args.inside.now in
-    let b = m.before.is_inside.ensures ∙ ap (λ (a : Arc). inside a.from) f.before.arc.ensures in
-    let d = m.is_inside2.ensures ∙ ap (λ (a : Arc). inside a.to) f.before.arc.ensures in
+    let inside = inside_of f.args.inside.now in
+    let b = m.is_inside-begins.ensures ∙ ap (λ (a : Arc). inside a.from) f.arc-c.ensures in
+    let d = m.is_inside-ends.ensures ∙ ap (λ (a : Arc). inside a.to) f.arc-c.ensures in
     kept _ c.inward.type_inv ∙ c.inward.ensures ∙ inward_same b d (from_read f).val (to_read f).val
 
 pub edge_flow_spec : {M : Type 1} → statement M

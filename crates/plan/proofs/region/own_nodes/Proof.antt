@@ -1,6 +1,6 @@
 -- The sum so far is that of the nodes passed; each node's net flow is read from the array that was filled first, and leaves no more than the tolerance.
 use Rattle.case.specs.law.Extents.{node_capacity}
-use Rattle.plan.proofs.Common.{◌≡◌, sym, ◌∙◌, ⊎_elim, true, ℕ, ◌-◌, ◌≤◌, arith, rules, pos, w64, to_z-of_z, counted}
+use Rattle.plan.proofs.Common.{◌≡◌, sym, ◌∙◌, true, ℕ, ◌-◌, ◌≤◌, arith, rules, pos, w64, to_z-of_z, counted}
 use lib.ListN.{get_or}
 use Rattle.case.specs.law.Layout.{nodes_of}
 use Rattle.plan.specs.law.Balance.{node_residual}
@@ -9,24 +9,25 @@ use Rattle.plan.specs.inside.RegionSet.{inside_of}
 use Rattle.plan.specs.inside.RegionSizes.{own_node_small}
 use Rattle.plan.proofs.Adding.{Tallying, begun_n, one_fits_n, one_more_n, passed_n, whole_n}
 use Rattle.plan.proofs.region.own_nodes.Statement.{statement}
+use Rattle.plan.proofs.region.own_nodes.Lts.{then-is_inside, else-is_inside}
 use Rattle.plan.proofs.region.own_nodes.Tie as tie
 
-abbrev invariant-loop : tie.invariant-loop
-invariant-loop case inside rows nodes arcs i net sum₀ v₀ sum v =
+abbrev invariant-loop-v : tie.invariant-loop-v
+invariant-loop-v case inside rows nodes arcs i net sum₀ v₀ sum v =
     (nodes_of case ≤ node_capacity) × Tallying sum (own_node case (inside_of inside) rows i) 1000000 (nodes_of case) v
 
-abbrev decreases-loop : tie.decreases-loop
-decreases-loop case inside rows nodes arcs i net sum₀ v₀ sum v = nodes - v
+abbrev decreases-loop-v : tie.decreases-loop-v
+decreases-loop-v case inside rows nodes arcs i net sum₀ v₀ sum v = nodes - v
 
-loop_holds : tie.Need-loop-init invariant-loop decreases-loop
+loop_holds : tie.Need-loop-v-init invariant-loop-v decreases-loop-v
 loop_holds c =
-    let h = c.before.before.requires.2 in
+    let h = c.requires.2 in
     ((counted h.accepted).nodes, begun_n (own_node_small h _) (omega (arith, (counted h.accepted).nodes)))
 
-node_residual_requires : tie.Need-node-residual-requires invariant-loop decreases-loop
+node_residual_requires : tie.Need-node_residual-sum-requires invariant-loop-v decreases-loop-v
 node_residual_requires c κs =
     let l = c.before.before.before.before in
-    let h = l.before.before.before.requires.2 in
+    let h = l.requires.2 in
     record {
       accepted = h.accepted;
       step = h.step;
@@ -34,37 +35,36 @@ node_residual_requires c κs =
       flows = h.flows;
       node_rows = h.node_rows;
       is =
-          to_z-of_z {w = w64} {z = get_or l.before.net_flows.result l.loop.v (pos 0)} (record { sfits = c.node_residual_arg.given })
-          ∙ l.before.net_flows.ensures.each l.loop.v (omega arith);
+          to_z-of_z {w = w64} {z = get_or l.net_flows-net.result l.loop-v.v (pos 0)} (record { sfits = c.node_residual-arg-1.given })
+          ∙ l.net_flows-net.ensures.each l.loop-v.v (omega arith);
     }
 
 -- what is over at a node inside
-left_over : (d : tie.After-is-inside invariant-loop decreases-loop) {r : ℕ} → let l = d.before.before in let a = l.before.before.before.args in
-    r ≡ node_residual a.case.now a.rows.now a.i l.loop.v → d.is_inside.result ≡ true
-    → r ≡ own_node a.case.now (inside_of a.inside.now) a.rows.now a.i l.loop.v
+left_over : (d : tie.After-is_inside invariant-loop-v decreases-loop-v) {r : ℕ} → let l = d.before.before in let a = l.args in
+    r ≡ node_residual a.case.now a.rows.now a.i l.loop-v.v → d.is_inside.result ≡ true
+    → r ≡ own_node a.case.now (inside_of a.inside.now) a.rows.now a.i l.loop-v.v
 unfolding own_node
 left_over d e t = rw (sym d.is_inside.ensures ∙ t) e
 
-add_sum : tie.Need-overflow-add-sum invariant-loop decreases-loop
+add_sum : tie.Need-overflow_add-sum invariant-loop-v decreases-loop-v
 add_sum c =
     let d = c.before.before.before in
-    one_fits_n d.before.before.loop.invariant.1 (left_over d c.node_residual.ensures c.before.before.if1.true) (omega arith)
+    one_fits_n d.loop-v.invariant.1 (left_over d c.node_residual-sum.ensures c.if-is_inside.true) (omega arith)
 
-loop_again : tie.Need-loop-preserved invariant-loop decreases-loop
+loop_again : tie.Need-loop-v-preserved invariant-loop-v decreases-loop-v
 unfolding own_node
 loop_again c =
     let d = c.before in
-    let h = d.before.before.loop.invariant in (
+    let h = d.loop-v.invariant in (
       h.0,
-      ⊎_elim (λ w. rw w.3 (one_more_n h.1 (left_over d w.2.ensures w.0.taken) (omega arith)))
-          (λ w. rw w.1 (passed_n h.1 (rw (sym d.is_inside.ensures ∙ w.0.left)) (omega arith))) c.if1.branch,
+      elim c.if-is_inside.branch [ then-is_inside w ↦ rw w.3 (one_more_n h.1 (left_over d w.2.ensures w.if-is_inside.true) (omega arith)) | else-is_inside w ↦ rw w.1 (passed_n h.1 (rw (sym d.is_inside.ensures ∙ w.if-is_inside.false)) (omega arith)) ],
     )
 
-returns : tie.Need-returns invariant-loop decreases-loop
+returns : tie.Need-returns invariant-loop-v decreases-loop-v
 unfolding own_nodes
-returns c = whole_n c.before.loop.invariant.1 (omega arith)
+returns c = whole_n c.loop-v.invariant.1 (omega arith)
 
 pub own_nodes_spec : {M : Type 1} → statement M
 own_nodes_spec = tie.close (tie.spec
-    invariant-loop decreases-loop (λ c κs. let p = c.before.requires in (p.2.accepted, p.1, p.2.flows)) loop_holds (λ c κs. search rules) (λ c. omega arith)
+    invariant-loop-v decreases-loop-v (λ c κs. let p = c.requires in (p.2.accepted, p.1, p.2.flows)) loop_holds (λ c κs. search rules) (λ c. omega arith)
     (λ c. omega arith) node_residual_requires add_sum (λ c. omega arith) (λ c. omega arith) loop_again returns)

@@ -13,27 +13,27 @@ use Rattle.plan.specs.inside.RegionSizes.{step_rows_lem, brought_small, residual
 use Rattle.plan.proofs.region.with_step.Statement.{statement}
 use Rattle.plan.proofs.region.with_step.Tie as tie
 
-abbrev begin : tie.After-own-pipes → tie.Start
+abbrev begin : tie.After-own_pipes-at_pipes → tie.Start
 begin o = o.before.before.before.before.before.before
 
 -- the gas brought in before, and in this step
-brought : (o : tie.After-own-pipes) → let a = (begin o).args in
-    Held (to_z w64 (of_z w64 a.g.brought) +ℤ to_z w64 (of_z w64 o.before.before.before.brought_in.result))
+brought : (o : tie.After-own_pipes-at_pipes) → let a = (begin o).args in
+    Held (to_z w64 (of_z w64 a.g.brought) +ℤ to_z w64 (of_z w64 o.brought_in-brought.result))
     (a.g.brought +ℤ brought_in a.case.now (inside_of a.inside.now) a.rows.now a.i) (1000000000000000000 + most_brought)
 brought o =
     let s = begin o in
-    let e = o.before.before.before.brought_in.ensures in
-    held (plain {z = s.args.g.brought} s.pre.3.brought.bound) tt
-    +ʳ held (record { val = e; bound = brought_small (step_rows_lem s.pre.2) _ }) tt
+    let e = o.brought_in-brought.ensures in
+    held (plain {z = s.args.g.brought} s.requires.3.brought.bound) tt
+    +ʳ held (record { val = e; bound = brought_small (step_rows_lem s.requires.2) _ }) tt
 
 -- what the region's nodes and pipes leave over in this step
-left : (o : tie.After-own-pipes) → let a = (begin o).args in
-    o.before.before.own_nodes.result + o.own_pipes.result
+left : (o : tie.After-own_pipes-at_pipes) → let a = (begin o).args in
+    o.own_nodes-at_nodes.result + o.own_pipes-at_pipes.result
     ≡ region_residual a.case.now (inside_of a.inside.now) (number_at a.g.pressures) a.rows.now a.i
 unfolding region_residual
-left o = ap₂ ◌+◌ o.before.before.own_nodes.ensures o.own_pipes.ensures
+left o = ap₂ ◌+◌ o.own_nodes-at_nodes.ensures o.own_pipes-at_pipes.ensures
 
-left_small : (o : tie.After-own-pipes) → o.before.before.own_nodes.result + o.own_pipes.result ≤ most_residual
+left_small : (o : tie.After-own_pipes-at_pipes) → o.own_nodes-at_nodes.result + o.own_pipes-at_pipes.result ≤ most_residual
 left_small o = omega (arith, left o, residual_small (begin o).requires.2 (inside_of (begin o).args.inside.now))
 
 returns : tie.Need-returns

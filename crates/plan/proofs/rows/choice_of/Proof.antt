@@ -7,24 +7,24 @@ use Rattle.plan.proofs.rows.choice_of.Statement.{statement}
 use Rattle.plan.proofs.rows.choice_of.Tie as tie
 
 -- the case's counts of nodes and of arcs, which are small, as is the station
-nodes_is : (c : tie.After-index) → c.index.result ≡ nodes_of c.before.before.args.case.now
-nodes_is c = count_read c.index.ensures c.before.at.type_inv c.before.at.ensures
+nodes_is : (c : tie.After-index-nodes) → c.index-nodes.result ≡ nodes_of c.args.case.now
+nodes_is c = count_read c.index-nodes.ensures c.at.type_inv c.at.ensures
 
-arcs_is : (c : tie.After-index2) → c.index2.result ≡ arcs_of c.before.before.before.before.args.case.now
-arcs_is c = count_read c.index2.ensures c.before.at2.type_inv c.before.at2.ensures
+arcs_is : (c : tie.After-index-arcs) → c.index-arcs.result ≡ arcs_of c.args.case.now
+arcs_is c = count_read c.index-arcs.ensures c.at-2.type_inv c.at-2.ensures
 
-few : (c : tie.After-index2) → let a = c.before.before.before.before.args in
-    (c.before.before.index.result ≤ node_capacity) × (c.index2.result ≤ arc_capacity) × (a.s < 8)
+few : (c : tie.After-index-arcs) → let a = c.args in
+    (c.index-nodes.result ≤ node_capacity) × (c.index-arcs.result ≤ arc_capacity) × (a.s < 8)
 few c =
-    let p = c.before.before.before.before.requires in
+    let p = c.requires in
     (omega (arith, nodes_is c.before.before, p.0.nodes), omega (arith, arcs_is c, p.0.arcs), omega (arith, p.0.stations, p.1))
 
 returns : tie.Need-returns
 returns c =
     let n = nodes_is c.before.before.before.before in
     let m = arcs_is c.before.before in
-    let k0 = kept _ c.before.at3.type_inv ∙ rw (n, m) at c.before.at3.ensures in
-    let k1 = kept _ c.at4.type_inv ∙ rw (n, m) at c.at4.ensures in
+    let k0 = kept _ c.at-3.type_inv ∙ rw (n, m) at c.at-3.ensures in
+    let k1 = kept _ c.at-4.type_inv ∙ rw (n, m) at c.at-4.ensures in
     rw (k0, k1)
 
 pub choice_of_spec : {M : Type 1} → statement M

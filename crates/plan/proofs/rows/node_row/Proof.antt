@@ -13,11 +13,11 @@ returns c =
     let k0 = k1.before in
     λ j. record {
       p = as_told k0.at.type_inv k0.at.ensures j;
-      d = as_told k1.at2.type_inv k1.at2.ensures j;
-      splus = as_told k2.at3.type_inv k2.at3.ensures j;
-      sminus = as_told k3.at4.type_inv k3.at4.ensures j;
-      uplus = as_told k4.at5.type_inv k4.at5.ensures j;
-      uminus = as_told c.at6.type_inv c.at6.ensures j;
+      d = as_told k1.at-2.type_inv k1.at-2.ensures j;
+      splus = as_told k2.at-3.type_inv k2.at-3.ensures j;
+      sminus = as_told k3.at-4.type_inv k3.at-4.ensures j;
+      uplus = as_told k4.at-5.type_inv k4.at-5.ensures j;
+      uminus = as_told c.at-6.type_inv c.at-6.ensures j;
     }
 
 pub node_row_spec : {M : Type 1} → statement M

@@ -4,34 +4,34 @@ use Rattle.plan.specs.law.Setting.{active_of}
 use Rattle.plan.proofs.setting.active.Statement.{statement}
 use Rattle.plan.proofs.setting.active.Tie as tie
 
-returns : tie.Need-returns
+returns : tie.Need-returns-in-0
 unfolding active_of
-returns c = rw c.before.match.keys1 c.valve.ensures
+returns c = rw c.in-0.is c.valve.ensures
 
-returns_2 : tie.Need-returns-2
+returns_2 : tie.Need-returns-in-3
 unfolding active_of
-returns_2 c = rw c.before.match.keys2 c.directed.ensures
+returns_2 c = rw c.in-3.is c.directed.ensures
 
-returns_3 : tie.Need-returns-3
+returns_3 : tie.Need-returns-in-4
 unfolding active_of
-returns_3 c = rw c.before.match.keys3 c.directed2.ensures
+returns_3 c = rw c.in-4.is c.directed-in-4.ensures
 
-returns_4 : tie.Need-returns-4
+returns_4 : tie.Need-returns-in-5
 unfolding active_of
-returns_4 c = rw c.before.match.keys4 c.directed3.ensures
+returns_4 c = rw c.in-5.is c.directed-in-5.ensures
 
-returns_5 : tie.Need-returns-5
+returns_5 : tie.Need-returns-in-1
 unfolding active_of
 returns_5 c =
-    let k = c.before.before.args.kind in
+    let k = c.args.kind in
     let n : k ≤ 2 = omega arith in
-    rw (ne_eqb _ _ c.before.match.rest.0.0.0.1, le-leb _ _ n)
+    rw (ne_eqb _ _ c.in-1.in_default-own.rest.0.0.0.1, le-leb _ _ n)
 
-returns_6 : tie.Need-returns-6
+returns_6 : tie.Need-returns-in_default
 unfolding active_of
 returns_6 c =
-    let k = c.before.before.before.args.kind in
-    let r = c.before.before.match.rest in
+    let k = c.args.kind in
+    let r = c.in-1.in_default-own.rest in
     let n : 2 < k = omega arith in
     rw (ne_eqb _ _ r.0.0.0.1, lt-leb _ _ n, ne_eqb _ _ r.0.0.1, ne_eqb _ _ r.0.1, ne_eqb _ _ r.1) c.combined.ensures
 

@@ -4,13 +4,13 @@ use Rattle.plan.specs.law.Setting.{valve_of}
 use Rattle.plan.proofs.setting.valve.Statement.{statement}
 use Rattle.plan.proofs.setting.valve.Tie as tie
 
-returns : tie.Need-returns
+returns : tie.Need-returns-then-n-eq1
 unfolding valve_of
-returns c = rw (eq-eqb _ _ c.if1.true)
+returns c = rw (eq-eqb _ _ c.if-n-eq1.true)
 
-returns_2 : tie.Need-returns-2
+returns_2 : tie.Need-returns-else-n-eq1
 unfolding valve_of
-returns_2 c = rw (ne_eqb _ _ c.if1.false)
+returns_2 c = rw (ne_eqb _ _ c.if-n-eq1.false)
 
 pub valve_spec : {M : Type 1} → statement M
 valve_spec = tie.close (tie.spec returns returns_2)

@@ -19,30 +19,30 @@ abbrev chosen : tie.Start → Choice
 chosen s = choice_of s.args.case.now s.args.rows.now s.args.s
 
 -- the station and the choice that were read
-station_is : (c : tie.After-station) → c.station.result ≡ has c.before
-station_is c = c.station.ensures ∙ ap (station_row c.before.args.case.now) c.before.requires.2
+station_is : (c : tie.After-station-has) → c.station-has.result ≡ has c.before
+station_is c = c.station-has.ensures ∙ ap (station_row c.args.case.now) c.requires.2
 
-direction_is : (c : tie.After-struct-told) → to_z w64 (of_z w64 c.before.choice_of.result.direction) ≡ (chosen c.before.before.before).direction
-direction_is c = as_told c.struct_told.given.0.1 (ap (λ (x : Choice). x.direction) c.before.choice_of.ensures)
+direction_is : (c : tie.After-struct_told-1) → to_z w64 (of_z w64 c.choice_of-chosen.result.direction) ≡ (chosen c.before.before.before).direction
+direction_is c = as_told c.struct_told-1.given.0.1 (ap (λ (x : Choice). x.direction) c.choice_of-chosen.ensures)
 
-state_is : (c : tie.After-struct-told) → to_z w64 (of_z w64 c.before.choice_of.result.state) ≡ (chosen c.before.before.before).state
-state_is c = as_told c.struct_told.given.1.0.1 (ap (λ (x : Choice). x.state) c.before.choice_of.ensures)
+state_is : (c : tie.After-struct_told-1) → to_z w64 (of_z w64 c.choice_of-chosen.result.state) ≡ (chosen c.before.before.before).state
+state_is c = as_told c.struct_told-1.given.1.0.1 (ap (λ (x : Choice). x.state) c.choice_of-chosen.ensures)
 
-direction_in_lem : (c : tie.After-one-of) → let s = c.before.before.before.before in
+direction_in_lem : (c : tie.After-one_of) → let s = c.before.before.before.before in
     c.one_of.result ≡ one_of (chosen s).direction (has s).directions
 direction_in_lem c = c.one_of.ensures ∙ ap₂ one_of (direction_is c.before) (ap (λ (x : Station). x.directions) (station_is c.before.before.before))
 
-state_in_lem : (c : tie.After-one-of2) → let s = c.before.before.before.before.before.before.before in
-    c.one_of2.result ≡ one_of (chosen s).state (has s).states
+state_in_lem : (c : tie.After-one_of-then-one_of) → let s = c.before.before.before.before.before.before.before in
+    c.one_of-then-one_of.result ≡ one_of (chosen s).state (has s).states
 state_in_lem c =
     let t = c.before.before.before.before in
-    c.one_of2.ensures ∙ ap₂ one_of (state_is t) (ap (λ (x : Station). x.states) (station_is t.before.before))
+    c.one_of-then-one_of.ensures ∙ ap₂ one_of (state_is t) (ap (λ (x : Station). x.states) (station_is t.before.before))
 
 -- the active arcs, as a signed number
 small : (s : tie.Start) → s.args.active < 2 ^ 63
 small s = omega (arith, s.requires.3, active_bits_lem s.args.rows.now s.args.s s.requires.0 s.requires.1)
 
-returns : tie.Need-returns
+returns : tie.Need-returns-then-one_of-2
 unfolding choice_kept active_set
 returns c =
     let j = c.before in
@@ -53,26 +53,26 @@ returns c =
     let t = q.before in
     let s = t.before.before.before in
     let l = s.args.case.now in
-    let state = ap₂ (state_row l) s.requires.2 (j.index2.ensures ∙ ap pos_part (state_is t)) in
+    let state = ap₂ (state_row l) s.requires.2 (j.index-then-one_of-2.ensures ∙ ap pos_part (state_is t)) in
     let on = to_z_pos w64 (small s) ∙ ap pos s.requires.3 in
     let bits = pos (active_bits l s.args.rows.now s.args.s) in
-    rw (sym (direction_in_lem q) ∙ o.before.before.if1.true, sym (state_in_lem o) ∙ w.if2.true)
+    rw (sym (direction_in_lem q) ∙ o.if-one_of.true, sym (state_in_lem o) ∙ w.if-one_of-2.true)
     (c.state_obeyed.ensures
     ∙ ap₂ (λ (g : ℕ → ℤ → Bool) (x : ℤ). g i.index.result x) (ap obeyed state) on
     ∙ ap (λ (n : ℕ). obeyed (state_of l s.args.s (state_in l s.args.rows.now s.args.s)) n bits) (i.index.ensures ∙ ap pos_part (direction_is t)))
 
-returns_2 : tie.Need-returns-2
+returns_2 : tie.Need-returns-else-one_of-2
 unfolding choice_kept
 returns_2 c =
     let o = c.before in
-    rw (sym (direction_in_lem o.before.before.before) ∙ o.before.before.if1.true, sym (state_in_lem o) ∙ c.if2.false)
+    rw (sym (direction_in_lem o.before.before.before) ∙ o.if-one_of.true, sym (state_in_lem o) ∙ c.if-one_of-2.false)
 
-returns_3 : tie.Need-returns-3
+returns_3 : tie.Need-returns-else-one_of
 unfolding choice_kept
-returns_3 c = rw (sym (direction_in_lem c.before) ∙ c.if1.false)
+returns_3 c = rw (sym (direction_in_lem c.before) ∙ c.if-one_of.false)
 
 pub choice_kept_spec : {M : Type 1} → statement M
 choice_kept_spec = tie.close (tie.spec
-    (λ c κs. search rules) (λ c κs. (counted c.before.requires.0, c.before.requires.1)) (λ c κs. search rules) (λ c κs. search rules)
+    (λ c κs. search rules) (λ c κs. (counted c.requires.0, c.requires.1)) (λ c κs. search rules) (λ c κs. search rules)
     (λ c. record { sfits = small c.before.before.before.before.before.before.before.before })
     (λ c κs. search rules) (λ c κs. search rules) (λ c κs. search rules) returns returns_2 returns_3)

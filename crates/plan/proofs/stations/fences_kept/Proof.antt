@@ -6,35 +6,35 @@ use Rattle.plan.specs.inside.StationPass.{fence_at, fences_kept}
 use Rattle.plan.proofs.stations.fences_kept.Statement.{statement}
 use Rattle.plan.proofs.stations.fences_kept.Tie as tie
 
-abbrev invariant-loop : tie.invariant-loop
-invariant-loop chosen inside plain nodes flows v₀ v = Keeping (fence_at chosen (to_z w64 inside) (to_z w64 plain) flows) v nodes
+abbrev invariant-loop-v : tie.invariant-loop-v
+invariant-loop-v chosen inside plain nodes flows v₀ v = Keeping (fence_at chosen (to_z w64 inside) (to_z w64 plain) flows) v nodes
 
-abbrev decreases-loop : tie.decreases-loop
-decreases-loop chosen inside plain nodes flows v₀ v = nodes - v
+abbrev decreases-loop-v : tie.decreases-loop-v
+decreases-loop-v chosen inside plain nodes flows v₀ v = nodes - v
 
 -- what was found of the node
-found : (c : tie.After-fence-kept invariant-loop decreases-loop) → let h = c.before.before.before in let a = h.before.args in
-    c.fence_kept.result ≡ fence_at a.chosen (to_z w64 (of_z w64 a.inside)) (to_z w64 (of_z w64 a.plain)) a.flows.now h.loop.v
-found c = c.fence_kept.ensures ∙ ap (fence_node_kept _ _ _) (kept _ c.before.fence_kept_arg.given)
+found : (c : tie.After-fence_kept invariant-loop-v decreases-loop-v) → let h = c.before.before.before in let a = h.args in
+    c.fence_kept.result ≡ fence_at a.chosen (to_z w64 (of_z w64 a.inside)) (to_z w64 (of_z w64 a.plain)) a.flows.now h.loop-v.v
+found c = c.fence_kept.ensures ∙ ap (fence_node_kept _ _ _) (kept _ c.fence_kept-arg-1.given)
 
-returns : tie.Need-returns invariant-loop decreases-loop
+returns : tie.Need-returns-then-not-fence_kept invariant-loop-v decreases-loop-v
 unfolding fences_kept
 returns c =
     let t = c.before.before.before in
     let s = t.before.before in
     rw (← (to_z-of_z s.ranges.inside), ← (to_z-of_z s.ranges.plain))
-    (keep_no t.before.loop.invariant t.loop-test.true (found c.before) c.if1.true)
+    (keep_no t.loop-v.invariant t.loop-v-test.true (found c.before) c.if-not-fence_kept.true)
 
-loop_again : tie.Need-loop-preserved invariant-loop decreases-loop
-loop_again c = let t = c.before.before.before in keep_on t.before.loop.invariant t.loop-test.true (found c.before) (not-false _ c.if1.false)
+loop_again : tie.Need-loop-v-preserved invariant-loop-v decreases-loop-v
+loop_again c = let t = c.before.before.before in keep_on t.loop-v.invariant t.loop-v-test.true (found c.before) c.if-not-fence_kept.false
 
-returns_2 : tie.Need-returns-2 invariant-loop decreases-loop
+returns_2 : tie.Need-returns invariant-loop-v decreases-loop-v
 unfolding fences_kept
 returns_2 c =
     let s = c.before.before in
-    rw (← (to_z-of_z s.ranges.inside), ← (to_z-of_z s.ranges.plain)) (keep_end c.before.loop.invariant c.loop-test.false)
+    rw (← (to_z-of_z s.ranges.inside), ← (to_z-of_z s.ranges.plain)) (keep_end c.loop-v.invariant c.loop-v-test.false)
 
 pub fences_kept_spec : {M : Type 1} → statement M
 fences_kept_spec = tie.close (tie.spec
-    invariant-loop decreases-loop (λ c. keeping) (λ c. omega arith) (λ c. omega arith) (λ c κs. search rules) returns (λ c. omega arith) (λ c. omega arith)
+    invariant-loop-v decreases-loop-v (λ c. keeping) (λ c. omega arith) (λ c. omega arith) (λ c κs. search rules) returns (λ c. omega arith) (λ c. omega arith)
     loop_again returns_2)

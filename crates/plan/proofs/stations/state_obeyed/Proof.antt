@@ -14,36 +14,36 @@ state_of_lem s = state_row s.args.case.now s.args.offset s.args.z
 supports : (c : tie.After-member) → let s = c.before.before.before in c.member.result ≡ member_of (state_of_lem s).directions s.args.f
 supports c =
     let x = c.before in
-    let directions = as_told x.struct_told.given.0.1 (ap (λ (y : State). y.directions) x.before.state.ensures) in
-    c.member.ensures ∙ ap (λ (z : ℤ). member_of z x.before.before.args.f) directions
+    let directions = as_told x.struct_told-1.given.0.1 (ap (λ (y : State). y.directions) x.state-x.ensures) in
+    c.member.ensures ∙ ap (λ (z : ℤ). member_of z x.args.f) directions
 
 all_on : (c : tie.After-subset) → let s = c.before.before.before.before.before.before in c.subset.result ≡ subset_of (state_of_lem s).on s.args.active
 all_on c =
     let x = c.before in
     let r = x.before.before.before.before in
-    let on = as_told x.struct_told2.given.1.0.1 (ap (λ (y : State). y.on) r.state.ensures) in
-    c.subset.ensures ∙ ap₂ subset_of on (to_z-of_z r.before.ranges.active)
+    let on = as_told x.struct_told-then-member-1.given.1.0.1 (ap (λ (y : State). y.on) r.state-x.ensures) in
+    c.subset.ensures ∙ ap₂ subset_of on (to_z-of_z r.ranges.active)
 
-returns : tie.Need-returns
+returns : tie.Need-returns-then-subset
 unfolding obeyed
 returns c =
     let x = c.before in
     let b = x.before.before in
     let m = b.before.before.before in
     let r = m.before.before in
-    let off = as_told x.struct_told3.given.1.1.0.1 (ap (λ (y : State). y.off) r.state.ensures) in
-    rw (sym (supports m) ∙ b.before.before.if1.true, sym (all_on b) ∙ x.before.if2.true)
-    (c.disjoint.ensures ∙ ap₂ disjoint_of off (to_z-of_z r.before.ranges.active))
+    let off = as_told x.struct_told-then-subset-1.given.1.1.0.1 (ap (λ (y : State). y.off) r.state-x.ensures) in
+    rw (sym (supports m) ∙ b.if-member.true, sym (all_on b) ∙ x.if-subset.true)
+    (c.disjoint.ensures ∙ ap₂ disjoint_of off (to_z-of_z r.ranges.active))
 
-returns_2 : tie.Need-returns-2
+returns_2 : tie.Need-returns-else-subset
 unfolding obeyed
 returns_2 c =
     let b = c.before in
-    rw (sym (supports b.before.before.before) ∙ b.before.before.if1.true, sym (all_on b) ∙ c.if2.false)
+    rw (sym (supports b.before.before.before) ∙ b.if-member.true, sym (all_on b) ∙ c.if-subset.false)
 
-returns_3 : tie.Need-returns-3
+returns_3 : tie.Need-returns-else-member
 unfolding obeyed
-returns_3 c = rw (sym (supports c.before) ∙ c.if1.false)
+returns_3 c = rw (sym (supports c.before) ∙ c.if-member.false)
 
 pub state_obeyed_spec : {M : Type 1} → statement M
 state_obeyed_spec = tie.close (tie.spec

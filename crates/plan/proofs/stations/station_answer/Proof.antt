@@ -14,19 +14,19 @@ returns c =
     let k = x.before in
     let s = k.before.before in
     station_asked s.args.case.now s.args.rows.now s.args.i s.args.s k.choice_kept.ensures s.requires.3 f.fence_flows_kept.ensures
-    x.ask.ensures y.ask2.ensures z.ask3.ensures o.or_else.ensures c.or_else2.ensures
+    x.ask.ensures y.ask-2.ensures z.ask-3.ensures o.or_else.ensures c.or_else-2.ensures
 
 few : (s : tie.Start) → s.args.s < 8
 few s = omega (arith, s.requires.1, (counted s.requires.0.accepted).stations)
 
-choice_kept_requires : tie.Need-choice-kept-requires
-choice_kept_requires c κs = let p = c.before.requires in (p.0.accepted, p.1, c.station_at.ensures ∙ p.0.laid.offsets.each _ p.1, p.2)
+choice_kept_requires : tie.Need-choice_kept-requires
+choice_kept_requires c κs = let p = c.requires in (p.0.accepted, p.1, c.station_at-offset.ensures ∙ p.0.laid.offsets.each _ p.1, p.2)
 
-fence_flows_kept_requires : tie.Need-fence-flows-kept-requires
+fence_flows_kept_requires : tie.Need-fence_flows_kept-requires
 fence_flows_kept_requires c κs =
     let o = c.before.before.before in
-    let p = o.before.requires in
-    (p.0.accepted, p.0.laid, p.1, o.station_at.ensures ∙ p.0.laid.offsets.each _ p.1, p.4)
+    let p = o.requires in
+    (p.0.accepted, p.0.laid, p.1, o.station_at-offset.ensures ∙ p.0.laid.offsets.each _ p.1, p.4)
 
 pub station_answer_spec : {M : Type 1} → statement M
 station_answer_spec = tie.close (tie.spec

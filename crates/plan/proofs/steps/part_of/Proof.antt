@@ -5,7 +5,7 @@ use Rattle.plan.proofs.steps.part_of.Statement.{statement}
 use Rattle.plan.proofs.steps.part_of.Tie as tie
 
 returns : tie.Need-returns
-returns c = let a = c.before.args in rw (add-sub_cancel_left (2 + a.i * a.width) a.width)
+returns c = let a = c.args in rw (add-sub_cancel_left (2 + a.i * a.width) a.width)
 
 pub part_of_spec : {M : Type 1} → statement M
 part_of_spec = tie.close (tie.spec

@@ -4,19 +4,19 @@ use Rattle.plan.proofs.StepGroups.{stations_stop, stations_passed}
 use Rattle.plan.proofs.steps.past_arcs.Statement.{statement}
 use Rattle.plan.proofs.steps.past_arcs.Tie as tie
 
-returns : tie.Need-returns
+returns : tie.Need-returns-in-Yes
 returns c =
     let e = c.before in
-    let n = e.before.before in
-    let a = n.before.args in
-    stations_passed a.case.now a.rows.now a.i _ (sym n.station_answers.ensures ∙ e.enum_told.given.1) c.balance.ensures
+    let n = e.before in
+    let a = n.args in
+    stations_passed a.case.now a.rows.now a.i _ (sym n.station_answers-stations.ensures ∙ e.in-Yes.is) c.balance.ensures
 
-returns_2 : tie.Need-returns-2
+returns_2 : tie.Need-returns-in-No
 returns_2 c =
     let e = c.before in
-    let n = e.before.before in
-    let a = n.before.args in
-    stations_stop a.case.now a.rows.now a.i _ e.enum_told2.given.1 c.stopped.ensures n.station_answers.ensures
+    let n = e.before in
+    let a = n.args in
+    stations_stop a.case.now a.rows.now a.i _ e.in-No.is c.stopped.ensures n.station_answers-stations.ensures
 
 pub past_arcs_spec : {M : Type 1} → statement M
 past_arcs_spec = tie.close (tie.spec

@@ -11,55 +11,55 @@ use Rattle.plan.proofs.StepGroups.{nodes_stop, arcs_stop, arcs_passed}
 use Rattle.plan.proofs.steps.step.Statement.{statement}
 use Rattle.plan.proofs.steps.step.Tie as tie
 
-abbrev begin : tie.After-enum-told → tie.Start
-begin c = c.before.before.before.before
+abbrev begin : tie.In-Yes → tie.Start
+begin c = c.before.before.before
 
-abbrev past : tie.After-enum-told3 → tie.After-enum-told
-past c = c.before.before.before.before
+abbrev past : tie.In-Yes-arcs → tie.In-Yes
+past c = c.before.before.before
 
 -- past the nodes
-nodes_yes : (c : tie.After-enum-told) → let a = (begin c).args in first_no (all_node_questions a.case.now a.rows.now a.i) ≡ Yes
-nodes_yes c = sym c.before.before.node_answers.ensures ∙ c.enum_told.given.1
+nodes_yes : (c : tie.In-Yes) → let a = (begin c).args in first_no (all_node_questions a.case.now a.rows.now a.i) ≡ Yes
+nodes_yes c = sym c.node_answers-nodes.ensures ∙ c.in-Yes.is
 
-nodes_are : (c : tie.After-enum-told) → let a = (begin c).args in NodesSized a.case.now a.rows.now
+nodes_are : (c : tie.In-Yes) → let a = (begin c).args in NodesSized a.case.now a.rows.now
 nodes_are c = let p = (begin c).requires.0 in nodes_sized _ _ _ p.accepted p.step (nodes_yes c)
 
 -- past the arcs
-arcs_yes : (c : tie.After-enum-told3) → let a = (begin (past c)).args in
+arcs_yes : (c : tie.In-Yes-arcs) → let a = (begin (past c)).args in
     first_no (all_arc_questions a.case.now (number_at a.previous.pressures) a.rows.now a.i) ≡ Yes
-arcs_yes c = sym c.before.before.arc_answers.ensures ∙ c.enum_told3.given.1
+arcs_yes c = sym c.arc_answers-arcs.ensures ∙ c.in-Yes-arcs.is
 
-returns : tie.Need-returns
+returns : tie.Need-returns-in-No
 returns c =
     let t = c.before in
-    let n = t.before.before in
-    let a = n.before.before.args in
+    let n = t.before in
+    let a = n.args in
     nodes_stop a.case.now (number_at a.previous.pressures) a.rows.now a.i _
-    t.enum_told2.given.1 c.stopped.ensures n.node_answers.ensures
+    t.in-No.is c.stopped.ensures n.node_answers-nodes.ensures
 
-arc_answers_requires : tie.Need-arc-answers-requires
+arc_answers_requires : tie.Need-arc_answers-arcs-requires
 arc_answers_requires c κs = let y = (begin c.before).requires in (y.0, y.1, pressures_sized (nodes_are c.before))
 
-past_arcs_requires : tie.Need-past-arcs-requires
+past_arcs_requires : tie.Need-past_arcs-requires
 past_arcs_requires c κs =
     let s = begin (past c) in
     let old = number_at s.args.previous.pressures in
     (s.pre.0, flows_sized _ old _ _ s.pre.0.accepted (arcs_yes c), nodes_are (past c), machines_kept_lem _ old _ _ (arcs_yes c))
 
-returns_2 : tie.Need-returns-2
+returns_2 : tie.Need-returns-in-Yes-arcs
 returns_2 c =
     let e = c.before in
     let a = (begin (past e)).args in
     arcs_passed a.case.now (number_at a.previous.pressures) a.rows.now a.i _ (nodes_yes (past e)) (arcs_yes e) c.past_arcs.ensures
 
-returns_3 : tie.Need-returns-3
+returns_3 : tie.Need-returns-in-No-arcs
 returns_3 c =
     let e = c.before in
-    let q = e.before.before in
+    let q = e.before in
     let t = q.before.before in
     let a = (begin t).args in
     arcs_stop a.case.now (number_at a.previous.pressures) a.rows.now a.i _
-    e.enum_told4.given.1 c.stopped2.ensures (nodes_yes t) q.arc_answers.ensures
+    e.in-No-arcs.is c.stopped-in-No-arcs.ensures (nodes_yes t) q.arc_answers-arcs.ensures
 
 pub step_spec : {M : Type 1} → statement M
 step_spec = tie.close (tie.spec

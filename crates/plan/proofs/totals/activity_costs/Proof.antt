@@ -8,29 +8,29 @@ use Rattle.plan.specs.inside.StepSizes.{activity_le}
 use Rattle.plan.proofs.totals.activity_costs.Statement.{statement}
 use Rattle.plan.proofs.totals.activity_costs.Tie as tie
 
-abbrev invariant-loop : tie.invariant-loop
-invariant-loop case rows arcs active sum₀ e₀ sum e = Tallying sum (activity_part case (active_of active) rows) 1000000 (arcs_of case) e
+abbrev invariant-loop-e : tie.invariant-loop-e
+invariant-loop-e case rows arcs active sum₀ e₀ sum e = Tallying sum (activity_part case (active_of active) rows) 1000000 (arcs_of case) e
 
-abbrev decreases-loop : tie.decreases-loop
-decreases-loop case rows arcs active sum₀ e₀ sum e = arcs - e
+abbrev decreases-loop-e : tie.decreases-loop-e
+decreases-loop-e case rows arcs active sum₀ e₀ sum e = arcs - e
 
-loop_holds : tie.Need-loop-init invariant-loop decreases-loop
+loop_holds : tie.Need-loop-e-init invariant-loop-e decreases-loop-e
 loop_holds c = begun_n (λ e l. activity_le c.requires.0 (active_of c.args.t2 e) c.args.rows.now e l) (omega (arith, (counted c.requires.0).arcs))
 
-activity_cost_requires : tie.Need-activity-cost-requires invariant-loop decreases-loop
-activity_cost_requires c κs = let s = c.before.before in (s.requires.0, omega (arith, c.loop-test.true, s.requires.1))
+activity_cost_requires : tie.Need-activity_cost-sum-requires invariant-loop-e decreases-loop-e
+activity_cost_requires c κs = let s = c.before.before in (s.requires.0, omega (arith, c.loop-e-test.true, s.requires.1))
 
-add_sum : tie.Need-overflow-add-sum invariant-loop decreases-loop
-add_sum c = one_fits_n c.before.before.loop.invariant c.activity_cost.ensures (omega arith)
+add_sum : tie.Need-overflow_add-sum invariant-loop-e decreases-loop-e
+add_sum c = one_fits_n c.loop-e.invariant c.activity_cost-sum.ensures (omega arith)
 
-loop_again : tie.Need-loop-preserved invariant-loop decreases-loop
-loop_again c = one_more_n c.before.before.loop.invariant c.activity_cost.ensures (omega arith)
+loop_again : tie.Need-loop-e-preserved invariant-loop-e decreases-loop-e
+loop_again c = one_more_n c.loop-e.invariant c.activity_cost-sum.ensures (omega arith)
 
-returns : tie.Need-returns invariant-loop decreases-loop
+returns : tie.Need-returns invariant-loop-e decreases-loop-e
 unfolding activity_costs
-returns c = whole_n c.before.loop.invariant (omega arith)
+returns c = whole_n c.loop-e.invariant (omega arith)
 
 pub activity_costs_spec : {M : Type 1} → statement M
 activity_costs_spec = tie.close (tie.spec
-    invariant-loop decreases-loop loop_holds (λ c. omega (arith, (counted c.before.before.requires.0).arcs)) activity_cost_requires
+    invariant-loop-e decreases-loop-e loop_holds (λ c. omega (arith, (counted c.requires.0).arcs)) activity_cost_requires
     add_sum (λ c. omega arith) (λ c. omega arith) loop_again returns)

@@ -10,24 +10,24 @@ use Rattle.plan.proofs.Adding.{count_read}
 use Rattle.plan.proofs.totals.direction_cost.Statement.{statement}
 use Rattle.plan.proofs.totals.direction_cost.Tie as tie
 
-chosen : (b : tie.After-index) → let a = b.before.before.before.args in b.index.result ≡ direction_in a.case.now a.rows.now a.s
+chosen : (b : tie.After-index-f) → let a = b.args in b.index-f.result ≡ direction_in a.case.now a.rows.now a.s
 chosen b =
-    count_read b.index.ensures b.before.struct_told.given.0.1 (ap (λ (x : Choice). x.direction) b.before.before.choice_of.ensures)
+    count_read b.index-f.ensures b.struct_told-1.given.0.1 (ap (λ (x : Choice). x.direction) b.choice_of.ensures)
 
-returns : tie.Need-returns
+returns : tie.Need-returns-then-f-was
 unfolding direction_cost
-returns c = cost_same _ (sym (chosen c.before) ∙ c.if1.true)
+returns c = cost_same _ (sym (chosen c.before) ∙ c.if-f-was.true)
 
-returns_2 : tie.Need-returns-2
+returns_2 : tie.Need-returns-else-f-was
 unfolding direction_cost
 returns_2 c =
     let b = c.before.before in
     let s = b.before.before.before in
     let l = s.args.case.now in
     ap (λ (x : Direction). x.weight) c.direction.ensures
-    ∙ ap (λ (k : ℕ). (direction_row l k b.index.result).weight) s.requires.2
+    ∙ ap (λ (k : ℕ). (direction_row l k b.index-f.result).weight) s.requires.2
     ∙ ap (λ (k : ℕ). (direction_of l s.args.s k).weight) (chosen b)
-    ∙ cost_new _ (λ q. c.before.if1.false (chosen b ∙ q))
+    ∙ cost_new _ (λ q. c.if-f-was.false (chosen b ∙ q))
 
 pub direction_cost_spec : {M : Type 1} → statement M
 direction_cost_spec = tie.close (tie.spec

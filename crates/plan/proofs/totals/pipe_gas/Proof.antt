@@ -12,47 +12,47 @@ use Rattle.plan.proofs.SignedReads.{read}
 use Rattle.plan.proofs.totals.pipe_gas.Statement.{statement}
 use Rattle.plan.proofs.totals.pipe_gas.Tie as tie
 
-piped : (t : tie.Then1) → let s = t.before.before.before in (arc_of s.args.case.now s.args.e).kind ≡ 2
-piped t = sym (ap (λ (x : Arc). x.kind) t.before.before.arc.ensures) ∙ t.if1.true
+piped : (t : tie.Then-c-eq2) → let s = t.before.before.before in (arc_of s.args.case.now s.args.e).kind ≡ 2
+piped t = sym (ap (λ (x : Arc). x.kind) t.arc-c.ensures) ∙ t.if-c-eq2.true
 
 -- the pressures at both ends, added
-ends : (c : tie.After-at2) → let s = c.before.before.before.before.before.before in let x = arc_of s.args.case.now s.args.e in
+ends : (c : tie.After-at-then-c-eq2) → let s = c.before.before.before.before.before.before in let x = arc_of s.args.case.now s.args.e in
     let p = number_at s.args.pressures.now in
-    Held (to_z w64 (of_z w64 c.before.at.result) +ℤ to_z w64 (of_z w64 c.at2.result)) (p x.from +ℤ p x.to) 400000
+    Held (to_z w64 (of_z w64 c.at.result) +ℤ to_z w64 (of_z w64 c.at-then-c-eq2.result)) (p x.from +ℤ p x.to) 400000
 ends c =
     let a = c.before.before.before.before.before in
-    let y = a.before.requires in
-    let p = number_at a.before.args.pressures.now in
-    read (c.before.at.ensures ∙ ap (λ (x : Arc). p x.from) a.arc.ensures) (y.2.each _ (from_node y.0 _ y.1)) tt
-    +ʳ read (c.at2.ensures ∙ ap (λ (x : Arc). p x.to) a.arc.ensures) (y.2.each _ (to_node y.0 _ y.1)) tt
+    let y = a.requires in
+    let p = number_at a.args.pressures.now in
+    read (c.at.ensures ∙ ap (λ (x : Arc). p x.from) a.arc-c.ensures) (y.2.each _ (from_node y.0 _ y.1)) tt
+    +ʳ read (c.at-then-c-eq2.ensures ∙ ap (λ (x : Arc). p x.to) a.arc-c.ensures) (y.2.each _ (to_node y.0 _ y.1)) tt
 
 -- and the gas of the pipe
-gas : (c : tie.After-at2) → let s = c.before.before.before.before.before.before in let x = arc_of s.args.case.now s.args.e in
+gas : (c : tie.After-at-then-c-eq2) → let s = c.before.before.before.before.before.before in let x = arc_of s.args.case.now s.args.e in
     let p = number_at s.args.pressures.now in
-    Held (to_z w64 (of_z w64 c.before.before.pipe.result.c)
-    *ℤ to_z w64 (of_z w64 (to_z w64 (of_z w64 c.before.at.result) +ℤ to_z w64 (of_z w64 c.at2.result))))
+    Held (to_z w64 (of_z w64 c.pipe.result.c)
+    *ℤ to_z w64 (of_z w64 (to_z w64 (of_z w64 c.at.result) +ℤ to_z w64 (of_z w64 c.at-then-c-eq2.result))))
     ((pipe_of s.args.case.now s.args.e).c *ℤ (p x.from +ℤ p x.to)) 40000000000000
 gas c =
     let q = c.before.before in
-    let y = q.before.before.before.before.requires in
+    let y = q.requires in
     read (ap (λ (x : Pipe). x.c) q.pipe.ensures) (pipe_sized y.0 _ y.1 (piped q.before)).c tt *ʳ held (ends c) tt
 
-add_result : tie.Need-overflow-add-result
+add_result : tie.Need-overflow_add-result
 add_result c = held_fits (ends c) tt
 
-mul_result : tie.Need-overflow-mul-result
+mul_result : tie.Need-overflow_mul-result
 mul_result c = held_fits (gas c.before.before) tt
 
-returns : tie.Need-returns
+returns : tie.Need-returns-then-c-eq2
 unfolding gas_part
 returns c = let p = c.before.before in (held (gas p) tt).val ∙ taken_part _ refl (eq-eqb _ 2 (piped p.before.before.before))
 
-returns_2 : tie.Need-returns-2
+returns_2 : tie.Need-returns-else-c-eq2
 unfolding gas_part
 returns_2 c =
     let a = c.before.before in
-    let k = ap (λ (x : Arc). x.kind) a.arc.ensures in
-    sym (left_part _ refl (ne_eqb _ 2 (λ (e : (arc_of (now a.before.args.case) a.before.args.e).kind ≡ 2). c.if1.false (k ∙ e))))
+    let k = ap (λ (x : Arc). x.kind) a.arc-c.ensures in
+    sym (left_part _ refl (ne_eqb _ 2 (λ (e : (arc_of (now a.args.case) a.args.e).kind ≡ 2). c.if-c-eq2.false (k ∙ e))))
 
 pub pipe_gas_spec : {M : Type 1} → statement M
 pipe_gas_spec = tie.close (tie.spec

@@ -11,12 +11,12 @@ use Rattle.plan.proofs.SignedReads.{read}
 use Rattle.plan.proofs.totals.slacks_of.Statement.{statement}
 use Rattle.plan.proofs.totals.slacks_of.Tie as tie
 
-abbrev invariant-loop : tie.invariant-loop
-invariant-loop case rows nodes sum₀ v₀ sum v =
+abbrev invariant-loop-v : tie.invariant-loop-v
+invariant-loop-v case rows nodes sum₀ v₀ sum v =
     Summing sum.pressure (pressure_slack_at rows) 800000 (nodes_of case) v × Summing sum.demand (demand_slack_at rows) 20000000 (nodes_of case) v
 
-abbrev decreases-loop : tie.decreases-loop
-decreases-loop case rows nodes sum₀ v₀ sum v = nodes - v
+abbrev decreases-loop-v : tie.decreases-loop-v
+decreases-loop-v case rows nodes sum₀ v₀ sum v = nodes - v
 
 -- the two slacks of a row, as the code adds them
 module _ {r w : NodeRow} (e : r ≡ w) (z : NodeRowSized w) where
@@ -26,45 +26,45 @@ module _ {r w : NodeRow} (e : r ≡ w) (z : NodeRowSized w) where
   demand : Held (to_z w64 (of_z w64 r.splus) +ℤ to_z w64 (of_z w64 r.sminus)) (w.splus +ℤ w.sminus) 20000000
   demand = read (ap (λ (x : NodeRow). x.splus) e) z.splus tt +ʳ read (ap (λ (x : NodeRow). x.sminus) e) z.sminus tt
 
-small : (c : tie.After-node-row invariant-loop decreases-loop) → let l = c.before.before in NodeRowSized (node_row l.before.args.rows.now l.loop.v)
-small c = c.before.before.before.requires.2.each _ (omega arith)
+small : (c : tie.After-node_row-r invariant-loop-v decreases-loop-v) → let l = c.before.before in NodeRowSized (node_row l.args.rows.now l.loop-v.v)
+small c = c.requires.2.each _ (omega arith)
 
-loop_holds : tie.Need-loop-init invariant-loop decreases-loop
+loop_holds : tie.Need-loop-v-init invariant-loop-v decreases-loop-v
 loop_holds c =
     let k = (counted c.requires.0).nodes in
     (begun (pressure_slack_le c.requires.2) (omega arith), begun (demand_slack_le c.requires.2) (omega arith))
 
-add_sum : tie.Need-overflow-add-sum invariant-loop decreases-loop
+add_sum : tie.Need-overflow_add-sum invariant-loop-v decreases-loop-v
 add_sum c = let r = c.before.before in held_fits (pressure r.Node-row.ensures (small r)) tt
 
-add_sum_2 : tie.Need-overflow-add-sum-2 invariant-loop decreases-loop
+add_sum_2 : tie.Need-overflow_add-sum-in-loop-v invariant-loop-v decreases-loop-v
 unfolding pressure_slack_at
 add_sum_2 c =
     let r = c.before.before.before.before in
-    one_fits r.before.before.loop.invariant.0 (pressure r.Node-row.ensures (small r)).val (omega arith)
+    one_fits r.loop-v.invariant.0 (pressure r.Node-row.ensures (small r)).val (omega arith)
 
-add_sum_3 : tie.Need-overflow-add-sum-3 invariant-loop decreases-loop
+add_sum_3 : tie.Need-overflow_add-sum-in-loop-v-2 invariant-loop-v decreases-loop-v
 add_sum_3 c = let r = c.before.before.before.before.before.before in held_fits (demand r.Node-row.ensures (small r)) tt
 
-add_sum_4 : tie.Need-overflow-add-sum-4 invariant-loop decreases-loop
+add_sum_4 : tie.Need-overflow_add-sum-in-loop-v-3 invariant-loop-v decreases-loop-v
 unfolding demand_slack_at
 add_sum_4 c =
     let r = c.before.before.before.before.before.before.before.before in
-    one_fits r.before.before.loop.invariant.1 (demand r.Node-row.ensures (small r)).val (omega arith)
+    one_fits r.loop-v.invariant.1 (demand r.Node-row.ensures (small r)).val (omega arith)
 
-loop_again : tie.Need-loop-preserved invariant-loop decreases-loop
+loop_again : tie.Need-loop-v-preserved invariant-loop-v decreases-loop-v
 unfolding pressure_slack_at demand_slack_at
 loop_again c =
     let r = c.before.before.before.before.before.before.before.before in
-    let h = r.before.before.loop.invariant in
+    let h = r.loop-v.invariant in
     let e = r.Node-row.ensures in
     (one_more h.0 (pressure e (small r)).val (omega arith), one_more h.1 (demand e (small r)).val (omega arith))
 
-returns : tie.Need-returns invariant-loop decreases-loop
+returns : tie.Need-returns invariant-loop-v decreases-loop-v
 unfolding pressure_slack_in demand_slack_in
-returns c = let h = c.before.loop.invariant in record { pressure = total h.0 (omega arith); demand = total h.1 (omega arith) }
+returns c = let h = c.loop-v.invariant in record { pressure = total h.0 (omega arith); demand = total h.1 (omega arith) }
 
 pub slacks_of_spec : {M : Type 1} → statement M
 slacks_of_spec = tie.close (tie.spec
-    invariant-loop decreases-loop loop_holds (λ c κs. omega (arith, (counted c.before.before.requires.0).nodes)) add_sum add_sum_2
+    invariant-loop-v decreases-loop-v loop_holds (λ c κs. omega (arith, (counted c.requires.0).nodes)) add_sum add_sum_2
     add_sum_3 add_sum_4 (λ c. omega arith) (λ c. omega arith) loop_again returns)
