@@ -57,13 +57,16 @@ loop_again c =
     let s = h.args.s in
     let i = h.loop-e.e in
     let f = sym b.belongs.ensures in
-    elim c.if-belongs.branch [ then-belongs x ↦ (
-      tally_yes h.loop-e.invariant.0 t.loop-e-test.true x.n-is (f ∙ x.if-belongs.true),
-      x.set-is ∙ x.with_arc-set.ensures ∙ rw (place h, h.loop-e.invariant.1) (sym (arcs_yes l s (active_at_start l) i (f ∙ x.if-belongs.true))),
-    ) | else-belongs x ↦ (
-      tally_no h.loop-e.invariant.0 t.loop-e-test.true x.n-is (f ∙ x.if-belongs.false),
-      x.set-is ∙ h.loop-e.invariant.1 ∙ sym (arcs_no l s (active_at_start l) i (f ∙ x.if-belongs.false)),
-    ) ]
+    elim c.if-belongs.branch [
+      | then-belongs x ↦ (
+        tally_yes h.loop-e.invariant.0 t.loop-e-test.true x.n-is (f ∙ x.if-belongs.true),
+        x.set-is ∙ x.with_arc-set.ensures ∙ rw (place h, h.loop-e.invariant.1) (sym (arcs_yes l s (active_at_start l) i (f ∙ x.if-belongs.true))),
+      )
+      | else-belongs x ↦ (
+        tally_no h.loop-e.invariant.0 t.loop-e-test.true x.n-is (f ∙ x.if-belongs.false),
+        x.set-is ∙ h.loop-e.invariant.1 ∙ sym (arcs_no l s (active_at_start l) i (f ∙ x.if-belongs.false)),
+      )
+    ]
 
 returns : tie.Need-returns invariant-loop-e decreases-loop-e
 returns c =

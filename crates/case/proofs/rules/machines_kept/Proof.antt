@@ -49,8 +49,8 @@ loop_again c =
     let f = sym b.belongs.ensures in
     keep_on b.loop-e.invariant {one = true} b.loop-e-test.true
     (elim c.if-belongs.branch [
-      then-belongs+else-not-subset x ↦ let m = machines_is x.artificial-machines.type_inv.1.1.1.1.1.1.0.1 x.artificial-machines.ensures in
-        rw (f ∙ x.if-belongs.true, simp m at (sym x.subset.ensures ∙ x.if-not-subset.false))
+      | then-belongs+else-not-subset x ↦ let m = machines_is x.artificial-machines.type_inv.1.1.1.1.1.1.0.1 x.artificial-machines.ensures in
+          rw (f ∙ x.if-belongs.true, simp m at (sym x.subset.ensures ∙ x.if-not-subset.false))
       | else-belongs x ↦ rw (f ∙ x.if-belongs.false)
     ])
     refl

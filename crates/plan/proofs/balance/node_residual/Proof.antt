@@ -20,12 +20,12 @@ time_is c = let s = c.before in read c.duration.ensures (duration_sized s.requir
 
 -- "flow out - flow in - d"
 left_is : (c : tie.After-node_row) → let s = c.before.before.before in
-    Held (to_z w64 (of_z w64 s.args.net) -ℤ to_z w64 (of_z w64 c.Node-row.result.d)) (imbalance_of s) (most_net + 10000000)
+    Held (to_z w64 (of_z w64 s.args.net) -ℤ to_z w64 (of_z w64 c.node_row.result.d)) (imbalance_of s) (most_net + 10000000)
 unfolding node_imbalance
 left_is c =
     let s = c.before.before.before in
     read s.requires.is (net_sized s.requires.flows s.requires.accepted s.args.v) tt
-    -ʳ read (ap (λ (r : NodeRow). r.d) c.Node-row.ensures) (s.requires.node_rows.each s.args.v s.requires.node).d tt
+    -ʳ read (ap (λ (r : NodeRow). r.d) c.node_row.ensures) (s.requires.node_rows.each s.args.v s.requires.node).d tt
 
 -- the two factors
 first_is : (c : tie.After-size) → let a = c.args in c.size.result ≡ nat_abs (duration a.case.now a.i)

@@ -6,7 +6,7 @@ use Rattle.plan.specs.declared.setting.Setting.{Setting}
 use Rattle.plan.specs.law.Setting.{setting_of}
 use Rattle.plan.specs.law.ArcFlows.{no_flow_against, flow_allowed}
 use Rattle.plan.proofs.flows.flow_allowed.Statement.{statement}
-use Rattle.plan.proofs.flows.flow_allowed.Lts.{then-kind-lt1-own, else-kind-lt1-own}
+use Rattle.plan.proofs.flows.flow_allowed.Lts.{in_default-via-then-kind-lt1, in_default-via-else-kind-lt1+else-kind-lt3}
 use Rattle.plan.proofs.flows.flow_allowed.Tie as tie
 
 valve : (k : ℕ) → k < 1 → (leb 1 k && leb k 2) ≡ false
@@ -37,7 +37,10 @@ returns_2 c =
     let t = n.before in
     let j = t.before in
     let a = j.args in
-    decided a.c a.r (elim j.in-1.if-kind-lt1-own.branch [ then-kind-lt1-own w ↦ valve a.c.kind w.if-kind-lt1-own.true | else-kind-lt1-own w ↦ above a.c.kind w.1.left ])
+    decided a.c a.r (elim c.in_default.branch [
+      | in_default-via-then-kind-lt1 w ↦ valve a.c.kind w.if-kind-lt1-1.true
+      | in_default-via-else-kind-lt1+else-kind-lt3 w ↦ above a.c.kind w.if-kind-lt3-1.false
+    ])
     (kept a.r.setting t.struct_told-1.given.1.1.0.1) n.setting_of.ensures c.no_flow_against.ensures
 
 pub flow_allowed_spec : {M : Type 1} → statement M

@@ -1,5 +1,5 @@
 -- The setting's variant decides; a flow against it must be 0, and what was read of the row is the row's.
-use Rattle.plan.proofs.Common.{◌≡◌, refl, Bool, true, false, ◌&&◌, ℤ, rules, kept}
+use Rattle.plan.proofs.Common.{◌≡◌, refl, Bool, true, false, ◌&&◌, ℤ, ◌∙◌, sym, ap, rules, kept}
 use Rattle.plan.specs.declared.rows.ArcRow.{ArcRow}
 use Rattle.plan.specs.declared.setting.Way.{Way}
 use Rattle.plan.specs.declared.setting.Way.TheVariants.{Forward, Backward}
@@ -15,6 +15,10 @@ use Rattle.plan.proofs.flows.no_flow_against.Tie as tie
 open_valve : (way : Way) (mode : Mode) (r : ArcRow) → true ≡ no_flow_against false (Active way mode) r
 open_valve Forward mode r = refl
 open_valve Backward mode r = refl
+
+plain : (artificial : Bool) (s : Setting) (way : Way) (mode : Mode) (r : ArcRow) → s ≡ Active way mode → artificial ≡ false → true ≡ no_flow_against artificial s r
+plain artificial s way mode r e f =
+    open_valve way mode r ∙ sym (ap (λ (x : Setting). no_flow_against false x r) e) ∙ sym (ap (λ (b : Bool). no_flow_against b s r) f)
 
 module _ (artificial : Bool) {s : Setting} (r : ArcRow) {n : ℤ} {y : Bool} where
   off : {m : ℤ} {a b : Bool} → s ≡ Off → n ≡ r.a → m ≡ r.b → a ≡ is_zero n → b ≡ is_zero m → y ≡ (a && b) → y ≡ no_flow_against artificial s r
@@ -61,8 +65,7 @@ returns_4 c =
 
 returns_5 : tie.Need-returns-else-artificial
 returns_5 c =
-    let s = c.before in
-    rw (s.in-Active.is, c.if-artificial.false) (open_valve s.in-Active.way s.in-Active.mode s.args.r)
+    plain c.args.artificial c.args.s c.in-Active.way c.in-Active.mode c.args.r c.in-Active.is c.if-artificial.false
 
 pub no_flow_against_spec : {M : Type 1} → statement M
 no_flow_against_spec = tie.close (tie.spec

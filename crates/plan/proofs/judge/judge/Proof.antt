@@ -13,7 +13,7 @@ asked j = head_answer _ _ _ j.judge_head-head.ensures.told_is
 
 returns : tie.Need-returns-in-Yes
 returns c =
-    let y = asked c.before.before ∙ c.in-Yes.is in
+    let y = asked c.before.before.before ∙ c.in-Yes.is in
     judge_yes _ _ (head_case _ _ y).yes (head_passed _ _ (head_keeps _ _ y) c.steps.ensures)
 
 returns_2 : tie.Need-returns-in-No

@@ -15,8 +15,8 @@ front : (g : tie.In-Count) → let a = (begin g.before.before).args in
     ReadAll a.casebytes.now (length a.caselist.now) g.in-Count.count
 front g = read_all _ _ (ap reading_told (sym g.in-Count.is) ∙ g.read-got.ensures.0)
 
-within : (g : tie.In-Count) → g.in-Count.count ≤ length g.read-got.new.1.0
-within g = omega (arith, (front g).within, g.read-got.auto.1.0)
+within : (g : tie.In-Count) → g.in-Count.count ≤ length g.read-got.new.list
+within g = omega (arith, (front g).within, g.read-got.auto.list)
 
 slice_aggregate_judge_case_list : tie.Need-slice_bounds-judge_case_list-end-in-Count
 slice_aggregate_judge_case_list c = sym (length-take-le _ _ (within c))
@@ -25,9 +25,9 @@ returns : tie.Need-returns-in-Count
 returns c =
     let b = c.before in
     let g = b.before.before in
-    let d = g.before.before.before in
+    let d = g.before.before in
     let e = d.read-got.ensures.1 in
-    let f = read_front _ _ _ d.read-got.new.1.0 (front g) e in (
+    let f = read_front _ _ _ d.read-got.new.list (front g) e in (
       case_read_lem _ _ _ _ (front g).ended f b.judge_case_list.ensures.0,
       (case_list_lem _ _ _ _ e, list_of _ _ _ _ (front g).ended f b.judge_case_list.ensures.1),
     )

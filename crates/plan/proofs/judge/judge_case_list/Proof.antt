@@ -13,7 +13,7 @@ asked j = case_answer _ _ j.judge_and_lay-found.ensures.told_is
 returns : tie.Need-returns-in-Yes
 returns c =
     let b = c.before in
-    let e = b.before.before in
+    let e = b.before.before.before in
     let a = e.args in
     let y = asked e.before ∙ e.in-Yes.is in
     let h = b.judge_plan_bytes.ensures in

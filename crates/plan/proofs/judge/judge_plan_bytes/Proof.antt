@@ -15,8 +15,8 @@ front : (g : tie.In-Count) → let a = (begin g.before.before).args in
     ReadAll a.planbytes.now (length a.planlist.now) g.in-Count.count
 front g = read_all _ _ (ap reading_told (sym g.in-Count.is) ∙ g.read-got.ensures.0)
 
-within : (g : tie.In-Count) → g.in-Count.count ≤ length g.read-got.new.1.0
-within g = omega (arith, (front g).within, g.read-got.auto.1.0)
+within : (g : tie.In-Count) → g.in-Count.count ≤ length g.read-got.new.list
+within g = omega (arith, (front g).within, g.read-got.auto.list)
 
 slice_aggregate_judge_plan : tie.Need-slice_bounds-judge_plan-end-in-Count
 slice_aggregate_judge_plan c = sym (length-take-le _ _ (within c))
@@ -24,10 +24,10 @@ slice_aggregate_judge_plan c = sym (length-take-le _ _ (within c))
 returns : tie.Need-returns-in-Count
 returns c =
     let g = c.before in
-    let d = g.before.before.before in
+    let d = g.before.before in
     let f = front g in
     let e = d.read-got.ensures.1 in
-    (plan_read_lem _ _ _ d.read-got.new.1.0 (begin d).requires.0.yes f (read_front _ _ _ _ f e) c.judge_plan.ensures, e)
+    (plan_read_lem _ _ _ d.read-got.new.list (begin d).requires.0.yes f (read_front _ _ _ _ f e) c.judge_plan.ensures, e)
 
 returns_2 : tie.Need-returns-in-Refused
 returns_2 c =

@@ -64,7 +64,7 @@ figures_requires c κs =
     let n = nodes_is w.before.before.before.before.before in
     let m = arcs_is w.before.before.before in
     let o = in_order s.args.case.now s.args.s s.args.t s.requires.2 in
-    let size = rw (to_z-of_z s.fits.set) at c.count-size.ensures in
+    let size = rw (to_z-of_z s.ranges.set) at c.count-size.ensures in
     let k = nodes_counted s.args.case.now s.args.set s.requires.1 in (
       record {
         laid = record { rules = s.requires.0; counted = n; wide = omega (arith, w.step_width-width.ensures, n, m, stations_is w.before) };

@@ -47,15 +47,18 @@ part_is c =
 
 -- the set names the machine, or it does not
 summed : (c : tie.Joined-member invariant-loop-m decreases-loop-m) → let h = c.before.before.before in let a = h.args in
-    Summing (to_z w64 c.if-member.sum) (machine_part a.case.now a.offset a.gain (to_z w64 (of_z w64 a.set)))
+    Summing (to_z w64 c.if-member.sum-bits) (machine_part a.case.now a.offset a.gain (to_z w64 (of_z w64 a.set)))
     10000000 h.station-machines.result.machines (h.loop-m.m + 1)
 unfolding machine_part
 summed c =
     let d = c.before in
     let h = d.before.before in
     let l = d.loop-m-test.true in
-    elim c.if-member.branch [ then-member w ↦ rw w.3 (added h.loop-m.invariant.1
-    (part_is (record { before = record { before = record { before = d; if1 = w.0 }; machine_from_lem = w.1 }; term = w.2 })) l) | else-member w ↦ rw w.1 (passed h.loop-m.invariant.1 (left_part _ d.member.ensures w.if-member.false) l) ]
+    elim c.if-member.branch [
+      | then-member w ↦ rw w.sum-is-bits (added h.loop-m.invariant.1
+          (part_is (record { before = record { before = record { before = d; if-member = w.if-member }; machine_from = w.machine_from }; term-sum = w.term-sum })) l)
+      | else-member w ↦ rw w.sum-is-bits (passed h.loop-m.invariant.1 (left_part _ d.member.ensures w.if-member.false) l)
+    ]
 
 loop_again : tie.Need-loop-m-preserved invariant-loop-m decreases-loop-m
 loop_again c = (machine_on c.loop-m.invariant.0 c.past_machine-row.ensures, summed c.before)

@@ -17,11 +17,11 @@ node_is : (c : tie.After-node-n) → NodeSized c.node-n.result
 node_is c = let p = c.requires in rw c.node-n.ensures (node_sized p.0 _ p.2 _ p.1)
 
 -- past 21 the row's numbers are in range
-row_sized : (c : tie.Then-numbers_kept) → NodeRowSized c.before.before.Node-row.result
+row_sized : (c : tie.Then-numbers_kept) → NodeRowSized c.before.before.node_row-r.result
 row_sized c =
     let k = c.before in
     let r = k.before in
-    numbers_sized r.node-n.result r.Node-row.result (node_is r.before) (sym k.numbers_kept.ensures ∙ c.if-numbers_kept.true)
+    numbers_sized r.node-n.result r.node_row-r.result (node_is r.before) (sym k.numbers_kept.ensures ∙ c.if-numbers_kept.true)
 
 returns : tie.Need-returns-then-numbers_kept
 unfolding node_questions
@@ -32,7 +32,7 @@ returns c =
     let k = t.before in
     let a = k.args in
     let n = k.node-n.ensures in
-    let r = k.before.Node-row.ensures in
+    let r = k.before.node_row-r.ensures in
     let numbers : node_numbers_kept (node_of a.case.now a.v a.i) (node_row a.rows.now a.v) ≡ true =
     rw (n, r) at (sym k.numbers_kept.ensures ∙ t.if-numbers_kept.true) in
     let demand = one.demand_met.ensures ∙ ap₂ demand_met n r in
@@ -45,7 +45,7 @@ returns_2 c =
     let k = c.before in
     let a = k.args in
     let numbers : node_numbers_kept (node_of a.case.now a.v a.i) (node_row a.rows.now a.v) ≡ false =
-    rw (k.node-n.ensures, k.before.Node-row.ensures) at (sym k.numbers_kept.ensures ∙ c.if-numbers_kept.false) in
+    rw (k.node-n.ensures, k.before.node_row-r.ensures) at (sym k.numbers_kept.ensures ∙ c.if-numbers_kept.false) in
     rw numbers
 
 pub node_answer_spec : {M : Type 1} → statement M

@@ -72,12 +72,15 @@ loop_again c =
     let from = ap (λ (y : Arc). y.from) a.arc-c.ensures in
     let to = ap (λ (y : Arc). y.to) a.arc-c.ensures in (
       omega arith,
-      elim c.if-c-ge3.branch [ then-c-ge3 x ↦           let v = to_z w64 (of_z w64 (to_z w64 (of_z w64 x.1.result.a) -ℤ to_z w64 (of_z w64 x.1.result.b))) in
-          let flow = (held (flow_is t x.1.result x.1.ensures) tt).val in
-          rw x.7
-          (gathers_more h.loop-e.invariant.1 a.arc-c.result.from a.arc-c.result.to v v x.5.ensures.1
-          (λ i. artificial_part_lem l r e i kind x.if-c-ge3.true from to flow)) | else-c-ge3 x ↦ rw x.1 (gathers_same h.loop-e.invariant.1 (λ i. artificial_none l r e i kind x.if-c-ge3.false)) ],
-      elim c.if-c-ge3.branch [ then-c-ge3 x ↦ rw x.7 x.5.ensures.0 | else-c-ge3 x ↦ rw x.1 h.loop-e.invariant.2 ],
+      elim c.if-c-ge3.branch [
+        | then-c-ge3 x ↦ let v = to_z w64 (of_z w64 (to_z w64 (of_z w64 x.arc_row-r.result.a) -ℤ to_z w64 (of_z w64 x.arc_row-r.result.b))) in
+            let flow = (held (flow_is t x.arc_row-r.result x.arc_row-r.ensures) tt).val in
+            rw x.net-is
+            (gathers_more h.loop-e.invariant.1 a.arc-c.result.from a.arc-c.result.to v v x.moved.ensures.1
+            (λ i. artificial_part_lem l r e i kind x.if-c-ge3.true from to flow))
+        | else-c-ge3 x ↦ rw x.net-is (gathers_same h.loop-e.invariant.1 (λ i. artificial_none l r e i kind x.if-c-ge3.false))
+      ],
+      elim c.if-c-ge3.branch [ then-c-ge3 x ↦ rw x.net-is x.moved.ensures.0 | else-c-ge3 x ↦ rw x.net-is h.loop-e.invariant.2 ],
     )
 
 returns : tie.Need-returns invariant-loop-e decreases-loop-e

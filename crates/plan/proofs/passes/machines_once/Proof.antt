@@ -6,7 +6,7 @@ use Rattle.plan.specs.law.PlanRecords.{arc_row}
 use Rattle.plan.proofs.StationPasses.{OncePass, once_none, once_same, once_more, once_twice, once_last}
 use Rattle.plan.proofs.SignedReads.{machines_read}
 use Rattle.plan.proofs.passes.machines_once.Statement.{statement}
-use Rattle.plan.proofs.passes.machines_once.Lts.{then-?, else-?, then-s-lt-NO_STATION, else-s-lt-NO_STATION}
+use Rattle.plan.proofs.passes.machines_once.Lts.{then-s-lt-NO_STATION, then-machines-had-ne0, else-machines-had-ne0, else-s-lt-NO_STATION}
 use Rattle.plan.proofs.passes.machines_once.Tie as tie
 
 abbrev invariant-loop-e : tie.invariant-loop-e
@@ -36,10 +36,18 @@ loop_again c =
     let g = h.loop-e.invariant.1 in
     let q = o.own_station-s.ensures in (
       omega arith,
-      elim c.if-s-lt-NO_STATION.branch [ then-s-lt-NO_STATION x ↦           let m = machines_are
-          (record { before = record { before = record { before = record { before = o; if1 = x.0 }; arc_row_lem = x.1 }; struct_told = x.2 }; index = x.3 }) in
-          let small : x.3.result < 2 ^ 64 = omega (arith, x.3.ok) in
-          elim x.4.came [ then-? y ↦ rw (x.5, x.6, y.1) (once_twice g q x.if-s-lt-NO_STATION.true m s.requires.0 s.requires.2 (arc_in t) small y.if-?.true) | else-? y ↦ rw (x.5, x.6, y.1) (once_more g q x.if-s-lt-NO_STATION.true m y.if-?.false) ] | else-s-lt-NO_STATION x ↦ rw (x.1, x.2) (once_same g q x.if-s-lt-NO_STATION.false) ],
+      elim c.if-s-lt-NO_STATION.branch [
+        | then-s-lt-NO_STATION x ↦
+            let m = machines_are
+            (record { before = record { before = record { before = record { before = o; if-s-lt-NO_STATION = x.if-s-lt-NO_STATION }; arc_row = x.arc_row }; struct_told-1 = x.struct_told-1 }; index-machines = x.index-machines }) in
+            let small : x.index-machines.result < 2 ^ 64 = omega (arith, x.index-machines.type_inv) in
+            elim x.if-machines-had-ne0.branch [
+              | then-machines-had-ne0 y ↦ rw (x.once-is, x.taken-is, y.once-is)
+                  (once_twice g q x.if-s-lt-NO_STATION.true m s.requires.0 s.requires.2 (arc_in t) small y.if-machines-had-ne0.true)
+              | else-machines-had-ne0 y ↦ rw (x.once-is, x.taken-is, y.once-is) (once_more g q x.if-s-lt-NO_STATION.true m y.if-machines-had-ne0.false)
+            ]
+        | else-s-lt-NO_STATION x ↦ rw (x.once-is, x.taken-is) (once_same g q x.if-s-lt-NO_STATION.false)
+      ],
     )
 
 returns : tie.Need-returns invariant-loop-e decreases-loop-e

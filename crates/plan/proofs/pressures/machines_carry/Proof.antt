@@ -36,7 +36,7 @@ returns c =
     let case = s.args.case.now in
     let m = c.machine_sum.ensures ∙ flow_sum case _ _ ∙ ap₂ (machine_flow case) s.requires.2 (machines_are k.before.before.before) in
     rw (le-leb _ _ (simp (count_is k, most_is k) at t.if-count-artificial.true))
-    (c.at_most.ensures ∙ ap₂ le_z (to_z-of_z s.fits.flow) (as_told c.machine_sum.type_inv m))
+    (c.at_most.ensures ∙ ap₂ le_z (to_z-of_z s.ranges.flow) (as_told c.machine_sum.type_inv m))
 
 returns_2 : tie.Need-returns-else-count-artificial
 unfolding machines_carry

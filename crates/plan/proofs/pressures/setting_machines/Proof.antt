@@ -10,17 +10,13 @@ use Rattle.plan.proofs.pressures.setting_machines.Tie as tie
 
 mode_machines_requires : tie.Need-mode_machines-requires
 mode_machines_requires c κs =
-    let t = c.before.before.before.before in
-    let s = t.before.before.before.before in
-    let w = t.setting.given.0.0 in
-    (s.requires.0, λ m. compressing_kind _ _ w (sym s.requires.1 ∙ t.setting.given.1 ∙ ap (Active w) m))
+    let w = c.in-Active.way in
+    (c.requires.0, λ m. compressing_kind _ _ w (sym c.requires.1 ∙ c.in-Active.is ∙ ap (Active w) m))
 
 mode_machines_requires_2 : tie.Need-mode_machines-requires-in-Backward
 mode_machines_requires_2 c κs =
-    let t = c.before.before.before.before in
-    let s = t.before.before.before.before in
-    let w = t.setting.given.0.0 in
-    (s.requires.0, λ m. compressing_kind _ _ w (sym s.requires.1 ∙ t.setting.given.1 ∙ ap (Active w) m))
+    let w = c.in-Active.way in
+    (c.requires.0, λ m. compressing_kind _ _ w (sym c.requires.1 ∙ c.in-Active.is ∙ ap (Active w) m))
 
 returns : tie.Need-returns-in-Unknown
 returns c =

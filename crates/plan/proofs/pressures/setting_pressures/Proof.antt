@@ -9,28 +9,26 @@ use Rattle.plan.proofs.pressures.setting_pressures.Tie as tie
 
 mode_pressures_requires : tie.Need-mode_pressures-requires
 mode_pressures_requires c κs =
-    let t = c.before.before.before.before in
-    let p = t.before.before.before.requires in
+    let p = c.requires in
     let a = p.0 in
-    let q = c.before.before.arc.ensures in
-    let w = t.setting.given.0.0 in (
+    let q = c.arc-c.ensures in
+    let w = c.in-Active.way in (
       a,
       from_in a.at.accepted a.arc q,
       to_in a.at.accepted a.arc q,
-      λ m. compressing_kind _ _ w (sym p.1 ∙ t.setting.given.1 ∙ ap (Active w) m),
+      λ m. compressing_kind _ _ w (sym p.1 ∙ c.in-Active.is ∙ ap (Active w) m),
     )
 
 mode_pressures_requires_2 : tie.Need-mode_pressures-requires-in-Backward
 mode_pressures_requires_2 c κs =
-    let t = c.before.before.before.before in
-    let p = t.before.before.before.requires in
+    let p = c.requires in
     let a = p.0 in
-    let q = c.before.before.arc.ensures in
-    let w = t.setting.given.0.0 in
+    let q = c.arc-c.ensures in
+    let w = c.in-Active.way in
     -- either end is a node: which end is which, the promise decides
     let from = from_in a.at.accepted a.arc q in
     let to = to_in a.at.accepted a.arc q in
-    (a, search rules, search rules, λ m. compressing_kind _ _ w (sym p.1 ∙ t.setting.given.1 ∙ ap (Active w) m))
+    (a, search rules, search rules, λ m. compressing_kind _ _ w (sym p.1 ∙ c.in-Active.is ∙ ap (Active w) m))
 
 returns : tie.Need-returns-in-Unknown
 returns c = rw c.in-Unknown.is

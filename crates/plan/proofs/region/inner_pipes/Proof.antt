@@ -73,15 +73,18 @@ unfolding inner_gas
 loop_again c =
     let d = c.before in
     let h = d.loop-e.invariant in
-    elim c.if-inner_pipe.branch [ then-inner_pipe w ↦ (
-      rw w.3 (one_more_n h.0 (counts d w.if-inner_pipe.true) (omega arith)),
-      rw w.4 (added h.1 (holds d (before d) w.1.ensures w.if-inner_pipe.true) (omega arith)),
-      rw w.5 (added h.2 (holds d (after d) w.2.ensures w.if-inner_pipe.true) (omega arith)),
-    ) | else-inner_pipe w ↦ (
-      rw w.1 (passed_n h.0 (rw (sym d.inner_pipe.ensures ∙ w.if-inner_pipe.false)) (omega arith)),
-      rw w.2 (passed h.1 (left_part _ d.inner_pipe.ensures w.if-inner_pipe.false) (omega arith)),
-      rw w.3 (passed h.2 (left_part _ d.inner_pipe.ensures w.if-inner_pipe.false) (omega arith)),
-    ) ]
+    elim c.if-inner_pipe.branch [
+      | then-inner_pipe w ↦ (
+        rw w.pipes-is (one_more_n h.0 (counts d w.if-inner_pipe.true) (omega arith)),
+        rw w.opening-is (added h.1 (holds d (before d) w.pipe_gas-opening.ensures w.if-inner_pipe.true) (omega arith)),
+        rw w.closing-is (added h.2 (holds d (after d) w.pipe_gas-closing.ensures w.if-inner_pipe.true) (omega arith)),
+      )
+      | else-inner_pipe w ↦ (
+        rw w.pipes-is (passed_n h.0 (rw (sym d.inner_pipe.ensures ∙ w.if-inner_pipe.false)) (omega arith)),
+        rw w.opening-is (passed h.1 (left_part _ d.inner_pipe.ensures w.if-inner_pipe.false) (omega arith)),
+        rw w.closing-is (passed h.2 (left_part _ d.inner_pipe.ensures w.if-inner_pipe.false) (omega arith)),
+      )
+    ]
 
 returns : tie.Need-returns invariant-loop-e decreases-loop-e
 unfolding inner_pipes count region_gas

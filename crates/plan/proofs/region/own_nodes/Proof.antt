@@ -57,7 +57,7 @@ loop_again c =
     let d = c.before in
     let h = d.loop-v.invariant in (
       h.0,
-      elim c.if-is_inside.branch [ then-is_inside w ↦ rw w.3 (one_more_n h.1 (left_over d w.2.ensures w.if-is_inside.true) (omega arith)) | else-is_inside w ↦ rw w.1 (passed_n h.1 (rw (sym d.is_inside.ensures ∙ w.if-is_inside.false)) (omega arith)) ],
+      elim c.if-is_inside.branch [ then-is_inside w ↦ rw w.sum-is (one_more_n h.1 (left_over d w.node_residual-sum.ensures w.if-is_inside.true) (omega arith)) | else-is_inside w ↦ rw w.sum-is (passed_n h.1 (rw (sym d.is_inside.ensures ∙ w.if-is_inside.false)) (omega arith)) ],
     )
 
 returns : tie.Need-returns invariant-loop-v decreases-loop-v

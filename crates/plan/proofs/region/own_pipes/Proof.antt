@@ -46,7 +46,7 @@ unfolding own_pipe
 loop_again c =
     let d = c.before in
     let h = d.loop-e.invariant in
-    elim c.if-inner_pipe.branch [ then-inner_pipe w ↦ rw w.2 (one_more_n h (left_over d w.1.ensures w.if-inner_pipe.true) (omega arith)) | else-inner_pipe w ↦ rw w.1 (passed_n h (rw (sym d.inner_pipe.ensures ∙ w.if-inner_pipe.false)) (omega arith)) ]
+    elim c.if-inner_pipe.branch [ then-inner_pipe w ↦ rw w.sum-is (one_more_n h (left_over d w.pipe_residual-sum.ensures w.if-inner_pipe.true) (omega arith)) | else-inner_pipe w ↦ rw w.sum-is (passed_n h (rw (sym d.inner_pipe.ensures ∙ w.if-inner_pipe.false)) (omega arith)) ]
 
 returns : tie.Need-returns invariant-loop-e decreases-loop-e
 unfolding own_pipes

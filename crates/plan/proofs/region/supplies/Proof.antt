@@ -30,14 +30,14 @@ add_sum : tie.Need-overflow_add-sum invariant-loop-v decreases-loop-v
 add_sum c =
     let n = c.before.before in
     let d = n.before.before in
-    added_fits d.loop-v.invariant (supplied d n.Node-row.ensures n.if-is_inside.true) (omega arith)
+    added_fits d.loop-v.invariant (supplied d n.node_row-sum.ensures n.if-is_inside.true) (omega arith)
 
 loop_again : tie.Need-loop-v-preserved invariant-loop-v decreases-loop-v
 unfolding region_supply
 loop_again c =
     let d = c.before in
     let h = d.loop-v.invariant in
-    elim c.if-is_inside.branch [ then-is_inside w ↦ rw w.4 (added h (supplied d w.1.ensures w.if-is_inside.true) (omega arith)) | else-is_inside w ↦ rw w.1 (passed h (left_part _ d.is_inside.ensures w.if-is_inside.false) (omega arith)) ]
+    elim c.if-is_inside.branch [ then-is_inside w ↦ rw w.sum-is (added h (supplied d w.node_row-sum.ensures w.if-is_inside.true) (omega arith)) | else-is_inside w ↦ rw w.sum-is (passed h (left_part _ d.is_inside.ensures w.if-is_inside.false) (omega arith)) ]
 
 returns : tie.Need-returns invariant-loop-v decreases-loop-v
 unfolding supplies_in

@@ -31,7 +31,7 @@ returns_6 : tie.Need-returns-in_default
 unfolding active_of
 returns_6 c =
     let k = c.args.kind in
-    let r = c.in-1.in_default-own.rest in
+    let r = c.in_default.in_default-own.rest in
     let n : 2 < k = omega arith in
     rw (ne_eqb _ _ r.0.0.0.1, lt-leb _ _ n, ne_eqb _ _ r.0.0.1, ne_eqb _ _ r.0.1, ne_eqb _ _ r.1) c.combined.ensures
 

@@ -44,7 +44,7 @@ past_arcs_requires : tie.Need-past_arcs-requires
 past_arcs_requires c κs =
     let s = begin (past c) in
     let old = number_at s.args.previous.pressures in
-    (s.pre.0, flows_sized _ old _ _ s.pre.0.accepted (arcs_yes c), nodes_are (past c), machines_kept_lem _ old _ _ (arcs_yes c))
+    (s.requires.0, flows_sized _ old _ _ s.requires.0.accepted (arcs_yes c), nodes_are (past c), machines_kept_lem _ old _ _ (arcs_yes c))
 
 returns_2 : tie.Need-returns-in-Yes-arcs
 returns_2 c =

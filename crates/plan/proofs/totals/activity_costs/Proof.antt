@@ -15,7 +15,7 @@ abbrev decreases-loop-e : tie.decreases-loop-e
 decreases-loop-e case rows arcs active sum₀ e₀ sum e = arcs - e
 
 loop_holds : tie.Need-loop-e-init invariant-loop-e decreases-loop-e
-loop_holds c = begun_n (λ e l. activity_le c.requires.0 (active_of c.args.t2 e) c.args.rows.now e l) (omega (arith, (counted c.requires.0).arcs))
+loop_holds c = begun_n (λ e l. activity_le c.requires.0 (active_of c.args.active e) c.args.rows.now e l) (omega (arith, (counted c.requires.0).arcs))
 
 activity_cost_requires : tie.Need-activity_cost-sum-requires invariant-loop-e decreases-loop-e
 activity_cost_requires c κs = let s = c.before.before in (s.requires.0, omega (arith, c.loop-e-test.true, s.requires.1))

@@ -51,7 +51,7 @@ residuals p =
 slice_aggregate_pipe_residuals : tie.Need-slice_bounds-pipe_residuals-end
 slice_aggregate_pipe_residuals c =
     let s = c.before.before.before.before.before.before.before.before in
-    sym (simp length-map at s.well_formed.1.1.1.0.1.1.0.1.0.1)
+    sym s.well_formed.1.1.1.0.1.1.0.1.0.1
 
 add_t18 : tie.Need-overflow_add-result
 add_t18 c = held_fits (pressure c.before.before.before.before) tt

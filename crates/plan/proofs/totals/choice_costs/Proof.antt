@@ -22,7 +22,7 @@ loop_holds c =
     let d = direction_le c.requires.0 c.requires.2 in
     let z = state_le c.requires.0 c.requires.2 in
     let k = (counted c.requires.0).stations in
-    (omega arith, begun_n (λ s l. omega (arith, d s l (index_of c.args.t2 s), z s l (index_of c.args.t3 s))) (omega arith))
+    (omega arith, begun_n (λ s l. omega (arith, d s l (index_of c.args.directions s), z s l (index_of c.args.states s))) (omega arith))
 
 -- a station of the case, and where its rows begin
 at_station : (c : tie.After-station_at-offset invariant-loop-s decreases-loop-s) → let h = c.before.before in let l = h.args.case.now in
@@ -31,7 +31,7 @@ at_station c = let p = c.requires in (p.0, omega arith, c.station_at-offset.ensu
 
 -- what the station costs, and that it is small
 costs : (c : tie.After-state_cost-z invariant-loop-s decreases-loop-s) → let l = c.before.before.before.before in let a = l.args in
-    c.direction_cost-f.result + c.state_cost-z.result ≡ choice_cost a.case.now (index_of a.t2) (index_of a.t3) a.rows.now l.loop-s.s
+    c.direction_cost-f.result + c.state_cost-z.result ≡ choice_cost a.case.now (index_of a.directions) (index_of a.states) a.rows.now l.loop-s.s
 unfolding choice_cost
 costs c = ap₂ ◌+◌ c.direction_cost-f.ensures c.state_cost-z.ensures
 

@@ -52,7 +52,7 @@ unfolding gas_part
 returns_2 c =
     let a = c.before.before in
     let k = ap (λ (x : Arc). x.kind) a.arc-c.ensures in
-    sym (left_part _ refl (ne_eqb _ 2 (λ (e : (arc_of (now a.args.case) a.args.e).kind ≡ 2). c.if-c-eq2.false (k ∙ e))))
+    sym (left_part _ refl (ne_eqb _ 2 (λ (e : (arc_of a.args.case.now a.args.e).kind ≡ 2). c.if-c-eq2.false (k ∙ e))))
 
 pub pipe_gas_spec : {M : Type 1} → statement M
 pipe_gas_spec = tie.close (tie.spec

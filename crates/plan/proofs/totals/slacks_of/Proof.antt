@@ -35,29 +35,29 @@ loop_holds c =
     (begun (pressure_slack_le c.requires.2) (omega arith), begun (demand_slack_le c.requires.2) (omega arith))
 
 add_sum : tie.Need-overflow_add-sum invariant-loop-v decreases-loop-v
-add_sum c = let r = c.before.before in held_fits (pressure r.Node-row.ensures (small r)) tt
+add_sum c = let r = c.before.before in held_fits (pressure r.node_row-r.ensures (small r)) tt
 
 add_sum_2 : tie.Need-overflow_add-sum-in-loop-v invariant-loop-v decreases-loop-v
 unfolding pressure_slack_at
 add_sum_2 c =
     let r = c.before.before.before.before in
-    one_fits r.loop-v.invariant.0 (pressure r.Node-row.ensures (small r)).val (omega arith)
+    one_fits r.loop-v.invariant.0 (pressure r.node_row-r.ensures (small r)).val (omega arith)
 
 add_sum_3 : tie.Need-overflow_add-sum-in-loop-v-2 invariant-loop-v decreases-loop-v
-add_sum_3 c = let r = c.before.before.before.before.before.before in held_fits (demand r.Node-row.ensures (small r)) tt
+add_sum_3 c = let r = c.before.before.before.before.before.before in held_fits (demand r.node_row-r.ensures (small r)) tt
 
 add_sum_4 : tie.Need-overflow_add-sum-in-loop-v-3 invariant-loop-v decreases-loop-v
 unfolding demand_slack_at
 add_sum_4 c =
     let r = c.before.before.before.before.before.before.before.before in
-    one_fits r.loop-v.invariant.1 (demand r.Node-row.ensures (small r)).val (omega arith)
+    one_fits r.loop-v.invariant.1 (demand r.node_row-r.ensures (small r)).val (omega arith)
 
 loop_again : tie.Need-loop-v-preserved invariant-loop-v decreases-loop-v
 unfolding pressure_slack_at demand_slack_at
 loop_again c =
     let r = c.before.before.before.before.before.before.before.before in
     let h = r.loop-v.invariant in
-    let e = r.Node-row.ensures in
+    let e = r.node_row-r.ensures in
     (one_more h.0 (pressure e (small r)).val (omega arith), one_more h.1 (demand e (small r)).val (omega arith))
 
 returns : tie.Need-returns invariant-loop-v decreases-loop-v
