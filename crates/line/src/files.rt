@@ -4,6 +4,7 @@ ghost use Rattle.line.specs.law.Line.{line_of, line_bytes, count_in, line_with, 
 ghost use Rattle.line.specs.law.Files.{within_limits, files_told, files_line};
 ghost use Rattle.line.specs.inside.Put.{Put};
 
+use super::text::copy;
 use super::verdict::tell;
 use plan::judge::judge_bytes;
 
@@ -31,7 +32,7 @@ pub fn line_of(case: &[u8], plan: &[u8], line: &mut [u8]) -> usize
     if within(case, plan) {
         judged(case, plan, line)
     } else {
-        bytes::copy(b"too long\n", line)
+        copy(b"too long\n", line)
     }
 }
 

@@ -1,7 +1,7 @@
 -- The line is long enough and the files are not too long, or not; what is put at the front of the line is its overlay.
 use Rattle.line.proofs.Common.{refl, sym, ◌∙◌, arith, rules, le-leb, lt-leb}
-use Rattle.line.specs.law.Files.{too_long, files_line}
-use Rattle.line.specs.inside.Put.{put_front, put_overlay, put_counts}
+use Rattle.line.specs.law.Files.{files_line}
+use Rattle.line.specs.inside.Put.{put_overlay, put_counts}
 use Rattle.line.proofs.files.line_of.Statement.{statement}
 use Rattle.line.proofs.files.line_of.Tie as tie
 
@@ -25,7 +25,7 @@ returns_3 c =
     let e = k.before.before.before in
     let w = e.before in
     let l = w.before.if1.false in
-    let p = put_front too_long w.before.before.before.before.before.args.line.now (omega (arith, l)) k.copy.ensures.0 k.copy.ensures.1 in
+    let p = k.copy.ensures in
     let o = put_overlay p in
     rw (le-leb _ _ l, sym w.within.ensures ∙ e.if2.false) (o.0, (o.1, put_counts p))
 

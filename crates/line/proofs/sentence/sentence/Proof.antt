@@ -1,7 +1,7 @@
 -- The word, the numbers and the end of the line, one after the other.
 use Rattle.line.proofs.Common.{◌∙◌, arith, rules, length-set}
 use Rattle.line.specs.law.Line.{sentence_of}
-use Rattle.line.specs.inside.Put.{put_front, put_both, put_one}
+use Rattle.line.specs.inside.Put.{put_both, put_one}
 use Rattle.line.proofs.sentence.sentence.Statement.{statement}
 use Rattle.line.proofs.sentence.sentence.Tie as tie
 
@@ -19,9 +19,7 @@ unfolding sentence_of
 returns c =
     let v = c.before.before in
     let k = v.before.before.before.before in
-    let s = k.before.before.before.before in
-    let p = put_front s.args.word.now s.args.line.now (omega (arith, s.requires.0, s.requires.2)) k.copy.ensures.0 k.copy.ensures.1 in
-    put_both p (put_both v.values.ensures.0 (put_one _ _ 10 (slice_write_line c)))
+    put_both k.copy.ensures (put_both v.values.ensures.0 (put_one _ _ 10 (slice_write_line c)))
 
 pub sentence_spec : {M : Type 1} → statement M
 sentence_spec = tie.close (tie.spec
