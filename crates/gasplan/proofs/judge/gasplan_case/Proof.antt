@@ -8,31 +8,31 @@ use Rattle.gasplan.proofs.Common.{refl, sym, ap, subst, ◌∙◌, arith, rules,
 use Rattle.gasplan.proofs.judge.gasplan_case.Statement.{statement}
 use Rattle.gasplan.proofs.judge.gasplan_case.Tie as tie
 
-returns : tie.Need-returns
-returns c = rw (lt-leb _ _ c.if1.true) (refl, refl)
+returns : tie.Need-returns-then-out-lt6
+returns c = rw (lt-leb _ _ c.if-out-lt6.true) (refl, refl)
 
 refusal_requires : tie.Need-refusal-requires
 refusal_requires c κs =
-    let r = c.before.before in
-    let d = r.before.before in
-    let w = subst (Small limit) (case_answer _ _ d.judge_case.ensures ∙ r.a.given.1) (case_small d.before.before.args.case.now) in
-    (d.before.if1.false, omega (arith, w.0), omega (arith, w.1), omega (arith, w.2))
+    let r = c.before in
+    let d = r.before in
+    let w = subst (Small limit) (case_answer _ _ d.judge_case-a.ensures ∙ r.in-No.is) (case_small d.args.case.now) in
+    (d.if-out-lt6.false, omega (arith, w.0), omega (arith, w.1), omega (arith, w.2))
 
-returns_2 : tie.Need-returns-2
+returns_2 : tie.Need-returns-in-Yes
 returns_2 c =
-    let d = c.before.before in
-    let e = ap told (sym c.enum_told.given.1) ∙ d.judge_case.ensures in
-    rw (le-leb _ _ d.before.if1.false, sym e) (refl, refl)
+    let d = c.before in
+    let e = ap told (sym c.in-Yes.is) ∙ d.judge_case-a.ensures in
+    rw (le-leb _ _ d.if-out-lt6.false, sym e) (refl, refl)
 
-returns_3 : tie.Need-returns-3
+returns_3 : tie.Need-returns-in-No
 returns_3 c =
     let k = c.before in
-    let r = k.before.before.before in
-    let d = r.before.before in
-    let a = d.before.before.args in
-    let e = ap told (sym r.a.given.1) ∙ d.judge_case.ensures in
-    let w = subst (Small limit) (case_answer _ _ d.judge_case.ensures ∙ r.a.given.1) (case_small a.case.now) in
-    coded a.out.now d.before.if1.false e (omega (arith, w.0)) k.refusal.ensures.0 k.refusal.ensures.1
+    let r = k.before.before in
+    let d = r.before in
+    let a = d.args in
+    let e = ap told (sym r.in-No.is) ∙ d.judge_case-a.ensures in
+    let w = subst (Small limit) (case_answer _ _ d.judge_case-a.ensures ∙ r.in-No.is) (case_small a.case.now) in
+    coded a.out.now d.if-out-lt6.false e (omega (arith, w.0)) k.refusal.ensures.0 k.refusal.ensures.1
 
 pub gasplan_case_spec : {M : Type 1} → statement M
 gasplan_case_spec = tie.close (tie.spec

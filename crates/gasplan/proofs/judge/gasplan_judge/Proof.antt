@@ -5,19 +5,19 @@ use Rattle.gasplan.specs.law.Out.{code_of, out_of}
 use Rattle.gasplan.proofs.judge.gasplan_judge.Statement.{statement}
 use Rattle.gasplan.proofs.judge.gasplan_judge.Tie as tie
 
-returns : tie.Need-returns
-returns c = rw (lt-leb _ _ c.if1.true) (refl, refl)
+returns : tie.Need-returns-then-out-lt6
+returns c = rw (lt-leb _ _ c.if-out-lt6.true) (refl, refl)
 
-tell_verdict_requires : tie.Need-tell-verdict-requires
+tell_verdict_requires : tie.Need-tell_verdict-requires
 tell_verdict_requires c κs =
-    let a = c.before.before.before.args in
-    (c.before.before.if1.false, judge_fits a.case.now a.plan.now c.judge.result c.judge.ensures)
+    let a = c.args in
+    (c.if-out-lt6.false, judge_fits a.case.now a.plan.now c.judge.result c.judge.ensures)
 
-returns_2 : tie.Need-returns-2
+returns_2 : tie.Need-returns
 returns_2 c =
     let k = c.before in
-    let out = k.before.before.before.before.args.out.now in
-    let e = k.before.judge.ensures in
+    let out = k.args.out.now in
+    let e = k.judge.ensures in
     (kept _ k.tell_verdict.type_inv ∙ k.tell_verdict.ensures.0 ∙ ap (code_of out) e, k.tell_verdict.ensures.1 ∙ ap (out_of out) e)
 
 pub gasplan_judge_spec : {M : Type 1} → statement M

@@ -5,27 +5,27 @@ use Rattle.gasplan.specs.law.Out.{code_of, out_of}
 use Rattle.gasplan.proofs.judge.gasplan_judge_bytes.Statement.{statement}
 use Rattle.gasplan.proofs.judge.gasplan_judge_bytes.Tie as tie
 
-returns : tie.Need-returns
-returns c = rw (lt-leb _ _ c.if1.true) (refl, (refl, (refl, refl)))
+returns : tie.Need-returns-then-out-lt6
+returns c = rw (lt-leb _ _ c.if-out-lt6.true) (refl, (refl, (refl, refl)))
 
-tell_verdict_requires : tie.Need-tell-verdict-requires
+tell_verdict_requires : tie.Need-tell_verdict-requires
 tell_verdict_requires c κs =
     let j = c.before.before in
     let d = j.before.before.before.before in
-    let a = d.before.before.before.args in
+    let a = d.args in
     let f = bytes_fit a.casebytes.now a.planbytes.now a.caselist.now a.planlist.now (omega arith) (omega arith) in
-    (d.if1.false, f j.judge_bytes.result j.judge_bytes.ensures.0)
+    (d.if-out-lt6.false, f j.judge_bytes.result j.judge_bytes.ensures.0)
 
-returns_2 : tie.Need-returns-2
+returns_2 : tie.Need-returns
 returns_2 c =
     let k = c.before in
     let j = k.before.before.before in
     let d = j.before.before.before.before in
-    let out = d.before.before.before.args.out.now in
+    let out = d.args.out.now in
     let e = j.judge_bytes.ensures.0 in
     let t = k.tell_verdict in
     let lists = j.judge_bytes.ensures.1 in
-    let long = le-leb _ _ d.if1.false in
+    let long = le-leb _ _ d.if-out-lt6.false in
     (kept t.result t.type_inv ∙ t.ensures.0 ∙ ap (code_of out) e, (t.ensures.1 ∙ ap (out_of out) e, (rw long lists.0, rw long lists.1)))
 
 pub gasplan_judge_bytes_spec : {M : Type 1} → statement M

@@ -7,26 +7,26 @@ use Rattle.line.proofs.Written.{longer}
 use Rattle.line.proofs.decimal.width.Statement.{statement}
 use Rattle.line.proofs.decimal.width.Tie as tie
 
-abbrev invariant-loop : tie.invariant-loop
-invariant-loop n count₀ rest₀ count rest = count + length (decimal rest) ≡ length (decimal n) + 1
+abbrev invariant-loop-rest : tie.invariant-loop-rest
+invariant-loop-rest n count₀ rest₀ count rest = count + length (decimal rest) ≡ length (decimal n) + 1
 
-abbrev decreases-loop : tie.decreases-loop
-decreases-loop n count₀ rest₀ count rest = rest
+abbrev decreases-loop-rest : tie.decreases-loop-rest
+decreases-loop-rest n count₀ rest₀ count rest = rest
 
-loop_holds : tie.Need-loop-init invariant-loop decreases-loop
+loop_holds : tie.Need-loop-rest-init invariant-loop-rest decreases-loop-rest
 loop_holds c = omega arith
 
-add_count : tie.Need-overflow-add-count invariant-loop decreases-loop
+add_count : tie.Need-overflow_add-count invariant-loop-rest decreases-loop-rest
 add_count c =
-    let n = c.before.before.args.n in
+    let n = c.args.n in
     let small : n < 2 ^ 64 = search rules in
-    omega (arith, c.before.loop.invariant, few_digits n 19 (omega arith))
+    omega (arith, c.loop-rest.invariant, few_digits n 19 (omega arith))
 
-loop_again : tie.Need-loop-preserved invariant-loop decreases-loop
-loop_again c = omega (arith, c.before.loop.invariant, longer c.before.loop.rest c.loop-test.true)
+loop_again : tie.Need-loop-rest-preserved invariant-loop-rest decreases-loop-rest
+loop_again c = omega (arith, c.loop-rest.invariant, longer c.loop-rest.rest c.loop-rest-test.true)
 
-returns : tie.Need-returns invariant-loop decreases-loop
-returns c = omega (arith, c.before.loop.invariant, ap length (one_digit c.before.loop.rest c.loop-test.false))
+returns : tie.Need-returns invariant-loop-rest decreases-loop-rest
+returns c = omega (arith, c.loop-rest.invariant, ap length (one_digit c.loop-rest.rest c.loop-rest-test.false))
 
 pub width_spec : {M : Type 1} → statement M
-width_spec = tie.close (tie.spec invariant-loop decreases-loop loop_holds add_count (λ c. omega arith) loop_again returns)
+width_spec = tie.close (tie.spec invariant-loop-rest decreases-loop-rest loop_holds add_count (λ c. omega arith) loop_again returns)

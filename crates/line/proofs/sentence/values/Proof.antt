@@ -5,33 +5,33 @@ use Rattle.line.proofs.Spaced.{Spacing, spacing, space_room, space_turn, space_e
 use Rattle.line.proofs.sentence.values.Statement.{statement}
 use Rattle.line.proofs.sentence.values.Tie as tie
 
-abbrev invariant-loop : tie.invariant-loop
-invariant-loop list line₀ start at₀ i₀ line at i = Spacing list line₀ start line at i
+abbrev invariant-loop-i : tie.invariant-loop-i
+invariant-loop-i list line₀ start at₀ i₀ line at i = Spacing list line₀ start line at i
 
-abbrev decreases-loop : tie.decreases-loop
-decreases-loop list line₀ start at₀ i₀ line at i = length list - i
+abbrev decreases-loop-i : tie.decreases-loop-i
+decreases-loop-i list line₀ start at₀ i₀ line at i = length list - i
 
-loop_holds : tie.Need-loop-init invariant-loop decreases-loop
-loop_holds c = spacing _ _ _ c.before.requires
+loop_holds : tie.Need-loop-i-init invariant-loop-i decreases-loop-i
+loop_holds c = spacing _ _ _ c.requires
 
-room : (c : tie.In-loop invariant-loop decreases-loop) → c.before.loop.at + 21 ≤ length c.before.loop.line
-room c = space_room c.before.loop.invariant c.loop-test.true c.before.before.before.requires
+room : (c : tie.In-loop-i invariant-loop-i decreases-loop-i) → c.loop-i.at + 21 ≤ length c.loop-i.line
+room c = space_room c.loop-i.invariant c.loop-i-test.true c.requires
 
-loop_again : tie.Need-loop-preserved invariant-loop decreases-loop
+loop_again : tie.Need-loop-i-preserved invariant-loop-i decreases-loop-i
 loop_again c =
     let n = c.before.before in
     let a = n.before.before in
     let l = a.before in
-    let f = element l.before.before.before.args.list.now l.before.loop.i a.number_arg.given in
-    space_turn l.before.loop.invariant l.loop-test.true (simp (to_z-of_z f) at n.number.ensures.0) n.number.ensures.1
+    let f = element l.args.list.now l.loop-i.i a.number-arg-1.given in
+    space_turn l.loop-i.invariant l.loop-i-test.true (simp (to_z-of_z f) at n.number-at.ensures.0) n.number-at.ensures.1
 
-returns : tie.Need-returns invariant-loop decreases-loop
+returns : tie.Need-returns invariant-loop-i decreases-loop-i
 returns c =
-    let l = c.before.loop.invariant in
-    (space_end l c.loop-test.false, omega (arith, l.near, l.upto))
+    let l = c.loop-i.invariant in
+    (space_end l c.loop-i-test.false, omega (arith, l.near, l.upto))
 
 pub values_spec : {M : Type 1} → statement M
 values_spec = tie.close (tie.spec
-    invariant-loop decreases-loop loop_holds (λ c. omega (arith, room c)) (λ c. search rules) (λ c. search rules) (λ c. omega (arith, room c.before.before))
+    invariant-loop-i decreases-loop-i loop_holds (λ c. omega (arith, room c)) (λ c. search rules) (λ c. search rules) (λ c. omega (arith, room c.before.before))
     (λ c κs. simp length-set (omega (arith, room c.before.before))) (λ c. omega arith) (λ c. omega arith) loop_again
-    (λ c. c.before.loop.invariant.whole) returns)
+    (λ c. c.loop-i.invariant.whole) returns)

@@ -8,7 +8,7 @@ returns : tie.Need-returns
 returns c =
     let k = c.before.before in
     let t = k.before.before.before.before in
-    let g = t.struct_told.given in
+    let g = t.struct_told-1.given in
     let s = t.before.before.before.before in
     let q = s.args.t in
     let pressure = kept q.pressure g.0.1 in
@@ -19,5 +19,5 @@ returns c =
 
 pub accepted_spec : {M : Type 1} → statement M
 accepted_spec = tie.close (tie.spec
-    (λ c. search rules) (λ c. search rules) (λ c. search rules) (λ c. search rules) (λ c κs. search rules)
+    (λ c. search rules) (λ c. search rules) (λ c. search rules) (λ c κs. search rules)
     (λ c. search rules) returns)

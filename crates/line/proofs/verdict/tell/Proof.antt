@@ -14,28 +14,28 @@ of {old} {new} {next} e p = subst (λ (u : Verdict). Put old new 0 (line_of (ver
 
 accepted_requires : tie.Need-accepted-requires
 accepted_requires c κs =
-    let v = c.before.before in
-    let s = v.before.before.before in
-    (s.requires.0, subst (Fit (2 ^ 63)) v.verdict.given.1 s.requires.1)
+    let v = c.before in
+    let s = v.before.before in
+    (s.requires.0, subst (Fit (2 ^ 63)) v.in-Accepted.is s.requires.1)
 
 refused_requires : tie.Need-refused-requires
 refused_requires c κs =
-    let v = c.before.before in
-    let s = v.before.before.before in
-    let e = v.verdict2.given.1 in
+    let v = c.before in
+    let s = v.before.before in
+    let e = v.in-Refused.is in
     (s.requires.0, subst (Fit (2 ^ 63)) e s.requires.1)
 
-returns : tie.Need-returns
+returns : tie.Need-returns-in-Accepted
 returns c =
     let k = c.before.before in
-    let v = k.before.before.before in
-    of v.verdict.given.1 k.accepted.ensures
+    let v = k.before.before in
+    of v.in-Accepted.is k.accepted.ensures
 
-returns_2 : tie.Need-returns-2
+returns_2 : tie.Need-returns-in-Refused
 returns_2 c =
     let k = c.before.before in
-    let v = k.before.before.before in
-    of v.verdict2.given.1 k.refused.ensures
+    let v = k.before.before in
+    of v.in-Refused.is k.refused.ensures
 
 pub tell_spec : {M : Type 1} → statement M
 tell_spec = tie.close (tie.spec
