@@ -1,7 +1,6 @@
 -- A loop that adds up f 0 .. f (n - 1), none above x in size, keeps the sum so far and its bound; one turn adds a part, and so the sum always fits.
 use Rattle.plan.proofs.Common.{◌≡◌, refl, sym, ap, ◌∙◌, Bool, true, false, ℕ, ◌+◌, ◌*◌, ◌^◌, ◌<◌, ◌≤◌, arith, ℤ, pos, nat_abs, ◌+ℤ◌, w64}
 use native.Mathlib.Nat.{mul-le-mul_right}
-use lib.IntN.{+ℤ_idr}
 use native.Mathlib.Numerals.{add-one}
 use lib.Signed.{mag}
 use mir.Val.{SFits, Fits, to_z, of_z}
@@ -27,22 +26,22 @@ pub start : {f : ℕ → ℤ} {x n : ℕ} → Adding (pos 0) f x n 0
 unfolding sum
 start = record { at = omega arith; is = refl; small = omega arith }
 
--- `y` is what is read of the sum so far: that itself, or its bits read back from a field
 module _ {r : ℤ} {f : ℕ → ℤ} {x n i : ℕ} (h : Adding r f x n i) where
-  pub so_far : Held r (sum i f) (i * x)
-  so_far = record { val = h.is; bound = h.small }
-
-  next : {y q : ℤ} → Held y (sum i f) (i * x) → Held q (f i) x → Held (y +ℤ q) (sum (i + 1) f) (i * x + x)
-  next s k = renamed (sym (sum_more f i)) (s +ʳ k)
-
-  pub fits : {y q : ℤ} → Held y (sum i f) (i * x) → Held q (f i) x → i < n → n * x < 2 ^ 63 → SFits w64 (y +ℤ q)
-  fits s k p room = let m = more_room i n x p in held_fits< (next s k) (omega arith)
-
-  pub turn : {y q : ℤ} → Held y (sum i f) (i * x) → Held q (f i) x → i < n → n * x < 2 ^ 63 → Adding (to_z w64 (of_z w64 (y +ℤ q))) f x n (i + 1)
-  turn s k p room =
+  -- the loop's local, and what it holds with one more
+  next : {q : ℤ} → Held q (f i) x → i < n → n * x < 2 ^ 63 → Held (to_z w64 (of_z w64 r) +ℤ q) (sum (i + 1) f) (i * x + x)
+  next k p room =
       let m = more_room i n x p in
-      let t = held< (next s k) (omega arith) in
-      record { at = omega arith; is = t.val; small = omega (arith, t.bound) }
+      let s : Held r (sum i f) (i * x) = record { val = h.is; bound = h.small } in
+      renamed (sym (sum_more f i)) (held< s (omega arith) +ʳ k)
+
+  pub fits : {q : ℤ} → Held q (f i) x → i < n → n * x < 2 ^ 63 → SFits w64 (to_z w64 (of_z w64 r) +ℤ q)
+  fits k p room = let m = more_room i n x p in held_fits< (next k p room) (omega arith)
+
+  pub turn : {q v : ℤ} → v ≡ to_z w64 (of_z w64 (to_z w64 (of_z w64 r) +ℤ q)) → Held q (f i) x → i < n → n * x < 2 ^ 63 → Adding v f x n (i + 1)
+  turn e k p room =
+      let m = more_room i n x p in
+      let s = held< (next k p room) (omega arith) in
+      record { at = omega arith; is = e ∙ s.val; small = omega (arith, s.bound) }
 
   pub end : n ≤ i → r ≡ sum n f
   end p = let e : i ≡ n = omega arith in h.is ∙ ap (λ (j : ℕ). sum j f) e
@@ -64,31 +63,11 @@ module _ {r : ℤ} {f : ℕ → ℤ} {x n i : ℕ} (h : Summing r f x n i) where
   part : {p : ℤ} → p ≡ f i → i < n → Held (to_z w64 (of_z w64 p)) (f i) x
   part e l = let m = more_room i n x l in held< (record { val = e; bound = h.each i l }) (omega (arith, h.room))
 
-  back : i < n → Held (to_z w64 (of_z w64 r)) (sum i f) (i * x)
-  back l = let m = more_room i n x l in held< (so_far h.adding) (omega (arith, h.room))
-
   pub one_fits : {p : ℤ} → p ≡ f i → i < n → SFits w64 (to_z w64 (of_z w64 r) +ℤ to_z w64 (of_z w64 p))
-  one_fits e l = fits h.adding (back l) (part e l) l h.room
+  one_fits e l = fits h.adding (part e l) l h.room
 
   pub one_more : {p : ℤ} → p ≡ f i → i < n → Summing (to_z w64 (of_z w64 (to_z w64 (of_z w64 r) +ℤ to_z w64 (of_z w64 p)))) f x n (i + 1)
-  one_more e l = record { each = h.each; room = h.room; adding = turn h.adding (back l) (part e l) l h.room }
-
-  -- the same where the sum is a local of its own, which a part that counts for nothing leaves as it is
-  pub part_fits : {p : ℤ} → p ≡ f i → i < n → SFits w64 p
-  part_fits e l = let m = more_room i n x l in held_fits< (record { val = e; bound = h.each i l }) (omega (arith, h.room))
-
-  pub added_fits : {p : ℤ} → p ≡ f i → i < n → SFits w64 (r +ℤ to_z w64 (of_z w64 p))
-  added_fits e l = fits h.adding (so_far h.adding) (part e l) l h.room
-
-  pub added : {p : ℤ} → p ≡ f i → i < n → Summing (to_z w64 (of_z w64 (r +ℤ to_z w64 (of_z w64 p)))) f x n (i + 1)
-  added e l = record { each = h.each; room = h.room; adding = turn h.adding (so_far h.adding) (part e l) l h.room }
-
-  pub passed : f i ≡ pos 0 → i < n → Summing r f x n (i + 1)
-  passed e l =
-      let m = more_room i n x l in
-      let g = h.adding in
-      let z : sum (i + 1) f ≡ sum i f = sum_more f i ∙ ap (λ (y : ℤ). sum i f +ℤ y) e ∙ +ℤ_idr _ in
-      record { each = h.each; room = h.room; adding = record { at = omega arith; is = g.is ∙ sym z; small = rw z (omega (arith, g.small)) } }
+  one_more e l = record { each = h.each; room = h.room; adding = turn h.adding refl (part e l) l h.room }
 
   pub total : n ≤ i → r ≡ sum n f
   total l = end h.adding l
@@ -140,13 +119,6 @@ module _ {r : ℕ} {f : ℕ → ℕ} {x n i : ℕ} (h : Tallying r f x n i) wher
 
   pub one_more_n : {p : ℕ} → p ≡ f i → i < n → Tallying (r + p) f x n (i + 1)
   one_more_n e l = record { each = h.each; room = h.room; counting = turn_n h.counting e (omega (arith, h.each i l)) l }
-
-  pub passed_n : f i ≡ 0 → i < n → Tallying r f x n (i + 1)
-  passed_n e l =
-      let g = h.counting in
-      let m = more_room i n x l in
-      let z = sum_n_more f i in
-      record { each = h.each; room = h.room; counting = record { at = omega arith; is = omega (arith, g.is); small = omega (arith, g.small) } }
 
   pub whole_n : n ≤ i → r ≡ sum_n n f
   whole_n l = end_n h.counting l

@@ -1,19 +1,18 @@
 -- What an artificial arc puts to a node, and 30 to 32 of one station by the answers to each.
-use Rattle.plan.proofs.Common.{◌≡◌, refl, ap, ap₂, ◌∙◌, Bool, true, false, ℕ, ◌+◌, ◌<◌, ◌≤◌, arith, le-leb, lt-leb, leb, eqb, ℤ, pos, nat_abs, ◌-ℤ◌}
+use Rattle.plan.proofs.Common.{◌≡◌, ap, ap₂, ◌∙◌, Bool, true, false, ℕ, ◌+◌, ◌<◌, ◌≤◌, arith, le-leb, lt-leb, leb, eqb, ℤ, pos, nat_abs, ◌-ℤ◌}
 use mathlib.Core.List.{List}
-use Prim.Native.Nat.{zero, suc}
 use Rattle.numbers.specs.law.Question.{answer, or_else, first_no}
 use Rattle.numbers.specs.declared.answer.Answer.{Answer}
 use Rattle.numbers.specs.law.Sums.{only}
 use Rattle.numbers.specs.inside.SumLaws.{abs_only_le}
 use Rattle.case.specs.law.Layout.{nodes_of, arcs_of, stations_of}
 use Rattle.case.specs.law.Records.{arc_of, direction_of}
-use Rattle.case.specs.law.StationArcs.{every}
-use Rattle.case.specs.law.StationNodes.{station_nodes, plain_nodes, fence_node}
+use Rattle.case.specs.inside.InSet.{in_both}
+use Rattle.case.specs.law.StationNodes.{station_nodes, plain_nodes}
 use Rattle.case.specs.declared.records.Direction.{Direction}
 use Rattle.plan.specs.law.PlanRecords.{arc_row}
 use Rattle.plan.specs.law.StationRules.{fence_node_kept, fence_kept, choice_kept, machines_once, fence_flows_kept, station_questions}
-use Rattle.plan.specs.inside.StationPass.{artificial_part, fences_kept, FlowsPassed}
+use Rattle.plan.specs.inside.StationPass.{artificial_part, artificial_flow}
 use Rattle.plan.specs.inside.Sizes.{FlowsSized}
 use Rattle.plan.specs.inside.Preconditions.{AcceptedCase}
 use Rattle.plan.proofs.Questions.{two_asked}
@@ -37,24 +36,13 @@ module _ (case rows : List ℤ) (e i : ℕ) where
       let d = difference (z.each e p).a (z.each e p).b in
       abs_only_le (leb 3 (arc_of case e).kind) _ (put_sized (eqb (arc_of case e).from i) (eqb (arc_of case e).to i) d d)
 
--- ---- 32 of every node
+-- ---- 32 of one node
 
-every_same : (n : ℕ) (f g : ℕ → Bool) → ((i : ℕ) → i < n → f i ≡ g i) → every n f ≡ every n g
-every_same zero f g h = refl
-every_same (suc n) f g h =
-    let e = every_same n f g (λ i p. h i (omega arith)) in
-    let d = h n (omega arith) in
-    rw (e, d)
-
-pub fences_passed : {case : List ℤ} → AcceptedCase case → (rows : List ℤ) (s f : ℕ) {chosen : Direction} {inside plain : ℤ} {net : List ℤ} {n : ℕ} {r : Bool}
-    → s < stations_of case → FlowsPassed case rows net
-    → chosen ≡ direction_of case s f → inside ≡ station_nodes case s → plain ≡ plain_nodes case → n ≡ nodes_of case
-    → r ≡ fences_kept chosen inside plain net n → r ≡ every (nodes_of case) (fence_kept case rows s f)
-unfolding fences_kept
-fences_passed {case} a rows s f m h p q r t e =
-    rw (p, q, r, t) at e
-    ∙ every_same (nodes_of case) _ _ (λ v l. ap (fence_node_kept (fence_node case s) (direction_of case s f) v) (h.holds.each v l)
-    ∙ fence_passed a v l rows s m (direction_of case s f))
+pub fence_node : {case : List ℤ} → AcceptedCase case → (rows : List ℤ) (s f v : ℕ) {chosen : Direction} {inside plain flow : ℤ} {r : Bool}
+    → v < nodes_of case → s < stations_of case
+    → chosen ≡ direction_of case s f → inside ≡ station_nodes case s → plain ≡ plain_nodes case → flow ≡ artificial_flow case rows v
+    → r ≡ fence_node_kept (in_both inside plain) chosen v flow → r ≡ fence_kept case rows s f v
+fence_node {case} a rows s f v l m p q r t e = rw (p, q, r, t) at e ∙ fence_passed a v l rows s m (direction_of case s f)
 
 -- ---- 30 to 32 of one station
 

@@ -3,7 +3,6 @@ pub mod StationPass
 pub mod StepAnswer
 pub mod SumSizes
 pub mod Sizes
-pub mod MachineSums
 pub mod Preconditions
 pub mod SettingLaws
 pub mod Unmoved

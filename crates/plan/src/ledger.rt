@@ -20,8 +20,7 @@ ghost use Rattle.plan.specs.law.Ledger.{lowest_of, names_nodes, foreign_node, ti
 use super::figures::{Figures, Ledger};
 use super::judge::judge;
 use super::previous::{row_pressures, start_pressures};
-use super::region::{Gathered, inner_pipes, with_step};
-use super::steps::{part_of, step_width};
+use super::region::{Gathered, inner_pipes, region_gas, with_step};
 use super::verdict::Verdict;
 use case::extents::{NODES, SET_ROOM};
 use numbers::answer::{Answer, ask};
@@ -126,25 +125,27 @@ fn pressures_at(case: &[i64], plan: &[i64], nodes: usize, width: usize, time: us
     if time == 0 {
         return start_pressures(case, nodes);
     }
-    row_pressures(part_of(plan, time - 1, width), nodes)
+    let offset = 2 + (time - 1) * width;
+    let rows = &plan[offset..offset + width];
+    let none = [0i64; NODES];
+    row_pressures(none, rows, nodes)
 }
 
-// One pass over the steps s+1 to t, which have the indices s to t-1; `opening` are the pressures at s.
+// One pass over the steps s+1 to t, which have the indices s to t-1.
 fn gather(
     case: &[i64],
     plan: &[i64],
     inside: &[bool],
-    opening: [i64; NODES],
     nodes: usize,
     arcs: usize,
     width: usize,
     s: usize,
     t: usize,
 ) -> Gathered
-    requires { (RegionTimes case.now plan.now nodes arcs width s t) ×
-        (Holds (pos 0) opening (pressure_at case.now plan.now s) (nodes_of case.now)) }
+    requires { RegionTimes case.now plan.now nodes arcs width s t }
     ensures { Gathering case.now plan.now (inside_of inside.now) s t result }
 {
+    let opening = pressures_at(case, plan, nodes, width, s);
     let mut g = Gathered {
         pressures: opening,
         brought: 0,
@@ -152,7 +153,9 @@ fn gather(
     };
     let mut i = s;
     while i < t {
-        g = with_step(g, case, inside, part_of(plan, i, width), nodes, arcs, i);
+        let offset = 2 + i * width;
+        let rows = &plan[offset..offset + width];
+        g = with_step(g, case, inside, rows, nodes, arcs, i);
         i += 1;
     }
     g
@@ -173,41 +176,38 @@ fn figures(
     requires { (RegionTimes case.now plan.now nodes arcs width s t) × (size ≡ count (nodes_of case.now) (inside_of inside.now)) }
     ensures { result ≡ figures_of case.now plan.now (inside_of inside.now) s t }
 {
-    let opening = pressures_at(case, plan, nodes, width, s);
-    let g = gather(case, plan, inside, opening, nodes, arcs, width, s, t);
-    let closing = g.pressures;
-    let inner = inner_pipes(case, inside, &opening, &closing, arcs);
+    let old = pressures_at(case, plan, nodes, width, s);
+    let opening = region_gas(case, inside, &old, arcs);
+    let g = gather(case, plan, inside, nodes, arcs, width, s, t);
+    let last = g.pressures;
+    let closing = region_gas(case, inside, &last, arcs);
     Figures {
         nodes: size,
-        pipes: inner.pipes,
-        opening: inner.opening,
-        closing: inner.closing,
+        pipes: inner_pipes(case, inside, arcs),
+        opening: opening,
+        closing: closing,
         brought: g.brought,
         residual: g.residual,
     }
 }
 
-// The same of a set that names nodes alone, from time s to time t. From here on it is an array.
-fn set_figures(case: &[i64], plan: &[i64], set: i64, s: i64, t: i64) -> Figures
-    requires { (PlanRules case.now plan.now) × (names_nodes case.now set ≡ true) × (times_ordered case.now s t ≡ true) }
-    ensures { result ≡ figures_for case.now plan.now set s t }
+// The same of a set that names nodes alone. From here on it is an array.
+fn set_figures(
+    case: &[i64],
+    plan: &[i64],
+    set: i64,
+    nodes: usize,
+    arcs: usize,
+    width: usize,
+    s: usize,
+    t: usize,
+) -> Figures
+    requires { (RegionTimes case.now plan.now nodes arcs width s t) × (names_nodes case.now set ≡ true) }
+    ensures { result ≡ figures_of case.now plan.now (member_of set) s t }
 {
-    let nodes = index(at(case, 1));
-    let arcs = index(at(case, 2));
-    let width = step_width(nodes, arcs, index(at(case, 3)));
     let inside = members(set, nodes);
     let size = count(set);
-    figures(
-        case,
-        plan,
-        &inside,
-        size,
-        nodes,
-        arcs,
-        width,
-        index(s),
-        index(t),
-    )
+    figures(case, plan, &inside, size, nodes, arcs, width, s, t)
 }
 
 // The figures of an accepted plan, or the refusal by 40 or 41.
@@ -218,7 +218,14 @@ fn region_ledger(case: &[i64], plan: &[i64], set: i64, s: i64, t: i64) -> Ledger
 {
     let a = region_answer(case, set, s, t);
     match a {
-        Answer::Yes => Ledger::Given(set_figures(case, plan, set, s, t)),
+        Answer::Yes => {
+            let nodes = index(at(case, 1));
+            let arcs = index(at(case, 2));
+            let width = nodes * 6 + arcs * 4 + index(at(case, 3)) * 2;
+            let first = index(s);
+            let last = index(t);
+            Ledger::Given(set_figures(case, plan, set, nodes, arcs, width, first, last))
+        }
         Answer::No {
             number,
             step,

@@ -12,7 +12,7 @@ ghost use Rattle.plan.specs.inside.Sizes.{MachinesSized};
 ghost use Rattle.plan.specs.inside.Preconditions.{AcceptedCase, AtArc, Compresses};
 
 use super::accepted::{arc, artificial, node};
-use super::machines::machine_sum;
+use super::machines::{machine_flow, machine_gain};
 use super::rows::{arc_row, pressure};
 use super::setting::{Mode, Setting, Way, setting_of};
 use case::records::{Artificial, Node};
@@ -45,7 +45,7 @@ fn within_reach(case: &[i64], rows: &[i64], offset: usize, e: usize, u: usize, w
 {
     let p_in = pressure(rows, u);
     let p_out = pressure(rows, w);
-    let ratio = 1000 + machine_sum(case, offset, arc_row(case, rows, e).machines, true);
+    let ratio = 1000 + machine_gain(case, offset, arc_row(case, rows, e).machines);
     at_most(1000 * p_out, p_in * ratio)
 }
 
@@ -147,7 +147,7 @@ fn machines_carry(case: &[i64], rows: &[i64], offset: usize, e: usize, flow: i64
 {
     let machines = arc_row(case, rows, e).machines;
     if count(machines) <= artificial(case, e).most {
-        at_most(flow, machine_sum(case, offset, machines, false))
+        at_most(flow, machine_flow(case, offset, machines))
     } else {
         false
     }

@@ -1,17 +1,20 @@
 // A region is a set of nodes: its inner pipes, its edge, and what one step brings in and leaves over.
-ghost use Rattle.std.specs.Prelude.{◌≡◌, ◌<◌, ◌≤◌};
+ghost use Rattle.std.specs.Prelude.{◌≡◌, ◌+◌, ◌<◌, ◌≤◌};
 ghost use Rattle.numbers.specs.inside.SignedBounds.{Bounded};
+ghost use Rattle.numbers.specs.law.Sums.{only_n};
 ghost use Rattle.case.specs.law.Extents.{node_capacity};
+ghost use Rattle.plan.specs.inside.SumSizes.{most_residual};
 ghost use Rattle.case.specs.law.Layout.{number_at, nodes_of, arcs_of};
 ghost use Rattle.plan.specs.inside.Sizes.{NodesSized};
-ghost use Rattle.plan.specs.inside.Preconditions.{AcceptedCase};
-ghost use Rattle.plan.specs.law.Region.{inward, inner_pipe, edge_flow, edge_flows, supplies_in, brought_in};
-ghost use Rattle.plan.specs.law.RegionResidual.{own_nodes, own_pipes};
+ghost use Rattle.plan.specs.inside.Preconditions.{AcceptedCase, AtBalance};
+ghost use Rattle.plan.specs.law.Region.{inward, inner_pipe, inner_pipes, inner_gas, region_gas, edge_flow, edge_flows, region_supply, supplies_in, brought_in};
+ghost use Rattle.plan.specs.law.RegionResidual.{own_node, own_nodes, own_pipe, own_pipes};
 ghost use Rattle.plan.specs.inside.RegionSet.{inside_of};
-ghost use Rattle.plan.specs.inside.RegionPreconditions.{RegionPressures, RegionFlows, RegionRows, RegionStep, RegionRoom, RegionAdded, InnerPipes};
+ghost use Rattle.plan.specs.inside.RegionPreconditions.{RegionPressures, RegionFlows, RegionStep, RegionRoom, RegionAdded};
 
 use super::accepted::arc;
 use super::balance::{end_flows, net_flows, node_residual};
+use super::machines::Sum;
 use super::pipes::{duration, pipe_residual};
 use super::previous::row_pressures;
 use super::rows::node_row;
@@ -26,7 +29,7 @@ fn is_inside(inside: &[bool], v: usize) -> bool
 }
 
 // Is the arc a pipe with both ends in the region?
-fn inner_pipe(case: &[i64], inside: &[bool], e: usize) -> bool
+pub(crate) fn inner_pipe(case: &[i64], inside: &[bool], e: usize) -> bool
     requires { (AcceptedCase case.now) × (e < arcs_of case.now) }
     ensures { result ≡ inner_pipe case.now (inside_of inside.now) e }
 {
@@ -39,41 +42,48 @@ fn inner_pipe(case: &[i64], inside: &[bool], e: usize) -> bool
     false
 }
 
-// The inner pipes: how many they are, and their gas before and after.
-#[derive(Clone, Copy)]
-pub struct Inner {
-    pub pipes: usize,
-    pub opening: i64,
-    pub closing: i64,
+fn one_if(yes: bool) -> usize
+    ensures { result ≡ only_n yes 1 }
+{
+    if yes { 1 } else { 0 }
 }
 
-pub(crate) fn inner_pipes(
-    case: &[i64],
-    inside: &[bool],
-    old: &[i64],
-    new: &[i64],
-    arcs: usize,
-) -> Inner
-    requires { (RegionPressures case.now old.now) × (RegionPressures case.now new.now) × (arcs ≡ arcs_of case.now) }
-    ensures { InnerPipes case.now (inside_of inside.now) old.now new.now result }
+pub(crate) fn inner_pipes(case: &[i64], inside: &[bool], arcs: usize) -> usize
+    requires { (AcceptedCase case.now) × (arcs ≡ arcs_of case.now) }
+    ensures { result ≡ inner_pipes case.now (inside_of inside.now) }
 {
-    let mut pipes: usize = 0;
-    let mut opening: i64 = 0;
-    let mut closing: i64 = 0;
+    let mut n: usize = 0;
     let mut e: usize = 0;
     while e < arcs {
-        if inner_pipe(case, inside, e) {
-            pipes += 1;
-            opening += pipe_gas(case, old, e);
-            closing += pipe_gas(case, new, e);
-        }
+        n += one_if(inner_pipe(case, inside, e));
         e += 1;
     }
-    Inner {
-        pipes: pipes,
-        opening: opening,
-        closing: closing,
+    n
+}
+
+// An inner pipe's gas. That of a pipe of the edge is not counted.
+fn inner_gas(case: &[i64], inside: &[bool], pressures: &[i64], e: usize) -> i64
+    requires { (RegionPressures case.now pressures.now) × (e < arcs_of case.now) }
+    ensures { result ≡ inner_gas case.now (inside_of inside.now) (number_at pressures.now) e }
+{
+    if inner_pipe(case, inside, e) {
+        pipe_gas(case, pressures, e)
+    } else {
+        0
     }
+}
+
+pub(crate) fn region_gas(case: &[i64], inside: &[bool], pressures: &[i64], arcs: usize) -> i64
+    requires { (RegionPressures case.now pressures.now) × (arcs ≡ arcs_of case.now) }
+    ensures { result ≡ region_gas case.now (inside_of inside.now) (number_at pressures.now) }
+{
+    let mut sum = Sum { value: 0 };
+    let mut e: usize = 0;
+    while e < arcs {
+        sum.value = sum.value + inner_gas(case, inside, pressures, e);
+        e += 1;
+    }
+    sum.value
 }
 
 // What flows in through an arc, by whether it begins and ends inside.
@@ -103,40 +113,50 @@ fn edge_flows(case: &[i64], inside: &[bool], rows: &[i64], arcs: usize) -> i64
     requires { (RegionFlows case.now rows.now) × (arcs ≡ arcs_of case.now) }
     ensures { result ≡ edge_flows case.now (inside_of inside.now) rows.now }
 {
-    let mut sum: i64 = 0;
+    let mut sum = Sum { value: 0 };
     let mut e: usize = 0;
     while e < arcs {
-        sum += edge_flow(case, inside, rows, e);
+        sum.value = sum.value + edge_flow(case, inside, rows, e);
         e += 1;
     }
-    sum
+    sum.value
 }
 
-// d at the nodes inside.
+// d at a node, if it is inside.
+fn supply(inside: &[bool], rows: &[i64], v: usize) -> i64
+    requires { v < node_capacity }
+    ensures { result ≡ region_supply (inside_of inside.now) rows.now v }
+{
+    if is_inside(inside, v) {
+        node_row(rows, v).d
+    } else {
+        0
+    }
+}
+
 fn supplies(case: &[i64], inside: &[bool], rows: &[i64], nodes: usize) -> i64
     requires { (nodes ≡ nodes_of case.now) × (nodes ≤ node_capacity) × (NodesSized case.now rows.now) }
     ensures { result ≡ supplies_in case.now (inside_of inside.now) rows.now }
 {
-    let mut sum: i64 = 0;
+    let mut sum = Sum { value: 0 };
     let mut v: usize = 0;
     while v < nodes {
-        if is_inside(inside, v) {
-            sum += node_row(rows, v).d;
-        }
+        sum.value = sum.value + supply(inside, rows, v);
         v += 1;
     }
-    sum
+    sum.value
 }
 
 fn brought_in(
     case: &[i64],
     inside: &[bool],
+    old: &[i64],
     rows: &[i64],
     nodes: usize,
     arcs: usize,
     i: usize,
 ) -> i64
-    requires { (nodes ≡ nodes_of case.now) × (arcs ≡ arcs_of case.now) × (RegionRows case.now rows.now i) }
+    requires { (nodes ≡ nodes_of case.now) × (arcs ≡ arcs_of case.now) × (RegionStep case.now old.now rows.now i) }
     ensures { result ≡ brought_in case.now (inside_of inside.now) rows.now i }
 {
     let supplied = supplies(case, inside, rows, nodes);
@@ -144,31 +164,52 @@ fn brought_in(
     duration(case, i) * (supplied + flowed)
 }
 
-// The left sides of 33 at the nodes inside.
+// The left side of 33 at a node with the net flow `net`, if it is inside.
+fn own_node(case: &[i64], inside: &[bool], rows: &[i64], i: usize, v: usize, net: i64) -> usize
+    requires { AtBalance case.now rows.now i v net }
+    ensures { result ≡ own_node case.now (inside_of inside.now) rows.now i v }
+{
+    if is_inside(inside, v) {
+        node_residual(case, rows, i, v, net)
+    } else {
+        0
+    }
+}
+
 fn own_nodes(
     case: &[i64],
     inside: &[bool],
+    old: &[i64],
     rows: &[i64],
     nodes: usize,
     arcs: usize,
     i: usize,
 ) -> usize
-    requires { (nodes ≡ nodes_of case.now) × (arcs ≡ arcs_of case.now) × (RegionRows case.now rows.now i) }
+    requires { (nodes ≡ nodes_of case.now) × (arcs ≡ arcs_of case.now) × (RegionStep case.now old.now rows.now i) }
     ensures { result ≡ own_nodes case.now (inside_of inside.now) rows.now i }
 {
     let net = net_flows(case, rows, arcs);
     let mut sum: usize = 0;
     let mut v: usize = 0;
     while v < nodes {
-        if is_inside(inside, v) {
-            sum += node_residual(case, rows, i, v, net[v]);
-        }
+        sum += own_node(case, inside, rows, i, v, net[v]);
         v += 1;
     }
     sum
 }
 
-// The left sides of 28 at the inner pipes.
+// The left side of 28 at an inner pipe.
+fn own_pipe(case: &[i64], inside: &[bool], old: &[i64], rows: &[i64], i: usize, e: usize) -> usize
+    requires { (RegionStep case.now old.now rows.now i) × (e < arcs_of case.now) }
+    ensures { result ≡ own_pipe case.now (inside_of inside.now) (number_at old.now) rows.now i e }
+{
+    if inner_pipe(case, inside, e) {
+        pipe_residual(case, old, rows, i, e)
+    } else {
+        0
+    }
+}
+
 fn own_pipes(
     case: &[i64],
     inside: &[bool],
@@ -183,12 +224,18 @@ fn own_pipes(
     let mut sum: usize = 0;
     let mut e: usize = 0;
     while e < arcs {
-        if inner_pipe(case, inside, e) {
-            sum += pipe_residual(case, old, rows, i, e);
-        }
+        sum += own_pipe(case, inside, old, rows, i, e);
         e += 1;
     }
     sum
+}
+
+// The left sides of both rules are sizes and add up: nothing is netted by sign.
+fn together(nodes: usize, pipes: usize) -> usize
+    requires { nodes + pipes ≤ most_residual }
+    ensures { result ≡ nodes + pipes }
+{
+    nodes + pipes
 }
 
 // What is carried from step to step: the pressures, the gas brought in and the residual so far.
@@ -199,7 +246,7 @@ pub struct Gathered {
     pub residual: usize,
 }
 
-// With one step more, whose part of the plan is `rows`. The left sides of both rules are sizes and add up: nothing is netted by sign.
+// With one step more, whose part of the plan is `rows`.
 pub(crate) fn with_step(
     g: Gathered,
     case: &[i64],
@@ -213,12 +260,15 @@ pub(crate) fn with_step(
     ensures { RegionAdded case.now (inside_of inside.now) rows.now i g result }
 {
     let old = g.pressures;
-    let brought = brought_in(case, inside, rows, nodes, arcs, i);
-    let at_nodes = own_nodes(case, inside, rows, nodes, arcs, i);
+    let brought = brought_in(case, inside, &old, rows, nodes, arcs, i);
+    let at_nodes = own_nodes(case, inside, &old, rows, nodes, arcs, i);
     let at_pipes = own_pipes(case, inside, &old, rows, arcs, i);
+    let left = together(at_nodes, at_pipes);
+    let kept = g.pressures;
+    let next = row_pressures(kept, rows, nodes);
     Gathered {
-        pressures: row_pressures(rows, nodes),
+        pressures: next,
         brought: g.brought + brought,
-        residual: g.residual + (at_nodes + at_pipes),
+        residual: g.residual + left,
     }
 }

@@ -1,17 +1,14 @@
 // 30 to 32, of every station of a step.
-ghost use Rattle.std.specs.Prelude.{◌≡◌, ◌<◌, ◌≤◌, length};
+ghost use Rattle.std.specs.Prelude.{◌≡◌};
 ghost use Rattle.numbers.specs.law.Question.{first_no};
-ghost use Rattle.case.specs.law.Layout.{stations_of, station_at};
-ghost use Rattle.case.specs.law.LayoutOf.{LayoutOf};
 ghost use Rattle.case.specs.law.Records.{state_row};
 ghost use Rattle.case.specs.inside.InSet.{in_both};
 ghost use Rattle.plan.specs.law.StationRules.{one_of, obeyed, choice_kept, machines_once, fence_flow_kept, fence_node_kept, fence_flows_kept};
 ghost use Rattle.plan.specs.law.StationRules.{station_questions, all_station_questions};
-ghost use Rattle.plan.specs.inside.StationPass.{active_bits, fences_kept, FlowsPassed};
+ghost use Rattle.plan.specs.inside.StationPass.{active_bits, FlowsPassed};
 ghost use Rattle.plan.specs.inside.Sizes.{FlowsSized};
-ghost use Rattle.plan.specs.inside.Preconditions.{AcceptedCase, AtStep, MachinesKept};
+ghost use Rattle.plan.specs.inside.Preconditions.{AcceptedCase, AtStep, AtStation, MachinesKept};
 
-use super::accepted::station_at;
 use super::passes::{active_sets, artificial_flows, machines_once};
 use super::rows::choice_of;
 use case::read::{direction, state, station};
@@ -40,12 +37,19 @@ fn state_obeyed(case: &[i64], offset: usize, active: i64, f: usize, z: usize) ->
     false
 }
 
-// 30, of the station whose rows begin at `offset`.
-fn choice_kept(case: &[i64], rows: &[i64], offset: usize, s: usize, active: usize) -> bool
-    requires { (AcceptedCase case.now) × (s < stations_of case.now) × (offset ≡ station_at case.now s) ×
-        (active ≡ active_bits case.now rows.now s) }
+// 30
+fn choice_kept(
+    case: &[i64],
+    rows: &[i64],
+    layout: Layout,
+    i: usize,
+    s: usize,
+    active: usize,
+) -> bool
+    requires { (AtStation case.now rows.now layout i s) × (active ≡ active_bits case.now rows.now s) }
     ensures { result ≡ choice_kept case.now rows.now s }
 {
+    let offset = layout.offsets[s];
     let has = station(case, offset);
     let chosen = choice_of(case, rows, s);
     if one_of(chosen.direction, has.directions) {
@@ -87,11 +91,26 @@ fn fence_kept(chosen: Direction, inside: i64, plain: i64, v: usize, flow: i64) -
     true
 }
 
-// 32 of every node, whose net flows into artificial arcs are `flows`.
-fn fences_kept(chosen: Direction, inside: i64, plain: i64, nodes: usize, flows: &[i64]) -> bool
-    requires { nodes ≤ length flows.now }
-    ensures { result ≡ fences_kept chosen inside plain flows.now nodes }
+// 32
+fn fence_flows_kept(
+    case: &[i64],
+    rows: &[i64],
+    layout: Layout,
+    i: usize,
+    s: usize,
+    flows: &[i64],
+) -> bool
+    requires { (AtStation case.now rows.now layout i s) × (FlowsPassed case.now rows.now flows.now) }
+    ensures { result ≡ fence_flows_kept case.now rows.now s }
 {
+    let chosen = direction(
+        case,
+        layout.offsets[s],
+        index(choice_of(case, rows, s).direction),
+    );
+    let inside = layout.inside[s];
+    let plain = layout.plain;
+    let nodes = layout.nodes;
     let mut v: usize = 0;
     while v < nodes {
         if !fence_kept(chosen, inside, plain, v, flows[v]) {
@@ -100,29 +119,6 @@ fn fences_kept(chosen: Direction, inside: i64, plain: i64, nodes: usize, flows: 
         v += 1;
     }
     true
-}
-
-// 32, of the station whose rows begin at `offset`.
-fn fence_flows_kept(
-    case: &[i64],
-    rows: &[i64],
-    layout: Layout,
-    offset: usize,
-    s: usize,
-    flows: &[i64],
-) -> bool
-    requires { (AcceptedCase case.now) × (LayoutOf case.now layout) × (s < stations_of case.now) × (offset ≡ station_at case.now s) ×
-        (FlowsPassed case.now rows.now flows.now) }
-    ensures { result ≡ fence_flows_kept case.now rows.now s }
-{
-    let f = index(choice_of(case, rows, s).direction);
-    fences_kept(
-        direction(case, offset, f),
-        layout.inside[s],
-        layout.plain,
-        layout.nodes,
-        flows,
-    )
 }
 
 // `active` are the station's active arcs, `once` is the answer to 31, `flows` are the net flows into artificial arcs.
@@ -136,17 +132,16 @@ fn station_answer(
     once: bool,
     flows: &[i64],
 ) -> Answer
-    requires { (AtStep case.now layout i) × (s < stations_of case.now) × (active ≡ active_bits case.now rows.now s) ×
+    requires { (AtStation case.now rows.now layout i s) × (active ≡ active_bits case.now rows.now s) ×
         (once ≡ machines_once case.now rows.now s) × (FlowsPassed case.now rows.now flows.now) }
     ensures { result ≡ first_no (station_questions case.now rows.now i s) }
 {
-    let offset = station_at(layout, s);
     or_else(
-        ask(choice_kept(case, rows, offset, s, active), 30, i + 1, s),
+        ask(choice_kept(case, rows, layout, i, s, active), 30, i + 1, s),
         or_else(
             ask(once, 31, i + 1, s),
             ask(
-                fence_flows_kept(case, rows, layout, offset, s, flows),
+                fence_flows_kept(case, rows, layout, i, s, flows),
                 32,
                 i + 1,
                 s,

@@ -116,7 +116,7 @@ pub(crate) fn step_width(nodes: usize, arcs: usize, stations: usize) -> usize
 }
 
 // The plan's part for the step with index `i`.
-pub(crate) fn part_of(plan: &[i64], i: usize, width: usize) -> &[i64]
+fn part_of(plan: &[i64], i: usize, width: usize) -> &[i64]
     requires { (i ≤ 48) × (width ≤ most_step_width) × (2 + i * width + width ≤ length plan.now) }
     ensures { result.now ≡ take width (drop (2 + i * width) plan.now) }
 {
@@ -143,7 +143,7 @@ pub(crate) fn steps(case: &[i64], plan: &[i64], layout: Layout) -> Verdict
         match a {
             Stepped::Kept { residual } => {
                 totals = added(totals, case, rows, previous, layout, i, residual);
-                previous = after(case, rows, layout);
+                previous = after(previous, case, rows, layout);
             }
             Stepped::No {
                 number,

@@ -2,7 +2,6 @@
 use Rattle.std.specs.Prelude.{Bool, false, List, ℕ, ℤ, pos, get_or}
 use Rattle.case.specs.law.Layout.{nodes_of, arcs_of, stations_of}
 use Rattle.case.specs.law.LayoutOf.{Holds}
-use Rattle.plan.specs.declared.previous.Choices.{Choices}
 use Rattle.plan.specs.declared.previous.Previous.{Previous}
 
 -- what an array of activities, directions or states has at a place
@@ -11,11 +10,6 @@ active_of xs e = get_or xs e false
 
 abbrev pub index_of : List ℕ → ℕ → ℕ
 index_of xs s = get_or xs s 0
-
--- the directions and states of n stations
-pub record Chosen (x : Choices) (f z : ℕ → ℕ) (n : ℕ) : Type 0 where
-  pub directions : Holds 0 x.directions f n
-  pub states : Holds 0 x.states z n
 
 pub record Carried (case : List ℤ) (x : Previous) (p : ℕ → ℤ) (a : ℕ → Bool) (f z : ℕ → ℕ) : Type 0 where
   pub pressures : Holds (pos 0) x.pressures p (nodes_of case)

@@ -29,7 +29,7 @@ use Rattle.plan.specs.law.Region.{brought_in, region_gas}
 use Rattle.plan.specs.law.RegionFigures.{brought_at, residual_at, gas_inside}
 use Rattle.plan.specs.inside.RegionBalance.{EndsAreNodes}
 use Rattle.plan.specs.inside.RegionPreconditions.{RegionPressures, RegionStep, RegionRoom, RegionAdded}
-use Rattle.plan.specs.inside.RegionSizes.{ends_nodes, step_rows_lem, brought_small, residual_small}
+use Rattle.plan.specs.inside.RegionSizes.{ends_nodes, brought_small, residual_small}
 use Rattle.plan.specs.inside.RegionSame.{gas_same, residual_same}
 
 -- before the step with index i: the pressures, and the sums over the steps from index s on
@@ -105,7 +105,7 @@ module _ {case plan : List ℤ} (r : PlanRules case plan) where
         held = rw next d.pressures;
         brought = rw (count, here) (d.brought ∙ ap (λ (z : ℤ). z +ℤ in_step) k.brought);
         residual = rw (count, here) (d.residual ∙ ap₂ ◌+◌ k.residual same);
-        brought_few = omega (arith, ap nat_abs d.brought, abs_add g.brought in_step, brought_small (step_rows_lem step) inside, k.brought_few);
+        brought_few = omega (arith, ap nat_abs d.brought, abs_add g.brought in_step, brought_small step inside, k.brought_few);
         residual_few = omega (arith, d.residual, residual_small step inside, k.residual_few);
       }
 
@@ -120,8 +120,6 @@ gathering {s = s} h =
 
 -- it lies within the list, and not far in
 pub record StepWithin (plan : List ℤ) (i width : ℕ) : Type 0 where
-  pub early : i ≤ 48
-  pub narrow : width ≤ most_step_width
   pub inside : 2 + i * width + width ≤ length plan
   pub near : 2 + i * width + width ≤ most_plan
 
@@ -133,12 +131,7 @@ part_within {case} {width = width} c p wide i l =
     let a : suc i * width ≤ steps_of case * width = mul-le-mul_right width l in
     let w : width ≤ most_step_width = omega (arith, n.nodes, n.arcs, n.stations) in
     let b : steps_of case * width ≤ 48 * most_step_width = mul-le-mul n.steps w in
-    record {
-      early = omega (arith, n.steps);
-      narrow = w;
-      inside = omega (arith, p.long ∙ ap (λ (w : ℕ). 2 + steps_of case * w) (sym wide));
-      near = omega arith;
-    }
+    record { inside = omega (arith, p.long ∙ ap (λ (w : ℕ). 2 + steps_of case * w) (sym wide)); near = omega arith }
 
 module _ {case plan : List ℤ} {width : ℕ} (r : PlanRules case plan) (wide : width ≡ step_width case) where
   pub step_within : (i : ℕ) → i < steps_of case → StepWithin plan i width
@@ -147,10 +140,6 @@ module _ {case plan : List ℤ} {width : ℕ} (r : PlanRules case plan) (wide : 
   pub row_is : (i : ℕ) → take (2 + i * width + width - (2 + i * width)) (drop (2 + i * width) plan) ≡ step_rows case plan i
   unfolding step_rows step_at
   row_is i = rw (add-sub_cancel_left (2 + i * width) width, wide)
-
-  pub row_taken : (i : ℕ) {rows : List ℤ} → rows ≡ take width (drop (2 + i * width) plan) → rows ≡ step_rows case plan i
-  unfolding step_rows step_at
-  row_taken i e = e ∙ rw wide
 
 -- ---- the pressures at a time, as an array holds them
 

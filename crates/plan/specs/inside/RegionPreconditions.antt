@@ -4,14 +4,12 @@ use Rattle.numbers.specs.inside.SignedBounds.{Bounded}
 use Rattle.case.specs.law.Layout.{number_at, nodes_of, arcs_of, steps_of}
 use Rattle.case.specs.law.LayoutOf.{Holds}
 use Rattle.plan.specs.declared.region.Gathered.{Gathered}
-use Rattle.plan.specs.declared.region.Inner.{Inner}
 use Rattle.plan.specs.law.PlanLayout.{step_width}
 use Rattle.plan.specs.law.PlanRecords.{pressure_in}
 use Rattle.plan.specs.claims.Acceptance.{PlanRules}
-use Rattle.plan.specs.inside.Sizes.{PressuresSized, FlowsSized, NodesSized}
+use Rattle.plan.specs.inside.Sizes.{PressuresSized, FlowsSized}
 use Rattle.plan.specs.inside.Preconditions.{AcceptedCase, StepKept}
-use Rattle.plan.specs.law.Balance.{node_residual}
-use Rattle.plan.specs.law.Region.{inner_pipes, region_gas, brought_in}
+use Rattle.plan.specs.law.Region.{brought_in}
 use Rattle.plan.specs.law.RegionResidual.{region_residual}
 
 -- an accepted plan, its count of nodes and the width of a step's part
@@ -37,25 +35,11 @@ pub record RegionFlows (case rows : List ℤ) : Type 0 where
   pub accepted : AcceptedCase case
   pub flows : FlowsSized case rows
 
--- a step of an accepted plan: `rows` is its part of the plan
-pub record RegionRows (case rows : List ℤ) (i : ℕ) : Type 0 where
-  pub accepted : AcceptedCase case
-  pub step : i < steps_of case
-  pub node_rows : NodesSized case rows
-  pub flows : FlowsSized case rows
-  pub nodes : (v : ℕ) → v < nodes_of case → node_residual case rows i v ≤ 1000000
-
--- and `old` the pressures before it
+-- a step of an accepted plan: `rows` is its part of the plan, `old` the pressures before it
 pub record RegionStep (case old rows : List ℤ) (i : ℕ) : Type 0 where
   pub accepted : AcceptedCase case
   pub step : i < steps_of case
   pub kept : StepKept case old rows i
-
--- the inner pipes, and their gas by the pressures `old` and `new`
-pub record InnerPipes (case : List ℤ) (inside : ℕ → Bool) (old new : List ℤ) (r : Inner) : Type 0 where
-  pub pipes : r.pipes ≡ inner_pipes case inside
-  pub opening : r.opening ≡ region_gas case inside (number_at old)
-  pub closing : r.closing ≡ region_gas case inside (number_at new)
 
 -- sums that have room for one step more
 pub record RegionRoom (g : Gathered) : Type 0 where

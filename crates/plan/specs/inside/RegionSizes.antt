@@ -19,7 +19,7 @@ use Rattle.plan.specs.law.Region.{begins_in, ends_in, inner_pipe, inner_gas, reg
 use Rattle.plan.specs.law.RegionResidual.{own_node, own_pipe, own_nodes, own_pipes, region_residual}
 use Rattle.plan.specs.inside.Preconditions.{AcceptedCase}
 use Rattle.plan.specs.inside.RegionBalance.{EndsAreNodes}
-use Rattle.plan.specs.inside.RegionPreconditions.{RegionPressures, RegionFlows, RegionRows, RegionStep}
+use Rattle.plan.specs.inside.RegionPreconditions.{RegionPressures, RegionFlows, RegionStep}
 use Rattle.plan.specs.inside.CaseSizes.{counted, cond_sized, duration_sized, from_node, to_node}
 use Rattle.plan.specs.inside.StepSizes.{only_le, only_small, pipe_gas}
 
@@ -83,9 +83,9 @@ unfolding supplies_in
 supplies_small {case} {rows} h few inside =
     omega (arith, abs_sum_le (nodes_of case) 10000000 (region_supply inside rows) (supply_small h inside), mul-le-mul_right 10000000 few)
 
-module _ {case rows : List ℤ} {i : ℕ} (h : RegionRows case rows i) where
+module _ {case old rows : List ℤ} {i : ℕ} (h : RegionStep case old rows i) where
   pub step_flows : RegionFlows case rows
-  step_flows = record { accepted = h.accepted; flows = h.flows }
+  step_flows = record { accepted = h.accepted; flows = h.kept.flows }
 
   pub brought_small : (inside : ℕ → Bool) → nat_abs (brought_in case inside rows i) ≤ most_brought
   unfolding brought_in
@@ -93,17 +93,13 @@ module _ {case rows : List ℤ} {i : ℕ} (h : RegionRows case rows i) where
       let r = counted h.accepted in
       let a = supplies_in case inside rows in
       let b = edge_flows case inside rows in
-      let d = supplies_small h.node_rows r.nodes inside in
+      let d = supplies_small h.kept.node_rows r.nodes inside in
       let w : nat_abs (a +ℤ b) ≤ (most_supplies + most_edges) = omega (arith, abs_add a b, d, edges_small step_flows inside) in
       omega (arith, abs_mul (duration case i) (a +ℤ b), mul-le-mul (duration_sized h.accepted i h.step).bound w)
 
   pub own_node_small : (inside : ℕ → Bool) (u : ℕ) → u < nodes_of case → own_node case inside rows i u ≤ 1000000
   unfolding own_node
-  own_node_small inside u l = only_le (inside u) _ (h.nodes u l)
-
-module _ {case old rows : List ℤ} {i : ℕ} (h : RegionStep case old rows i) where
-  pub step_rows_lem : RegionRows case rows i
-  step_rows_lem = record { accepted = h.accepted; step = h.step; node_rows = h.kept.node_rows; flows = h.kept.flows; nodes = h.kept.nodes }
+  own_node_small inside u l = only_le (inside u) _ (h.kept.nodes u l)
 
   pub own_pipe_small : (inside : ℕ → Bool) (e : ℕ) → e < arcs_of case → own_pipe case inside (number_at old) rows i e ≤ 1000000
   unfolding own_pipe pipe_part
@@ -119,7 +115,7 @@ module _ {case old rows : List ℤ} {i : ℕ} (h : RegionStep case old rows i) w
       let r = counted h.accepted in
       omega (
         arith,
-        sum_n_bound (nodes_of case) 1000000 (own_node case inside rows i) (own_node_small step_rows_lem inside),
+        sum_n_bound (nodes_of case) 1000000 (own_node case inside rows i) (own_node_small inside),
         sum_n_bound (arcs_of case) 1000000 (own_pipe case inside (number_at old) rows i) (own_pipe_small inside),
         mul-le-mul_right 1000000 r.nodes,
         mul-le-mul_right 1000000 r.arcs,

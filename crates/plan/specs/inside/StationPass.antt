@@ -1,15 +1,12 @@
 -- What is gathered for all stations in one pass over a step's arcs.
-use Rattle.std.specs.Prelude.{◌≡◌, Bool, cond, List, ℕ, leb, ℤ, pos, length}
+use Rattle.std.specs.Prelude.{◌≡◌, cond, List, ℕ, leb, ℤ, pos, length}
 use Rattle.numbers.specs.law.Signed.{pos_part}
 use Rattle.numbers.specs.law.Sums.{sum, only}
 use Rattle.case.specs.law.Extents.{node_capacity}
-use Rattle.case.specs.declared.records.Direction.{Direction}
-use Rattle.case.specs.inside.InSet.{in_both}
-use Rattle.case.specs.law.Layout.{number_at, nodes_of, arcs_of}
+use Rattle.case.specs.law.Layout.{nodes_of, arcs_of}
 use Rattle.case.specs.law.Records.{arc_of, artificial_of}
 use Rattle.case.specs.law.LayoutOf.{Holds}
-use Rattle.case.specs.law.StationArcs.{every}
-use Rattle.plan.specs.law.StationRules.{active_set, taken_by, fence_node_kept}
+use Rattle.plan.specs.law.StationRules.{active_set, taken_by}
 
 -- the number of no station: a case has at most 8, and they count from 0
 abbrev pub no_station : ℕ
@@ -29,13 +26,6 @@ artificial_part case rows v e = only (leb 3 (arc_of case e).kind) (taken_by case
 
 unfoldable pub artificial_flow : List ℤ → List ℤ → ℕ → ℤ
 artificial_flow case rows v = sum (arcs_of case) (artificial_part case rows v)
-
--- 32 of the first n nodes by their net flows: `inside` are the station's nodes, `plain` the nodes that end an arc of kind 0 to 2
-abbrev pub fence_at : Direction → ℤ → ℤ → List ℤ → ℕ → Bool
-fence_at chosen inside plain net v = fence_node_kept (in_both inside plain) chosen v (number_at net v)
-
-unfoldable pub fences_kept : Direction → ℤ → ℤ → List ℤ → ℕ → Bool
-fences_kept chosen inside plain net n = every n (fence_at chosen inside plain net)
 
 -- the net flows from nodes into artificial arcs, in an array
 pub record FlowsPassed (case rows net : List ℤ) : Type 0 where

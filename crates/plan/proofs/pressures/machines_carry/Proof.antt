@@ -7,7 +7,6 @@ use Rattle.plan.specs.declared.rows.ArcRow.{ArcRow}
 use Rattle.plan.specs.law.PlanRecords.{arc_row}
 use Rattle.plan.specs.law.Machines.{machine_flow}
 use Rattle.plan.specs.law.ArcMachines.{machines_carry}
-use Rattle.plan.specs.inside.MachineSums.{flow_sum}
 use Rattle.plan.proofs.SignedReads.{as_told, machines_read}
 use Rattle.plan.proofs.pressures.machines_carry.Statement.{statement}
 use Rattle.plan.proofs.pressures.machines_carry.Tie as tie
@@ -33,10 +32,9 @@ returns c =
     let t = c.before.before in
     let k = t.before in
     let s = start k in
-    let case = s.args.case.now in
-    let m = c.machine_sum.ensures ∙ flow_sum case _ _ ∙ ap₂ (machine_flow case) s.requires.2 (machines_are k.before.before.before) in
+    let m = c.machine_flow.ensures ∙ ap₂ (machine_flow s.args.case.now) s.requires.2 (machines_are k.before.before.before) in
     rw (le-leb _ _ (simp (count_is k, most_is k) at t.if-count-artificial.true))
-    (c.at_most.ensures ∙ ap₂ le_z (to_z-of_z s.ranges.flow) (as_told c.machine_sum.type_inv m))
+    (c.at_most.ensures ∙ ap₂ le_z (to_z-of_z s.ranges.flow) (as_told c.machine_flow.type_inv m))
 
 returns_2 : tie.Need-returns-else-count-artificial
 unfolding machines_carry
@@ -44,5 +42,5 @@ returns_2 c = let k = c.before in rw (lt-leb _ _ (simp (count_is k, most_is k) a
 
 pub machines_carry_spec : {M : Type 1} → statement M
 machines_carry_spec = tie.close (tie.spec
-    (λ c κs. (counted c.requires.0, c.requires.1)) (λ c κs. search rules) (λ c κs. search rules) (λ c κs. (start c.before).requires.3)
-    (λ c κs. search rules) returns returns_2)
+    (λ c κs. (counted c.requires.0, c.requires.1)) (λ c κs. search rules) (λ c κs. search rules) (λ c κs. search rules) (λ c κs. search rules) returns
+    returns_2)

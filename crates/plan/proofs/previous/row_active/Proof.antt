@@ -1,6 +1,6 @@
 -- The array holds the activity of the arcs passed, and each turn sets that of the next arc.
 use Rattle.case.specs.law.Extents.{arc_capacity}
-use Rattle.plan.proofs.Common.{refl, ap, ◌∙◌, false, ◌-◌, arith, rules, pos, le_z, kept}
+use Rattle.plan.proofs.Common.{ap, ◌∙◌, false, ◌-◌, arith, rules, pos, le_z, kept}
 use Rattle.plan.specs.declared.rows.ArcRow.{ArcRow}
 use Rattle.plan.specs.law.PlanRecords.{active_in}
 use Rattle.plan.proofs.Filled.{Filling, start, turn, end}
@@ -14,7 +14,7 @@ abbrev decreases-loop-e : tie.decreases-loop-e
 decreases-loop-e case rows arcs on₀ e₀ on e = arcs - e
 
 loop_holds : tie.Need-loop-e-init invariant-loop-e decreases-loop-e
-loop_holds c = start refl
+loop_holds c = start c.well_formed.0.1.0.1
 
 loop_again : tie.Need-loop-e-preserved invariant-loop-e decreases-loop-e
 loop_again c =

@@ -1,6 +1,6 @@
 -- The array holds the pressures of the nodes passed, and each turn sets that of the next node.
 use Rattle.case.specs.law.Extents.{node_capacity}
-use Rattle.plan.proofs.Common.{refl, ◌∙◌, ◌-◌, arith, pos, kept}
+use Rattle.plan.proofs.Common.{◌∙◌, ◌-◌, arith, pos, kept}
 use Rattle.plan.specs.law.PlanRecords.{pressure_in}
 use Rattle.plan.proofs.Filled.{Filling, start, turn, end}
 use Rattle.plan.proofs.previous.row_pressures.Statement.{statement}
@@ -13,7 +13,7 @@ abbrev decreases-loop-v : tie.decreases-loop-v
 decreases-loop-v rows nodes pressures₀ v₀ pressures v = nodes - v
 
 loop_holds : tie.Need-loop-v-init invariant-loop-v decreases-loop-v
-loop_holds c = start refl
+loop_holds c = start c.well_formed.0.1.0.1
 
 loop_again : tie.Need-loop-v-preserved invariant-loop-v decreases-loop-v
 loop_again c =

@@ -10,7 +10,7 @@ use Rattle.plan.proofs.region.brought_in.Statement.{statement}
 use Rattle.plan.proofs.region.brought_in.Tie as tie
 
 supplies_requires : tie.Need-supplies-supplied-requires
-supplies_requires c κs = let p = c.requires in let r = counted p.2.accepted in (p.0, omega (arith, r.nodes, p.0), p.2.node_rows)
+supplies_requires c κs = let p = c.requires in let r = counted p.2.accepted in (p.0, omega (arith, r.nodes, p.0), p.2.kept.node_rows)
 
 edge_flows_requires : tie.Need-edge_flows-flowed-requires
 edge_flows_requires c κs = let s = c.before.before in (step_flows s.requires.2, s.requires.1)
@@ -23,7 +23,7 @@ inflow : (d : tie.After-duration) → let a = d.args in
 inflow d =
     let s = d.before.before.before.before in
     let h = s.requires.2 in
-    held (record { val = d.supplies-supplied.ensures; bound = supplies_small h.node_rows (counted h.accepted).nodes _ }) tt
+    held (record { val = d.supplies-supplied.ensures; bound = supplies_small h.kept.node_rows (counted h.accepted).nodes _ }) tt
     +ʳ held (record { val = d.edge_flows-flowed.ensures; bound = edges_small (step_flows h) _ }) tt
 
 -- over the time of the step

@@ -52,8 +52,7 @@ station_answer_requires c κs =
     let k = t.loop-s.s in
     let p = station_in t in
     let once_long : length m.machines_once-once.result ≡ 8 = m.machines_once-once.type_inv.1.0.1 in (
-      s.requires.0,
-      p,
+      record { at = s.requires.0; station = p; flows = s.requires.1 },
       a.active_sets-active.ensures.each k p,
       get_d_any m.machines_once-once.result k false true (omega (arith, once_long, station_few t)) ∙ m.machines_once-once.ensures.each k p,
       record { long = f.artificial_flows-flows.type_inv.1.0.1; holds = f.artificial_flows-flows.ensures },
