@@ -28,7 +28,8 @@ pub fn read(bytes: &[u8], list: &mut [i64]) -> Reading
     let mut at: usize = 0;
     let mut count: usize = 0;
     while at < bytes.len() {
-        if list.len() <= count {
+        let stored = count;
+        if list.len() <= stored {
             return Reading::Refused {
                 number: 3,
                 place: at,

@@ -29,15 +29,15 @@ number_is c = sym c.number_at-n.ensures ∙ c.in-Whole.is
 loop_holds : tie.Need-loop-at-init invariant-loop-at decreases-loop-at
 loop_holds c = storing _ _
 
-returns : tie.Need-returns-then-list-count invariant-loop-at decreases-loop-at
+returns : tie.Need-returns-then-list-stored invariant-loop-at decreases-loop-at
 returns c =
-    let s = store_full c.loop-at.invariant c.loop-at-test.true c.if-list-count.true in
+    let s = store_full c.loop-at.invariant c.loop-at-test.true c.if-list-stored.true in
     (s.told, s.stored)
 
 add_count : tie.Need-overflow_add-count invariant-loop-at decreases-loop-at
 add_count c =
     let e = c.before.before.before in
-    omega (arith, e.if-list-count.false, e.loop-at.invariant.placed.kept)
+    omega (arith, e.if-list-stored.false, e.loop-at.invariant.placed.kept)
 
 add_at : tie.Need-overflow_add-at invariant-loop-at decreases-loop-at
 add_at c =
@@ -61,7 +61,7 @@ loop_again c =
     let i = e.before in
     let v : to_z w64 (of_z w64 c.signed.result) ≡ signed_of n.in-Whole.value =
     to_z-of_z {w = w64} (record { sfits = c.signed.type_inv }) ∙ c.signed.ensures in
-    rw v (store_turn i.loop-at.invariant i.loop-at-test.true e.if-list-count.false (number_is n))
+    rw v (store_turn i.loop-at.invariant i.loop-at-test.true e.if-list-stored.false (number_is n))
 
 -- at least one byte was asked for, and at most one more than there are
 asked : (c : tie.In-Refused invariant-loop-at decreases-loop-at) → let k = c.before in let l = k.before.before.before in
@@ -83,7 +83,7 @@ returns_2 c =
     let k = n.before in
     let e = k.before in
     let i = e.before in
-    let s = store_no i.loop-at.invariant i.loop-at-test.true e.if-list-count.false (sym k.number_at-n.ensures ∙ n.in-Refused.is) in
+    let s = store_no i.loop-at.invariant i.loop-at-test.true e.if-list-stored.false (sym k.number_at-n.ensures ∙ n.in-Refused.is) in
     (s.told, s.stored)
 
 returns_3 : tie.Need-returns invariant-loop-at decreases-loop-at
