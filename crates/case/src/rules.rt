@@ -72,7 +72,8 @@ fn one_station(case: &[i64], layout: Layout) -> Answer
     let nodes = layout.nodes;
     let mut v: usize = 0;
     while v < nodes {
-        if 1 < stations_with(inside, stations, v) {
+        let several = 1 < stations_with(inside, stations, v);
+        if several {
             return Answer::No {
                 number: 14,
                 step: 0,
@@ -93,7 +94,8 @@ fn station_size(case: &[i64], layout: Layout) -> Answer
     let stations = layout.stations;
     let mut s: usize = 0;
     while s < stations {
-        if 30 < station_arcs(case, s, arcs) {
+        let over = 30 < station_arcs(case, s, arcs);
+        if over {
             return Answer::No {
                 number: 15,
                 step: 0,

@@ -48,7 +48,8 @@ pub(crate) fn number(x: i64, line: &mut [u8], at: usize) -> usize
     ensures upper_bound { result ≤ at + 20 }
 {
     let half = unsigned(x) / 2;
-    if x < 0 {
+    let below = x < 0;
+    if below {
         line[at] = b'-';
         digits(half + 1, line, at + 1)
     } else {

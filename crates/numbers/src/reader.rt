@@ -101,7 +101,8 @@ fn last(b: u64, value: u64, scale: u64, used: usize) -> Number
     requires { (b < 128) × (value < scale) × (scale ≤ 2 ^ 56) × (used ≤ 9) }
     ensures { result ≡ shifted value scale used (last_byte b) }
 {
-    if b == 0 {
+    let zero = b == 0;
+    if zero {
         Number::Refused {
             number: 2,
             asked: used + 1,
@@ -121,7 +122,8 @@ fn tenth(bytes: &[u8], at: usize, value: u64) -> Number
 {
     if at < bytes.len() {
         let b = wide(bytes[at]);
-        if b == 1 {
+        let one = b == 1;
+        if one {
             Number::Whole {
                 value: value + 9223372036854775808,
                 used: 10,

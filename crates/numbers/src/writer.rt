@@ -93,7 +93,8 @@ fn put(bytes: &mut [u8], at: usize, m: u64) -> usize
     if m < 2097152 {
         return put_count(bytes, at, m, 2);
     }
-    if m < 268435456 {
+    let four = m < 268435456;
+    if four {
         return put_count(bytes, at, m, 3);
     }
     if m < 34359738368 {

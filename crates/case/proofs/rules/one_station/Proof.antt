@@ -15,22 +15,22 @@ loop_holds : tie.Need-loop-v-init invariant-loop-v decreases-loop-v
 unfolding all_one_station
 loop_holds c = asking c.requires.1.nodes
 
-stations_with_requires : tie.Need-stations_with-requires invariant-loop-v decreases-loop-v
+stations_with_requires : tie.Need-stations_with-several-requires invariant-loop-v decreases-loop-v
 stations_with_requires c κs = let s = c.before.before.before in rw s.requires.1.stations s.requires.0.stations
 
-returns : tie.Need-returns-then-stations_with-gt1 invariant-loop-v decreases-loop-v
+returns : tie.Need-returns-then-several invariant-loop-v decreases-loop-v
 returns c =
     let b = c.before in
     let h = b.before.before in
-    let n = b.stations_with.ensures ∙ stations_with h.requires.1 h.loop-v.v in
-    asking_no h.loop-v.invariant b.loop-v-test.true (one_no _ h.loop-v.v n c.if-stations_with-gt1.true) refl
+    let n = b.stations_with-several.ensures ∙ stations_with h.requires.1 h.loop-v.v in
+    asking_no h.loop-v.invariant b.loop-v-test.true (one_no _ h.loop-v.v n c.if-several.true) refl
 
 loop_again : tie.Need-loop-v-preserved invariant-loop-v decreases-loop-v
 loop_again c =
     let b = c.before in
     let h = b.before.before in
-    let n = b.stations_with.ensures ∙ stations_with h.requires.1 h.loop-v.v in
-    asking_on h.loop-v.invariant b.loop-v-test.true (one_yes _ h.loop-v.v n c.if-stations_with-gt1.false) refl
+    let n = b.stations_with-several.ensures ∙ stations_with h.requires.1 h.loop-v.v in
+    asking_on h.loop-v.invariant b.loop-v-test.true (one_yes _ h.loop-v.v n c.if-several.false) refl
 
 returns_2 : tie.Need-returns invariant-loop-v decreases-loop-v
 returns_2 c = asking_end c.loop-v.invariant c.loop-v-test.false

@@ -16,19 +16,19 @@ loop_holds : tie.Need-loop-s-init invariant-loop-s decreases-loop-s
 unfolding all_station_sizes
 loop_holds c = asking c.requires.stations
 
-returns : tie.Need-returns-then-station_arcs-gt30 invariant-loop-s decreases-loop-s
+returns : tie.Need-returns-then-over invariant-loop-s decreases-loop-s
 returns c =
     let b = c.before in
     let h = b.before.before in
-    let n = b.station_arcs.ensures ∙ ap (arcs_before _ h.loop-s.s) h.requires.arcs in
-    asking_no h.loop-s.invariant b.loop-s-test.true (size_no _ h.loop-s.s n c.if-station_arcs-gt30.true) refl
+    let n = b.station_arcs-over.ensures ∙ ap (arcs_before _ h.loop-s.s) h.requires.arcs in
+    asking_no h.loop-s.invariant b.loop-s-test.true (size_no _ h.loop-s.s n c.if-over.true) refl
 
 loop_again : tie.Need-loop-s-preserved invariant-loop-s decreases-loop-s
 loop_again c =
     let b = c.before in
     let h = b.before.before in
-    let n = b.station_arcs.ensures ∙ ap (arcs_before _ h.loop-s.s) h.requires.arcs in
-    asking_on h.loop-s.invariant b.loop-s-test.true (size_yes _ h.loop-s.s n c.if-station_arcs-gt30.false) refl
+    let n = b.station_arcs-over.ensures ∙ ap (arcs_before _ h.loop-s.s) h.requires.arcs in
+    asking_on h.loop-s.invariant b.loop-s-test.true (size_yes _ h.loop-s.s n c.if-over.false) refl
 
 returns_2 : tie.Need-returns invariant-loop-s decreases-loop-s
 returns_2 c = asking_end c.loop-s.invariant c.loop-s-test.false

@@ -19,36 +19,36 @@ digits_requires c κs =
     let f = few u.unsigned-half.result u.unsigned-half.type_inv in
     simp length-set (omega (arith, f.0, u.requires))
 
-digits_requires_2 : tie.Need-digits-requires-else-x-lt0
+digits_requires_2 : tie.Need-digits-requires-else-below
 digits_requires_2 c κs =
     let u = c.before.before in
     let f = few u.unsigned-half.result u.unsigned-half.type_inv in
     omega (arith, f.1, u.requires)
 
-same_length : tie.Need-shape_of-line-then-x-lt0
+same_length : tie.Need-shape_of-line-then-below
 same_length c = simp length-set at c.digits.auto.line
 
-returns : tie.Need-returns-then-x-lt0
+returns : tie.Need-returns-then-below
 returns c =
     let d = c.before.before in
     let t = d.before.before in
     let u = t.before in
     let s = u.before.before in
     let e = simp (to_z-of_z s.ranges.x) at u.unsigned-half.ensures in
-    let n = lt← s.ranges.x (sfits_lit {z = pos 0} tt) t.if-x-lt0.true in
+    let n = lt← s.ranges.x (sfits_lit {z = pos 0} tt) t.if-below.true in
     let p = put_first s.args.line.now s.args.at 45 d.digits.ensures in
     let w = ap (λ (m : ℕ). 45 ∷ decimal (m / 2 + 1)) e ∙ below_zero s.args.x n in
     (rw w at p, omega (arith, p.after, (few u.unsigned-half.result u.unsigned-half.type_inv).0))
 
-returns_2 : tie.Need-returns-else-x-lt0
+returns_2 : tie.Need-returns-else-below
 returns_2 c =
     let d = c.before.before in
     let t = d.before.before in
     let u = t.before in
     let s = u.before.before in
     let e = simp (to_z-of_z s.ranges.x) at u.unsigned-half.ensures in
-    let n = lt← s.ranges.x (sfits_lit {z = pos 0} tt) t.if-x-lt0.false in
-    let p = d.digits-else-x-lt0.ensures in
+    let n = lt← s.ranges.x (sfits_lit {z = pos 0} tt) t.if-below.false in
+    let p = d.digits-else-below.ensures in
     let w = ap (λ (m : ℕ). decimal (m / 2)) e ∙ from_zero s.args.x n in
     (rw w at p, omega (arith, p.after, (few u.unsigned-half.result u.unsigned-half.type_inv).1))
 

@@ -29,16 +29,16 @@ module _ (m : ℕ) (f : Fits w64 m) where
 sub_result : tie.Need-overflow_sub-result
 sub_result c = rw (half_is _ c.ranges.m) (neg_fits _ c.ranges.m)
 
-sub_result_2 : tie.Need-overflow_sub-result-else-m-eq0
+sub_result_2 : tie.Need-overflow_sub-result-else-even
 sub_result_2 c = let f = c.ranges.m in rw (half_is _ f, to_z-of_z (neg_fits _ f)) (neg1_fits _ f)
 
-returns : tie.Need-returns-then-m-eq0
-returns c = half_is _ c.ranges.m ∙ sym (signed_even _ c.if-m-eq0.true)
+returns : tie.Need-returns-then-even
+returns c = half_is _ c.ranges.m ∙ sym (signed_even _ c.if-even.true)
 
-returns_2 : tie.Need-returns-else-m-eq0
+returns_2 : tie.Need-returns-else-even
 returns_2 c =
     let f = c.ranges.m in
-    rw (half_is _ f, to_z-of_z (neg_fits _ f), to_z-of_z (neg1_fits _ f)) (odd_is _ f ∙ sym (signed_odd _ c.if-m-eq0.false))
+    rw (half_is _ f, to_z-of_z (neg_fits _ f), to_z-of_z (neg1_fits _ f)) (odd_is _ f ∙ sym (signed_odd _ c.if-even.false))
 
 pub signed_spec : {M : Type 1} → statement M
 signed_spec = tie.close (tie.spec (λ c. search rules) sub_result sub_result_2 returns returns_2)

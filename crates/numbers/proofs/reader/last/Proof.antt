@@ -9,14 +9,14 @@ use Rattle.numbers.proofs.reader.last.Tie as tie
 mul_t8 : tie.Need-overflow_mul-result
 mul_t8 c = let p = c.requires in record { fits = omega (arith, product_small p.0 p.2) }
 
-add_t9 : tie.Need-overflow_add-result-else-b-eq0
+add_t9 : tie.Need-overflow_add-result-else-zero
 add_t9 c = let p = c.requires in record { fits = omega (arith, product_small p.0 p.2) }
 
-returns : tie.Need-returns-then-b-eq0
-returns c = rw (eq-eqb _ _ c.if-b-eq0.true)
+returns : tie.Need-returns-then-zero
+returns c = rw (eq-eqb _ _ c.if-zero.true)
 
-returns_2 : tie.Need-returns-else-b-eq0
-returns_2 c = rw (ne_eqb _ _ c.if-b-eq0.false)
+returns_2 : tie.Need-returns-else-zero
+returns_2 c = rw (ne_eqb _ _ c.if-zero.false)
 
 pub last_spec : {M : Type 1} → statement M
 last_spec = tie.close (tie.spec (λ c. search rules) mul_t8 add_t9 (λ c. search rules) returns returns_2)

@@ -7,17 +7,17 @@ use Rattle.numbers.proofs.Gathered.{later_none, tenth_one, tenth_other}
 use Rattle.numbers.proofs.reader.tenth.Statement.{statement}
 use Rattle.numbers.proofs.reader.tenth.Tie as tie
 
-returns : tie.Need-returns-then-b-eq1
+returns : tie.Need-returns-then-one
 returns c =
     let w = c.before in
     let e = w.before.before in
-    sym (ap (shifted _ (2 ^ 63) 9) (tenth_one _ _ e.if-at-bytes.true (sym w.wide-b.ensures ∙ c.if-b-eq1.true)))
+    sym (ap (shifted _ (2 ^ 63) 9) (tenth_one _ _ e.if-at-bytes.true (sym w.wide-b.ensures ∙ c.if-one.true)))
 
-returns_2 : tie.Need-returns-else-b-eq1
+returns_2 : tie.Need-returns-else-one
 returns_2 c =
     let w = c.before in
     let e = w.before.before in
-    sym (ap (shifted _ (2 ^ 63) 9) (tenth_other _ _ e.if-at-bytes.true (λ o. c.if-b-eq1.false (w.wide-b.ensures ∙ o))))
+    sym (ap (shifted _ (2 ^ 63) 9) (tenth_other _ _ e.if-at-bytes.true (λ o. c.if-one.false (w.wide-b.ensures ∙ o))))
 
 returns_3 : tie.Need-returns-else-at-bytes
 returns_3 c = sym (ap (shifted _ (2 ^ 63) 9) (later_none 0 _ _ c.if-at-bytes.false))

@@ -15,11 +15,11 @@ two t = grouped_by 1 _ (omega arith) t.if-m-lt128.false t.if-m-lt16384.true (sea
 three : (t : tie.Then-m-lt2097152) → Grouped 2 t.args.m
 three t = grouped_by 2 _ (omega arith) t.if-m-lt16384.false t.if-m-lt2097152.true (search rules)
 
-four : (t : tie.Then-m-lt268435456) → Grouped 3 t.args.m
-four t = grouped_by 3 _ (omega arith) t.if-m-lt2097152.false t.if-m-lt268435456.true (search rules)
+four : (t : tie.Then-four) → Grouped 3 t.args.m
+four t = grouped_by 3 _ (omega arith) t.if-m-lt2097152.false t.if-four.true (search rules)
 
 five : (t : tie.Then-m-lt34359738368) → Grouped 4 t.args.m
-five t = grouped_by 4 _ (omega arith) t.if-m-lt268435456.false t.if-m-lt34359738368.true (search rules)
+five t = grouped_by 4 _ (omega arith) t.if-four.false t.if-m-lt34359738368.true (search rules)
 
 six : (t : tie.Then-m-lt4398046511104) → Grouped 5 t.args.m
 six t = grouped_by 5 _ (omega arith) t.if-m-lt34359738368.false t.if-m-lt4398046511104.true (search rules)
@@ -33,8 +33,8 @@ returns_2 c = let q = c.before.before in let e = q.put_count-then-m-lt16384.ensu
 returns_3 : tie.Need-returns-then-m-lt2097152
 returns_3 c = let q = c.before.before in let e = q.put_count-then-m-lt2097152.ensures in all_placed (three q.before.before) _ _ _ _ e.0 e.1
 
-returns_4 : tie.Need-returns-then-m-lt268435456
-returns_4 c = let q = c.before.before in let e = q.put_count-then-m-lt268435456.ensures in all_placed (four q.before.before) _ _ _ _ e.0 e.1
+returns_4 : tie.Need-returns-then-four
+returns_4 c = let q = c.before.before in let e = q.put_count-then-four.ensures in all_placed (four q.before.before) _ _ _ _ e.0 e.1
 
 returns_5 : tie.Need-returns-then-m-lt34359738368
 returns_5 c = let q = c.before.before in let e = q.put_count-then-m-lt34359738368.ensures in all_placed (five q.before.before) _ _ _ _ e.0 e.1
