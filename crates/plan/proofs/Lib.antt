@@ -14,3 +14,9 @@ pub mod StationPasses
 pub mod StepsLoop
 pub mod StepGroups
 pub mod RegionTests
+pub mod RegionTurn
+pub mod RegionBalanceSteps
+pub mod RegionVouched
+pub mod LedgerAnswers
+pub mod LedgerSizes
+pub mod claims

@@ -1,4 +1,4 @@
--- What users are told: theorems over the law.
+-- What users are told: theorems over the law. Demand 3's is proofs/claims/Demand3.antt.
 pub mod NodeFacts
 pub mod ArcFacts
 pub mod StationFacts
@@ -6,7 +6,6 @@ pub mod PlanFacts
 pub mod Acceptance
 pub mod BytesAccepted
 pub mod WrongByte
-pub mod Demand3
 pub mod TableT
 pub mod FurtherRows
 pub mod JudgedUnder

@@ -14,7 +14,6 @@ pub mod PreviousHolds
 pub mod StepTotals
 pub mod RegionSet
 pub mod RegionBalance
-pub mod RegionBalanceSteps
 pub mod RegionBalanceBound
 pub mod RegionVouched
 pub mod LedgerAnswer

@@ -8,7 +8,7 @@ use Rattle.plan.specs.declared.verdict.Verdict.TheVariants.{Accepted}
 use Rattle.plan.specs.law.Judged.{verdict_told, judge_of}
 use Rattle.plan.specs.law.Ledger.{ledger_of}
 use Rattle.plan.specs.law.Vouched.{RegionOf}
-use Rattle.plan.specs.claims.Demand3.{demand3}
+use Rattle.plan.proofs.claims.Demand3.{demand3}
 use Rattle.gasplan.specs.law.Out.{code_of, out_of}
 
 -- `out` after the call: its places are nodes, inner pipes, gas at s, gas at t, gas brought in and residual

@@ -1,19 +1,17 @@
--- The ledger's answer, put together: times in their order, the six figures, and what the answer vouches for.
+-- The ledger's answer, put together: times in their order, and the six figures. What the answer vouches for is proofs/LedgerAnswers.antt's.
 use Rattle.std.specs.Prelude.{◌≡◌, Bool, true, List, ℕ, ◌≤◌, ℤ}
-use Rattle.std.proofs.Common.{sym, ap, ◌∙◌, subst}
+use Rattle.std.proofs.Common.{◌∙◌}
 use Rattle.numbers.specs.law.Signed.{pos_part}
 use Rattle.numbers.specs.inside.SignedParts.{size, ints}
 use Rattle.numbers.specs.law.Sums.{count}
 use Rattle.case.specs.law.Layout.{nodes_of, steps_of}
 use Rattle.plan.specs.declared.figures.Figures.{Figures}
-use Rattle.plan.specs.declared.figures.Ledger.{Ledger}
 use Rattle.plan.specs.declared.region.Gathered.{Gathered}
 use Rattle.plan.specs.law.Region.{inner_pipes}
 use Rattle.plan.specs.law.RegionFigures.{gas_inside, brought_over, residual_over, figures_of}
 use Rattle.plan.specs.inside.RegionLoop.{Gathering}
-use Rattle.plan.specs.inside.RegionVouched.{times_of, region_vouched}
-use Rattle.plan.specs.law.Vouched.{Vouched}
-use Rattle.plan.specs.law.Ledger.{times_ordered, ledger_told, ledger_is, ledger_of}
+use Rattle.plan.specs.inside.RegionVouched.{times_of}
+use Rattle.plan.specs.law.Ledger.{times_ordered}
 
 pub record InOrder (case : List ℤ) (s t : ℤ) : Type 0 where
   pub order : pos_part s ≤ pos_part t
@@ -30,8 +28,3 @@ pub figures_are : (case plan : List ℤ) (inside : ℕ → Bool) (s t : ℕ) {a 
     → ◌≡◌ {A = Figures} (record { nodes = a; pipes = b; opening = x; closing = y; brought = z; residual = g.residual }) (figures_of case plan inside s t)
 unfolding figures_of brought_over residual_over
 figures_are case plan inside s t p q o c g e = rw (p, q, o, c, e ∙ g.brought, g.residual)
-
-pub answers : (case plan : List ℤ) (set s t : ℤ) {r : Ledger} → r ≡ ledger_is case plan set s t
-    → (ledger_told r ≡ ledger_of case plan set s t) × Vouched case plan set s t r
-unfolding ledger_of
-answers case plan set s t e = (ap ledger_told e, subst (Vouched case plan set s t) (sym e) (region_vouched case plan set s t))

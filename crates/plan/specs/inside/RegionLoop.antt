@@ -1,14 +1,14 @@
--- The loop over the steps: what is gathered before the step with index i, and one turn.
-use Rattle.std.specs.Prelude.{◌≡◌, Bool, List, ℤ, pos, ◌+ℤ◌, length, take, drop}
+-- The loop over the steps: what is gathered before the step with index i. One turn of it is proofs/RegionTurn.antt's.
+use Rattle.std.specs.Prelude.{◌≡◌, Bool, List, ℤ, pos, length, take, drop}
 use Rattle.std.proofs.Common.{sym, ◌∙◌, subst, mul-le-mul, mul-le-mul_right}
-use Rattle.std.proofs.Math.Path.{ap, ap₂}
+use Rattle.std.proofs.Math.Path.{ap}
 use Prim.Native.Nat.{ℕ, zero, suc, ◌+◌, ◌*◌, ◌-◌, ◌<◌, ◌≤◌}
 use Rattle.std.proofs.Math.Nat.{add-sub_cancel_left}
 use native.Mathlib.Omega.{arith}
 use Rattle.std.proofs.Math.IntN.{nat_abs}
 use Rattle.numbers.specs.law.Question.{first_no}
 use Rattle.numbers.specs.declared.answer.Answer.TheVariants.{Yes}
-use Rattle.numbers.specs.inside.SignedBounds.{Bounded, abs_add}
+use Rattle.numbers.specs.inside.SignedBounds.{Bounded}
 use Rattle.numbers.specs.law.Sums.{sum, sum_n}
 use Rattle.plan.specs.inside.SumSizes.{most_brought, most_residual, most_step_width, most_plan}
 use Rattle.case.specs.law.Layout.{number_at, nodes_of, steps_of}
@@ -25,12 +25,12 @@ use Rattle.plan.specs.inside.CaseSizes.{counted, node_sized}
 use Rattle.plan.specs.inside.AnsweredSizes.{nodes_sized, nodes_yes, step_kept}
 use Rattle.plan.specs.inside.StepAlike.{step_alike}
 use Rattle.plan.specs.claims.Acceptance.{PlanRules, rules_step}
-use Rattle.plan.specs.law.Region.{brought_in, region_gas}
+use Rattle.plan.specs.law.Region.{region_gas}
 use Rattle.plan.specs.law.RegionFigures.{brought_at, residual_at, gas_inside}
 use Rattle.plan.specs.inside.RegionBalance.{EndsAreNodes}
-use Rattle.plan.specs.inside.RegionPreconditions.{RegionPressures, RegionStep, RegionRoom, RegionAdded}
-use Rattle.plan.specs.inside.RegionSizes.{ends_nodes, brought_small, residual_small}
-use Rattle.plan.specs.inside.RegionSame.{gas_same, residual_same}
+use Rattle.plan.specs.inside.RegionPreconditions.{RegionPressures, RegionStep, RegionRoom}
+use Rattle.plan.specs.inside.RegionSizes.{ends_nodes}
+use Rattle.plan.specs.inside.RegionSame.{gas_same}
 
 -- before the step with index i: the pressures, and the sums over the steps from index s on
 pub record Gathering (case plan : List ℤ) (inside : ℕ → Bool) (s i : ℕ) (g : Gathered) : Type 0 where
@@ -86,27 +86,6 @@ module _ {case plan : List ℤ} (r : PlanRules case plan) where
       record {
         brought = record { bound = omega (arith, h.brought_few, n.steps) };
         residual = omega (arith, h.residual_few, n.steps);
-      }
-
-  -- a turn
-  pub turn : {inside : ℕ → Bool} {s i : ℕ} {g h : Gathered} {rows : List ℤ} → Gathering case plan inside s i g → i < steps_of case
-      → rows ≡ step_rows case plan i → RegionAdded case inside rows i g h → Gathering case plan inside s (i + 1) h
-  unfolding sum sum_n brought_at residual_at pressure_at
-  turn {inside} {s} {i} {g} {h} {rows} k l e added =
-      let d : RegionAdded case inside (step_rows case plan i) i g h = rw e at added in
-      let step = step_handed {old = g.pressures} i l k.held in
-      let count : i + 1 - s ≡ suc (i - s) = omega (arith, k.from) in
-      let here : s + (i - s) ≡ i = omega (arith, k.from) in
-      let next : i + 1 ≡ suc i = omega arith in
-      let in_step = brought_in case inside (step_rows case plan i) i in
-      let same = residual_same case (number_at g.pressures) (pressure_at case plan i) ends_of k.held.each (step_rows case plan i) i inside in
-      record {
-        from = omega (arith, k.from);
-        held = rw next d.pressures;
-        brought = rw (count, here) (d.brought ∙ ap (λ (z : ℤ). z +ℤ in_step) k.brought);
-        residual = rw (count, here) (d.residual ∙ ap₂ ◌+◌ k.residual same);
-        brought_few = omega (arith, ap nat_abs d.brought, abs_add g.brought in_step, brought_small step inside, k.brought_few);
-        residual_few = omega (arith, d.residual, residual_small step inside, k.residual_few);
       }
 
 pub gathering : {case plan : List ℤ} {inside : ℕ → Bool} {s : ℕ} {p : List ℤ} → Holds (pos 0) p (pressure_at case plan s) (nodes_of case)

@@ -1,31 +1,24 @@
--- The numbers of a verdict, of the answer on two byte strings and of the ledger fit what an export hands on.
-use Rattle.std.specs.Prelude.{◌≡◌, Bool, true, false, cond, List, [], ◌∷◌, ℕ, ◌+◌, ◌*◌, ◌<◌, ◌≤◌, ◌^◌, ℤ, ◌-ℤ◌, ◌*ℤ◌, eqb, length, get_or}
+-- The numbers of a verdict and of the answer on two byte strings fit what an export hands on.
+use Rattle.std.specs.Prelude.{◌≡◌, Bool, true, false, cond, List, [], ◌∷◌, ℕ, ◌*◌, ◌<◌, ◌≤◌, ◌^◌, ℤ, eqb, length, get_or}
 use Rattle.std.proofs.Math.Path.{refl, ap}
-use Rattle.std.proofs.Common.{mul-le-mul}
 use native.Mathlib.Omega.{arith}
 use Rattle.std.proofs.Math.IntN.{pos, nat_abs}
 use Rattle.numbers.specs.law.Told.{Told, refuses}
 use Rattle.numbers.specs.law.Question.{first_no}
-use Rattle.numbers.specs.inside.QuestionLaws.{all_yes}
-use Rattle.numbers.specs.law.Sets.{member_of}
-use Rattle.numbers.specs.inside.SignedParts.{ints, taken, size}
-use Rattle.numbers.specs.inside.SignedBounds.{abs_mul}
 use Rattle.numbers.specs.law.Items.{over}
-use Rattle.numbers.specs.law.Sums.{count}
 use Rattle.numbers.specs.inside.SmallRefusals.{Between, Small}
 use Rattle.numbers.specs.law.Reading.{Ending, all, no, read_of, read_told}
 use Rattle.numbers.specs.inside.ReadingBounds.{refusal_within}
-use Rattle.numbers.specs.inside.SumLaws.{sum_n_bound, count_most}
+use Rattle.numbers.specs.inside.SumLaws.{sum_n_bound}
 use Rattle.numbers.specs.declared.answer.Answer.{Answer}
 use Rattle.numbers.specs.declared.answer.Answer.TheVariants.{Yes, No}
-use Rattle.case.specs.law.Extents.{arc_capacity, node_capacity}
 use Rattle.plan.specs.inside.SumSizes.{most_residual, most_switching}
-use Rattle.case.specs.law.Layout.{nodes_of, arcs_of, steps_of, mass_tolerance}
+use Rattle.case.specs.law.Layout.{nodes_of, arcs_of, steps_of}
 use Rattle.case.specs.inside.FieldLaws.{first_yes, second_yes, item_yes}
 use Rattle.case.specs.law.Judged.{case_questions}
 use Rattle.case.specs.inside.SmallRefusals.{limit, case_small}
 use Rattle.plan.specs.inside.Preconditions.{AcceptedCase}
-use Rattle.plan.specs.inside.CaseSizes.{counted, mass_sized}
+use Rattle.plan.specs.inside.CaseSizes.{counted}
 use Rattle.plan.specs.inside.AnsweredSizes.{arcs_yes, stations_yes, balances_yes, choices_kept, pipe_small, node_small}
 use Rattle.plan.specs.law.PlanLayout.{step_rows}
 use Rattle.plan.specs.law.BeforeStep.{pressure_at, active_at, direction_chosen, state_chosen}
@@ -35,11 +28,7 @@ use Rattle.plan.specs.law.Balance.{node_residual}
 use Rattle.plan.specs.law.Totals.{step_switching, step_residual, pipe_part, pipe_residuals, node_residuals, totals_to, totals_of}
 use Rattle.plan.specs.law.Judged.{plan_step, plan_questions, questions, verdict_of, verdict_told, judge_of}
 use Rattle.plan.specs.law.JudgedBytes.{read_answer, plan_number, on_plan_bytes, refused_or, bytes_judged}
-use Rattle.plan.specs.law.Region.{inner_pipe, inner_pipes}
-use Rattle.plan.specs.law.RegionFigures.{figures_of}
-use Rattle.plan.specs.inside.RegionVouched.{times_of, region_balanced}
-use Rattle.plan.specs.law.Ledger.{region_questions, ledger_questions, ledger_by, ledger_told, figures_for, ledger_of}
-use Rattle.plan.specs.inside.SmallRefusals.{judge_small, ledger_small}
+use Rattle.plan.specs.inside.SmallRefusals.{judge_small}
 use Rattle.plan.specs.declared.verdict.Verdict.{Verdict}
 use Rattle.plan.specs.declared.verdict.Verdict.TheVariants.{Accepted, Refused}
 use Rattle.plan.specs.declared.figures.Ledger.{Ledger}
@@ -53,7 +42,7 @@ Fit b (Accepted t) = (t.switching < b) × (t.residual < b)
 Fit b (Refused n s p) = (n < b) × (s < b) × (p < b) × (1 ≤ n)
 
 module _ (case plan : List ℤ) (y : first_no (questions case plan) ≡ Yes) where
-  accepted : AcceptedCase case
+  pub accepted : AcceptedCase case
   unfolding questions
   accepted = record { yes = first_yes (case_questions case) (plan_questions case plan) y }
 
@@ -86,10 +75,10 @@ module _ (case plan : List ℤ) (y : first_no (questions case plan) ≡ Yes) whe
 
 -- ---- the verdict on two lists
 
-values : Told → ℕ
+unfoldable pub values : Told → ℕ
 values t = length t.values
 
-at : Told → ℕ → ℕ
+unfoldable pub at : Told → ℕ → ℕ
 at t i = nat_abs (get_or t.values i (pos 0))
 
 pub refused_same : {n s p m t q : ℕ} → refuses n s p ≡ refuses m t q → (n ≡ m) × (s ≡ t) × (p ≡ q)
@@ -168,46 +157,8 @@ bytes_fit case_bytes plan_bytes case_list plan_list small short v e =
     (plan_read_fit plan_bytes (length plan_list) (2 ^ 63) short (omega arith)) (judge_fits case plan v)))
     e
 
--- ---- the ledger
+-- ---- the ledger: that its numbers fit is proofs/LedgerSizes.antt's
 
 abbrev pub FitLedger : ℕ → Ledger → Type 0
 FitLedger b (Given f) = (f.nodes < b) × (f.pipes < b) × (f.residual < b)
 FitLedger b (stopped.Refused n s p) = (n < b) × (s < b) × (p < b)
-
-module _ (case plan : List ℤ) (set s t : ℤ) where
-  -- the figures of a region of an accepted plan
-  figures_fit : first_no (ledger_questions case plan set s t) ≡ Yes → FitLedger (2 ^ 63) (Given (figures_for case plan set s t))
-  unfolding ledger_questions region_questions judge_of inner_pipes figures_of
-  figures_fit y =
-      let j = first_yes (questions case plan) (region_questions case set s t) y in
-      let r = all_yes (region_questions case set s t) (second_yes (questions case plan) (region_questions case set s t) y) in
-      let c = counted (accepted case plan j) in
-      let inside = member_of set in
-      let told : judge_of case plan ≡ verdict_told (Accepted (totals_of case plan)) = rw j in
-      let k = times_of case s t r.1.0 in
-      let b = region_balanced case plan (member_of set) s t (totals_of case plan) told r.1.0 in
-      let h = b.bound in
-      let n : count (nodes_of case) inside ≤ node_capacity = omega (arith, count_most (nodes_of case) inside, c.nodes) in
-      let p : inner_pipes case inside ≤ arc_capacity = omega (arith, count_most (arcs_of case) (inner_pipe case inside), c.arcs) in
-      let m = (mass_sized (accepted case plan j)).bound in
-      let d : nat_abs (t -ℤ s) ≤ 48 = omega (ints, k.first, k.order, k.last, size s, size t, taken t s, size (t -ℤ s), c.steps) in
-      let x = pos (count (nodes_of case) inside + inner_pipes case inside) in
-      let a : nat_abs (x *ℤ (t -ℤ s) *ℤ mass_tolerance case) ≤ (node_capacity + arc_capacity) * 48 * 1000000 =
-      rw (abs_mul (x *ℤ (t -ℤ s)) (mass_tolerance case), abs_mul x (t -ℤ s)) (mul-le-mul (mul-le-mul (sum_le n p) d) m) in
-      (omega (arith, n), omega (arith, p), omega (ints, h, a, size (x *ℤ (t -ℤ s) *ℤ mass_tolerance case)))
-    where
-      sum_le : {a b : ℕ} → a ≤ node_capacity → b ≤ arc_capacity → a + b ≤ node_capacity + arc_capacity
-      sum_le h k = omega (arith, h, k)
-
-  pub ledger_fits : (v : Ledger) → ledger_told v ≡ ledger_of case plan set s t → FitLedger (2 ^ 63) v
-  unfolding ledger_of values at
-  ledger_fits v e = go (first_no (ledger_questions case plan set s t)) refl (ledger_small case plan set s t) v e
-    where
-      go : (a : Answer) → first_no (ledger_questions case plan set s t) ≡ a → Small limit a → (v : Ledger)
-          → ledger_told v ≡ ledger_told (ledger_by a (figures_for case plan set s t)) → FitLedger (2 ^ 63) v
-      go Yes y w (Given f) e =
-          let k = figures_fit y in
-          (omega (arith, ap (λ (x : Told). at x 0) e, k.0), omega (arith, ap (λ (x : Told). at x 1) e, k.1), omega (arith, ap (λ (x : Told). at x 5) e, k.2))
-      go Yes y w (stopped.Refused n u p) e = let f : ⊥ = omega (arith, ap values e) in absurd f
-      go (No m i q) y w (Given g) e = let f : ⊥ = omega (arith, ap values e) in absurd f
-      go (No m i q) y w (stopped.Refused n u p) e = let k = refused_same e in (omega arith, omega arith, omega arith)

@@ -1,6 +1,6 @@
 -- Every ledger fits what it is told by (`ledger_fits`), and the three signed parameters are read as they are.
 use Rattle.gasplan.proofs.Common.{refl, ap, ◌∙◌, rules, lt-leb, to_z-of_z, kept}
-use Rattle.plan.specs.inside.VerdictSizes.{ledger_fits}
+use Rattle.plan.proofs.LedgerSizes.{ledger_fits}
 use Rattle.gasplan.specs.law.Out.{code_of, out_of}
 use Rattle.gasplan.proofs.ledger.gasplan_ledger.Statement.{statement}
 use Rattle.gasplan.proofs.ledger.gasplan_ledger.Tie as tie

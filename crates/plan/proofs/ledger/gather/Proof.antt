@@ -3,7 +3,8 @@ use mathlib.Core.Path.{◌≡◌, subst}
 use Rattle.plan.proofs.Common.{ℕ, ◌-◌, ◌<◌, ◌≤◌, arith}
 use Rattle.case.specs.law.Layout.{steps_of}
 use Rattle.plan.specs.inside.RegionSet.{inside_of}
-use Rattle.plan.specs.inside.RegionLoop.{Gathering, StepWithin, gathering, step_handed, room, turn, step_within, row_is}
+use Rattle.plan.specs.inside.RegionLoop.{Gathering, StepWithin, gathering, step_handed, room, step_within, row_is}
+use Rattle.plan.proofs.RegionTurn.{turn}
 use Rattle.plan.proofs.ledger.gather.Statement.{statement}
 use Rattle.plan.proofs.ledger.gather.Tie as tie
 

@@ -3,7 +3,7 @@ use Rattle.plan.proofs.Common.{sym, ap, ◌∙◌, rules, to_z-of_z}
 use Rattle.plan.specs.law.Judged.{verdict_told}
 use Rattle.plan.specs.claims.Acceptance.{sound}
 use Rattle.plan.specs.inside.LedgerVerdict.{ledger_after, ledger_refused}
-use Rattle.plan.specs.inside.LedgerAnswer.{answers}
+use Rattle.plan.proofs.LedgerAnswers.{answers}
 use Rattle.plan.proofs.ledger.ledger.Statement.{statement}
 use Rattle.plan.proofs.ledger.ledger.Tie as tie
 

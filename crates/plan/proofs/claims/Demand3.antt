@@ -9,7 +9,7 @@ use Rattle.plan.specs.declared.verdict.Verdict.TheVariants.{Accepted}
 use Rattle.plan.specs.law.Judged.{verdict_told, judge_of}
 use Rattle.plan.specs.law.Ledger.{ledger_told, figures_for, ledger_of}
 use Rattle.plan.specs.law.Vouched.{RegionOf, Balanced}
-use Rattle.plan.specs.inside.RegionVouched.{region_vouched}
+use Rattle.plan.proofs.RegionVouched.{region_vouched}
 
 -- For every case list and plan list that are accepted, every set that names only nodes and 0 ≤ s ≤ t ≤ k: the ledger tells its figures and no
 -- refusal, |gas at t - gas at s - gas brought in| ≤ residual, and residual ≤ (nodes + inner pipes) × (t - s) × E.

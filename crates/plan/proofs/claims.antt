@@ -1,0 +1,2 @@
+-- What users are told, as in specs/claims.antt: the theorem that rests on laws which stand here.
+pub mod Demand3
