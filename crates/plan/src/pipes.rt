@@ -4,7 +4,7 @@ ghost use Rattle.numbers.specs.law.Question.{first_no};
 ghost use Rattle.numbers.specs.inside.SignedBounds.{Bounded};
 ghost use Rattle.case.specs.law.Layout.{number_at, steps_of};
 ghost use Rattle.plan.specs.law.PlanRecords.{pressure_in};
-ghost use Rattle.plan.specs.law.Pipes.{duration, change, pipe_residual, pipe_mass_kept, pressure_balance, pipe_pressures_kept};
+ghost use Rattle.plan.specs.law.Pipes.{duration, change, pipe_residual, pressure_balance};
 ghost use Rattle.plan.specs.law.ArcRules.{pipe_questions};
 ghost use Rattle.plan.specs.inside.Preconditions.{AcceptedCase, AtFlow, AtPipe};
 
@@ -71,31 +71,18 @@ fn pressure_balance(case: &[i64], old: &[i64], rows: &[i64], i: usize, e: usize)
     1000000 * (to - from) + x.f * r.a + x.g * r.b + x.h * (from + to)
 }
 
-// 28 of a pipe.
-fn mass_kept(case: &[i64], old: &[i64], rows: &[i64], i: usize, e: usize) -> bool
-    requires { AtPipe case.now old.now rows.now i e }
-    ensures { result ≡ pipe_mass_kept case.now (number_at old.now) rows.now i e }
-{
-    let mass = pipe_residual(case, old, rows, i, e) as i64;
-    at_most(mass, at(case, 5))
-}
-
-// 29 of a pipe.
-fn ends_kept(case: &[i64], old: &[i64], rows: &[i64], i: usize, e: usize) -> bool
-    requires { AtPipe case.now old.now rows.now i e }
-    ensures { result ≡ pipe_pressures_kept case.now rows.now e }
-{
-    let ends = size(pressure_balance(case, old, rows, i, e)) as i64;
-    at_most(ends, 1000000 * at(case, 6))
-}
-
+// 28 and 29 of a pipe.
 fn pipe_kept(case: &[i64], old: &[i64], rows: &[i64], i: usize, e: usize) -> Answer
     requires { AtPipe case.now old.now rows.now i e }
     ensures { result ≡ first_no (pipe_questions case.now (number_at old.now) rows.now i e) }
 {
-    let mass = mass_kept(case, old, rows, i, e);
-    let ends = ends_kept(case, old, rows, i, e);
-    or_else(ask(mass, 28, i + 1, e), ask(ends, 29, i + 1, e))
+    let mass = pipe_residual(case, old, rows, i, e) as i64;
+    let ends = size(pressure_balance(case, old, rows, i, e)) as i64;
+    let most = 1000000 * at(case, 6);
+    or_else(
+        ask(at_most(mass, at(case, 5)), 28, i + 1, e),
+        ask(at_most(ends, most), 29, i + 1, e),
+    )
 }
 
 pub(crate) fn pipe_answer(case: &[i64], old: &[i64], rows: &[i64], i: usize, e: usize) -> Answer
