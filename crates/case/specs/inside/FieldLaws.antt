@@ -1,7 +1,7 @@
 -- What a field is known to be once 10 and 11 have let it pass: no "no" of a list is no "no" of any part of it.
 -- Assumes nothing.
 use Rattle.std.specs.Prelude.{◌≡◌, true, List, ◌++◌, ℕ, ◌<◌, ◌≤◌, ℤ, pos, length}
-use Rattle.std.proofs.Common.{arith, ltb-true}
+use Rattle.std.proofs.Common.{ltb-true}
 use Rattle.std.specs.Int.Signed.{le_z}
 use Rattle.numbers.specs.inside.SignedParts.{ints, size}
 use Rattle.numbers.specs.law.Question.{Question, first_no}

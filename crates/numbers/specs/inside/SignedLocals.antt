@@ -107,7 +107,7 @@ mags (negsuc n) = omega arith
 pub nonneg : {z : ℤ} → SFits w64 z → lt_z (to_z w64 (of_z w64 z)) (pos 0) ≡ false → to_z w64 (of_z w64 z) ≡ pos (nat_abs z)
 nonneg {z} f e = to_z-of_z f ∙ abs_above z (cc (to_z-of_z f))
 
--- the whole need: `cast_result c = castu c.before.fits.a c.if1.left`
+-- the goal of such a cast whole: `castu c.ranges.a` and the fact of the test
 pub castu : {z : ℤ} → SFits w64 z → lt_z (to_z w64 (of_z w64 z)) (pos 0) ≡ false → T (non_neg (to_z w64 (of_z w64 z))) × Fits w64 (nat_abs (to_z w64 (of_z w64 z)))
 castu {z} f e = rw (nonneg f e) (tt, Fits-nat_abs tt f)
 

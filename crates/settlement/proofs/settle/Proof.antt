@@ -1,8 +1,8 @@
 -- Where no question has a "no" the records are such as a merge takes (`asked_meters`), and its figures are told; otherwise the first "no".
-use Rattle.settlement.proofs.Common.{rules, ◌≡◌, sym, ap, ◌∙◌, to_z-of_z}
+use Rattle.settlement.proofs.Common.{rules, ◌≡◌, sym, ◌∙◌, to_z-of_z}
 use Rattle.numbers.specs.law.Question.{first_no}
 use Rattle.settlement.specs.law.RecordRules.{settle_questions}
-use Rattle.settlement.specs.law.Settling.{settlement_told, settlement_by, settle_of}
+use Rattle.settlement.specs.law.Settling.{settle_of}
 use Rattle.settlement.specs.inside.Asked.{asked_meters}
 use Rattle.settlement.proofs.settle.Statement.{statement}
 use Rattle.settlement.proofs.settle.Tie as tie

@@ -1,6 +1,6 @@
 -- What a look-up finds, by induction on the rows: nothing where no row has the time, and in a record whose times rise the row that has it.
 -- Assumes nothing.
-use Rattle.std.specs.Prelude.{Bool, ◌&&◌, List, ◌≡◌, refl, ℕ, zero, suc, ◌<◌, ◌≤◌, ℤ, ◌<ℤ◌, ◌≤ℤ◌}
+use Rattle.std.specs.Prelude.{Bool, ◌&&◌, List, ◌≡◌, refl, ℕ, zero, suc, ◌<◌, ◌≤◌, ℤ, ◌<ℤ◌}
 use Rattle.std.proofs.Math.Bool.{true, false}
 use Rattle.std.proofs.Math.Logic.{⊎_elim}
 use Rattle.std.proofs.Common.{sym, eq-or-lt_of_le, arith, leb-true, leb-false}
@@ -9,7 +9,7 @@ use Rattle.std.proofs.Math.Dec.{leb}
 use Rattle.std.specs.Int.Signed.{le_z}
 use Rattle.numbers.specs.inside.SignedParts.{ints}
 use Rattle.settlement.specs.law.Records.{rows_of, time_of, grams_of}
-use Rattle.settlement.specs.law.LookUp.{Found, found, missing, same_time, look_up_in, look_up}
+use Rattle.settlement.specs.law.LookUp.{found, missing, same_time, look_up_in, look_up}
 use Rattle.settlement.specs.law.Settled.{opposite}
 use Rattle.settlement.specs.inside.Merging.{Meter, Before}
 use Rattle.settlement.specs.inside.RecordLaws.{earlier}

@@ -1,5 +1,5 @@
 -- Each field is a number of the row, read from where the row, its bounds or its demand begin or from the end if that is nearer (`number_in`).
-use Rattle.case.proofs.Common.{rules, arith, ◌∙◌, ◌≡◌, ap, ℕ, ◌+◌}
+use Rattle.case.proofs.Common.{rules, arith, ◌≡◌, ℕ, ◌+◌}
 use Prim.Native.Nat.{min}
 use lib.ListN.{length}
 use Rattle.case.specs.law.Layout.{node_at, bounds_in, bounds_at, demand_in, demand_at}

@@ -1,6 +1,5 @@
 -- The stations before `s` keep 16 (`Asking`); the layout has where a station's rows begin and its node set.
 use Rattle.case.proofs.Common.{arith, ◌≡◌, refl, ◌-◌, ◌<◌, kept_is, Asking, asking, asking_on, asking_no, asking_end}
-use borrow.Author.Tests.{not-true, not-false}
 use Rattle.numbers.specs.law.Question.{first_no, answer}
 use Rattle.case.specs.law.Directions.{direction_sets, all_direction_sets}
 use Rattle.case.specs.law.Layout.{stations_of}

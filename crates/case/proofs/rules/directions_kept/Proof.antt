@@ -2,7 +2,6 @@
 use mathlib.Core.Bool.{Bool}
 use mathlib.Core.List.{List}
 use Rattle.case.proofs.Common.{rules, arith, ◌≡◌, ap, ◌-◌, ℕ, w64, to_z, of_z, to_z-of_z}
-use borrow.Author.Tests.{not-true, not-false}
 use lib.IntN.{ℤ}
 use Rattle.case.specs.law.Directions.{sets_kept}
 use Rattle.case.specs.inside.InSet.{in_both}

@@ -2,9 +2,8 @@
 use mathlib.Core.Bool.{Bool, true, false}
 use Rattle.case.proofs.Common.{rules, arith, ◌∙◌, ◌≡◌, ap, sym, refl, kept_is, w64, to_z, of_z, to_z-of_z}
 use Prim.Native.Nat.{◌<◌, ◌-◌, ◌^◌}
-use borrow.Author.Tests.{not-true, not-false}
 use Rattle.case.specs.law.States.{machines_kept}
-use Rattle.case.specs.law.StationArcs.{belongs, every}
+use Rattle.case.specs.law.StationArcs.{every}
 use Rattle.case.specs.declared.records.Artificial.{Artificial}
 use Rattle.case.specs.inside.CountLaws.{Keeping, keeping, keep_on, keep_no, keep_end}
 use lib.Signed.{mag}

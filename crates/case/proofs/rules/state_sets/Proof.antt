@@ -1,6 +1,5 @@
 -- The stations before `s` keep 17 (`Asking`); the layout says where a station's rows begin.
 use Rattle.case.proofs.Common.{arith, refl, ◌-◌, ◌<◌, first_no, Asking, asking, asking_on, asking_no, asking_end}
-use borrow.Author.Tests.{not-true, not-false}
 use Rattle.case.specs.law.Layout.{stations_of}
 use Rattle.case.specs.law.States.{state_sets, all_state_sets}
 use Rattle.case.proofs.Ruled.{states_asked}

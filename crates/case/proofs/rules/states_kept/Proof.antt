@@ -1,7 +1,6 @@
 -- The states before `z` keep 17 (`Keeping`); count and set are read back as they are.
 use mathlib.Core.Bool.{Bool}
 use Rattle.case.proofs.Common.{rules, arith, ◌≡◌, ap, ◌-◌, w64, to_z, of_z, to_z-of_z}
-use borrow.Author.Tests.{not-true, not-false}
 use Rattle.case.specs.law.States.{state_kept}
 use Rattle.case.specs.law.StationArcs.{every}
 use Rattle.case.specs.declared.records.Station.{Station}

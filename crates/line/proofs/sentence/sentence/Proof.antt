@@ -1,5 +1,5 @@
 -- The word, the numbers and the end of the line, one after the other.
-use Rattle.line.proofs.Common.{◌∙◌, arith, rules, length-set}
+use Rattle.line.proofs.Common.{◌∙◌, rules, length-set}
 use Rattle.line.specs.law.Line.{sentence_of}
 use Rattle.line.specs.inside.Put.{put_both, put_one}
 use Rattle.line.proofs.sentence.sentence.Statement.{statement}

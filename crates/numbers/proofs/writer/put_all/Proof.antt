@@ -10,10 +10,6 @@ use Rattle.numbers.specs.inside.SignedLocals.{element}
 use Rattle.numbers.proofs.Listed.{Filling, filling, fill_room, fill_turn, fill_end, groups_at}
 use Rattle.numbers.proofs.writer.put_all.Statement.{statement}
 use Rattle.numbers.proofs.writer.put_all.Tie as tie
-use Rattle.numbers.proofs.writer.put_all.Reads as reads
-use Rattle.numbers.proofs.writer.put_all.Lts as lts
-use Rattle.numbers.proofs.mapping.unsigned.Reads as unsigned_reads
-use Rattle.numbers.proofs.writer.put.Reads as put_reads
 
 abbrev invariant-loop-i : tie.invariant-loop-i
 invariant-loop-i list bytes₀ at₀ i₀ bytes at i = Filling list bytes₀ bytes at i

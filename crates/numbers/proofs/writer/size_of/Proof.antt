@@ -10,10 +10,6 @@ use Rattle.numbers.specs.inside.SignedLocals.{element}
 use Rattle.numbers.proofs.Listed.{Sizing, sizing, size_turn, size_over, size_end, groups_at}
 use Rattle.numbers.proofs.writer.size_of.Statement.{statement}
 use Rattle.numbers.proofs.writer.size_of.Tie as tie
-use Rattle.numbers.proofs.writer.size_of.Reads as reads
-use Rattle.numbers.proofs.writer.size_of.Lts as lts
-use Rattle.numbers.proofs.mapping.unsigned.Reads as unsigned_reads
-use Rattle.numbers.proofs.writer.width.Reads as width_reads
 
 abbrev invariant-loop-i : tie.invariant-loop-i
 invariant-loop-i list room total₀ i₀ total i = Sizing list room total i

@@ -1,5 +1,5 @@
 -- The bounds begin two places into the row, before its demands.
-use Rattle.plan.proofs.Common.{refl, arith, rules}
+use Rattle.plan.proofs.Common.{refl, arith}
 use Rattle.case.specs.law.Layout.{bounds_in, demand_in}
 use Rattle.plan.proofs.accepted.bounds_at.Statement.{statement}
 use Rattle.plan.proofs.accepted.bounds_at.Tie as tie

@@ -1,5 +1,5 @@
 -- The demands begin six places into the row, one after the other.
-use Rattle.plan.proofs.Common.{refl, arith, rules}
+use Rattle.plan.proofs.Common.{arith}
 use Rattle.case.specs.law.Layout.{demand_in}
 use Rattle.plan.proofs.accepted.demand_at.Statement.{statement}
 use Rattle.plan.proofs.accepted.demand_at.Tie as tie

@@ -1,7 +1,7 @@
 -- The residuals so far are summed, and the first "no" of 33 is that of the nodes not yet passed.
 use Rattle.case.specs.law.Extents.{node_capacity}
 use Rattle.plan.specs.inside.SumSizes.{most_node_residual}
-use Rattle.plan.proofs.Common.{◌≡◌, refl, sym, ap, ◌∙◌, Bool, ℕ, ◌+◌, ◌-◌, ◌<◌, ◌≤◌, arith, rules, not-true, not-false, pos, w64, to_z, of_z}
+use Rattle.plan.proofs.Common.{◌≡◌, refl, sym, ap, ◌∙◌, Bool, ℕ, ◌+◌, ◌-◌, ◌<◌, ◌≤◌, arith, rules, pos, w64, to_z, of_z}
 use Rattle.plan.proofs.Common.{to_z_pos, counted}
 use mathlib.Core.List.{List}
 use native.Mathlib.Nat.{mul-le-mul_right}

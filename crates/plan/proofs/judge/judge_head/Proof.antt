@@ -1,5 +1,5 @@
 -- Past an accepted case the answer is that to 20, and else the case's own refusal; the layout is the one that the judge of the case gives.
-use Rattle.plan.proofs.Common.{◌≡◌, refl, sym, ap, ◌∙◌, rules}
+use Rattle.plan.proofs.Common.{◌≡◌, refl, sym, ap, rules}
 use mathlib.Core.List.{[], ◌∷◌}
 use Rattle.numbers.specs.law.Question.{first_no, told}
 use Rattle.case.specs.law.Judged.{case_questions, judged_case}

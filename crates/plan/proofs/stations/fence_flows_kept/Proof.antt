@@ -1,6 +1,6 @@
 -- 32 holds of the nodes passed; a node of which it does not hold ends the loop.
 use Rattle.case.specs.law.Extents.{node_capacity}
-use Rattle.plan.proofs.Common.{◌≡◌, refl, sym, ap, ap₂, ◌∙◌, Bool, true, ℕ, ◌-◌, ◌<◌, ◌≤◌, arith, rules, not-true, not-false, counted}
+use Rattle.plan.proofs.Common.{◌≡◌, refl, sym, ap, ap₂, ◌∙◌, Bool, true, ℕ, ◌-◌, ◌<◌, ◌≤◌, arith, rules, counted}
 use Rattle.numbers.specs.law.Signed.{pos_part}
 use Rattle.case.specs.inside.CountLaws.{every_more, every_not}
 use Rattle.case.specs.law.Layout.{nodes_of}

@@ -1,7 +1,6 @@
 -- Each total is the old one with what the step adds; what a kept step adds is small, and so no sum is too large.
 use Rattle.plan.specs.inside.SumSizes.{most_demand_slack, most_pressure_slack, most_residual, most_switching}
 use Rattle.plan.proofs.Common.{refl, sym, ◌+◌, ◌≤◌, arith, rules, ◌+ℤ◌, w64, to_z, of_z, Held, held, held_fits, ◌+ʳ◌, kept}
-use lib.ListN.{length-map}
 use Rattle.plan.specs.inside.PreviousHolds.{active_of, index_of}
 use Rattle.plan.specs.law.Totals.{pressure_slack_in, demand_slack_in}
 use Rattle.plan.proofs.SignedReads.{read}

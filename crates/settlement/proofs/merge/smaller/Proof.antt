@@ -1,5 +1,5 @@
 -- The test is the order of the two.
-use Rattle.settlement.proofs.Common.{sym, to_z-of_z}
+use Rattle.settlement.proofs.Common.{to_z-of_z}
 use Rattle.settlement.proofs.merge.smaller.Statement.{statement}
 use Rattle.settlement.proofs.merge.smaller.Tie as tie
 

@@ -1,9 +1,8 @@
 -- Whether the two agree decides which mass is added and what is counted (`pair_agreed`, `pair_cut`).
-use Rattle.settlement.proofs.Common.{rules, ◌≡◌, sym, ap, ◌∙◌, subst, to_z-of_z}
-use mathlib.Core.Bool.{Bool, cond}
-use lib.IntN.{ℤ}
+use Rattle.settlement.proofs.Common.{rules, ◌≡◌, sym, ◌∙◌, subst, to_z-of_z}
+use mathlib.Core.Bool.{cond}
 use lib.Signed.{le_z}
-use Rattle.numbers.specs.inside.SignedLocals.{held, held_fits, kept_is}
+use Rattle.numbers.specs.inside.SignedLocals.{held, held_fits}
 use Rattle.settlement.specs.law.Settled.{agrees}
 use Rattle.settlement.specs.inside.Adding.{Grams, total_with, smaller_grams, pair_agreed, pair_cut}
 use Rattle.settlement.proofs.merge.with_pair.Statement.{statement}

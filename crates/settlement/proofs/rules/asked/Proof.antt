@@ -1,6 +1,5 @@
 -- 60, and where it has a yes the questions of the rows.
 use Rattle.settlement.proofs.Common.{rules, sym, ◌∙◌, to_z-of_z}
-use borrow.Author.Tests.{not-true, not-false}
 use Rattle.settlement.specs.law.RecordRules.{records_question, settle_questions}
 use Rattle.settlement.proofs.rules.asked.Statement.{statement}
 use Rattle.settlement.proofs.rules.asked.Tie as tie

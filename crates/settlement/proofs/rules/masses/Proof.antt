@@ -1,6 +1,5 @@
 -- The masses before `i` are in their range (`Asking`); what `in_grams` answers decides for `i`.
 use Rattle.settlement.proofs.Common.{rules, arith, refl, sym, ap, ◌∙◌, ◌-◌}
-use borrow.Author.Tests.{not-true, not-false}
 use Rattle.numbers.specs.law.Question.{first_no}
 use Rattle.numbers.specs.inside.ItemLaws.{Asking, asking, asking_on, asking_no, asking_end}
 use Rattle.numbers.specs.inside.SignedLocals.{kept_is}

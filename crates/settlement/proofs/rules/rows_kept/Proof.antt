@@ -3,7 +3,6 @@ use Rattle.settlement.proofs.Common.{arith, ◌≡◌, refl, sym, ◌∙◌, Boo
 use mathlib.Core.List.{List}
 use Prim.Native.Nat.{ℕ}
 use mathlib.Core.Bool.{false≢true, ◌&&◌}
-use borrow.Author.Tests.{not-true, not-false}
 use Rattle.numbers.specs.law.Question.{first_no, or_else}
 use Rattle.numbers.specs.inside.ItemLaws.{Asking, asking, asking_on, asking_no, asking_end}
 use Rattle.numbers.specs.inside.QuestionLaws.{and_first, and_second}

@@ -1,8 +1,7 @@
 -- The rows before `i` rise (`Asking`); what `rises` answers decides for `i`.
-use Rattle.settlement.proofs.Common.{rules, arith, refl, sym, ◌∙◌, ◌-◌}
+use Rattle.settlement.proofs.Common.{arith, refl, sym, ◌∙◌, ◌-◌}
 use Rattle.numbers.specs.law.Question.{first_no}
 use Rattle.numbers.specs.inside.ItemLaws.{Asking, asking, asking_on, asking_no, asking_end}
-use borrow.Author.Tests.{not-true, not-false}
 use Rattle.settlement.specs.law.Records.{rows_of}
 use Rattle.settlement.specs.law.RecordRules.{time_question, time_questions}
 use Rattle.settlement.proofs.rules.times.Statement.{statement}

@@ -1,7 +1,5 @@
 -- The remainder of the length decides whether all rows are whole, and then their count.
-use Rattle.settlement.proofs.Common.{rules, arith}
 use borrow.Author.Tests.{eq-eqb, ne_eqb}
-use Rattle.settlement.specs.law.Records.{rows_of}
 use Rattle.settlement.specs.law.RecordRules.{whole_rows}
 use Rattle.settlement.proofs.rules.whole_rows.Statement.{statement}
 use Rattle.settlement.proofs.rules.whole_rows.Tie as tie
