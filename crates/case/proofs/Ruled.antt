@@ -51,7 +51,8 @@ single true number s = refl
 single false number s = refl
 
 -- 16: the answer by what was found of all directions
-pub directions_asked : (l : List ℤ) (s offset : ℕ) (inside plain : ℤ) {b v : Bool} → offset ≡ station_at l s → inside ≡ station_nodes l s → plain ≡ plain_nodes l
+pub directions_asked : (l : List ℤ) (s offset : ℕ) (inside plain : ℤ) {b v : Bool} → offset ≡ station_at l s
+    → inside ≡ station_nodes l s → plain ≡ plain_nodes l
     → b ≡ every (direction_count l offset) (λ f. sets_kept (in_both inside plain) (direction_row l offset f)) → b ≡ v
     → answer v 16 0 s ≡ first_no (direction_sets l s)
 unfolding direction_sets

@@ -117,7 +117,8 @@ module _ {bytes : List ℕ} {start group value scale at : ℕ} where
   gathered zero g s h k = let f : ⊥ = omega (arith, s) in absurd f
   gathered (suc less) g s h k = gather_last less g h k
 
-  pub gather_on : (more : ℕ) → Gathering bytes start group value scale at more → 0 < more → at < length bytes → 128 ≤ get_or bytes at 0 → get_or bytes at 0 < 256
+  pub gather_on : (more : ℕ) → Gathering bytes start group value scale at more
+      → 0 < more → at < length bytes → 128 ≤ get_or bytes at 0 → get_or bytes at 0 < 256
       → Gathering bytes start group (value + scale * (get_or bytes at 0 - 128)) (scale * 128) (at + 1) (more - 1)
   gather_on zero g s h k l = let f : ⊥ = omega (arith, s) in absurd f
   gather_on (suc less) g s h k l = let e : suc less - 1 ≡ less = omega arith in rw e (gather_more less g h k l)

@@ -82,6 +82,7 @@ module _ {case : List ℤ} (a : AcceptedCase case) (v : ℕ) (p : v < nodes_of c
   fence_passed rows s l chosen = go (member_of (station_nodes case s) v) refl
     where
       go : (b : Bool) → member_of (station_nodes case s) v ≡ b
-          → fence_node_kept (fence_node case s) chosen v (artificial_flow case rows v) ≡ fence_node_kept (fence_node case s) chosen v (station_flow case rows s v)
+          → fence_node_kept (fence_node case s) chosen v (artificial_flow case rows v)
+          ≡ fence_node_kept (fence_node case s) chosen v (station_flow case rows s v)
       go true h = ap (fence_node_kept (fence_node case s) chosen v) (same_flow rows s l h)
       go false h = rw h

@@ -37,7 +37,8 @@ taken_none case rows s = record { each = λ m. bit_zero m ∙ sym (count_none (o
 
 -- ---- the machines of an arc are the station's own
 
-own_within : (kind : ℕ) (own x : ℤ) {n : ℕ} → machines_within kind own x ≡ true → subset_of own (first_items n) ≡ true → (m : ℕ) → n ≤ m → bit (pos_part x) m ≡ 0
+own_within : (kind : ℕ) (own x : ℤ) {n : ℕ} → machines_within kind own x ≡ true → subset_of own (first_items n) ≡ true
+    → (m : ℕ) → n ≤ m → bit (pos_part x) m ≡ 0
 unfolding machines_within
 own_within kind own x {n} k o m p = go (leb kind 4) k
   where

@@ -75,7 +75,8 @@ module _ {case rows : List ℤ} {i n : ℕ} {net : ℤ} (at : AtBalance case row
   residual_sized = omega (arith, mul-le-mul (duration_sized at.accepted i at.step).bound imbalance_sized)
 
 -- the answer by what was found of the residual
-pub balance_asked : (case rows : List ℤ) (i n : ℕ) {x y : ℤ} {b w : Bool} → x ≡ pos (node_residual case rows i n) → y ≡ mass_tolerance case → b ≡ le_z x y → b ≡ w
+pub balance_asked : (case rows : List ℤ) (i n : ℕ) {x y : ℤ} {b w : Bool} → x ≡ pos (node_residual case rows i n)
+    → y ≡ mass_tolerance case → b ≡ le_z x y → b ≡ w
     → answer w 33 (i + 1) n ≡ first_no (balance_questions case rows i n)
 unfolding balance_questions balance_kept
 balance_asked case rows i n {w = w} p q e k = rw (← p, ← q, sym e ∙ k) (single w)

@@ -7,7 +7,8 @@ use Rattle.case.specs.declared.records.Pipe.{Pipe}
 use Rattle.case.specs.declared.records.Machine.{Machine}
 use Rattle.case.specs.law.Layout.{edition_at, node_count_at, arc_count_at, station_count_at, step_count_at, node_kind_at, arc_kind_at, from_at, to_at, seven_at}
 use Rattle.case.specs.law.Layout.{arc_station_at, bothways_at, arc_weight_at, start_activity_at, most_machines_at}
-use Rattle.case.specs.law.Layout.{direction_count_at, state_count_at, machine_count_at, start_direction_at, start_state_at, direction_weight_at, state_weight_at}
+use Rattle.case.specs.law.Layout.{direction_count_at, state_count_at, machine_count_at, start_direction_at}
+use Rattle.case.specs.law.Layout.{start_state_at, direction_weight_at, state_weight_at}
 use Rattle.case.specs.law.Layout.{number_at, nodes_of, arcs_of, stations_of, steps_of, mass_tolerance, pressure_tolerance, node_at, arc_at, station_at}
 use Rattle.case.specs.law.Layout.{direction_at, state_at, case_end}
 use Rattle.case.specs.law.Records.{time_of, time_before, node_of, arc_of, pipe_of, artificial_of, station_of, direction_of, state_of, machine_row}

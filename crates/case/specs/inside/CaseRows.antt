@@ -189,7 +189,8 @@ module _ (case : List ℤ) where
         all_read case (state_fields case (station_at case s) z)
         (λ a. let b = simp flat at a in (omega (arith, ltb-true), search row_is), λ r. simp flat (search row_kept depth 40))
 
-    machine_read : (m : ℕ) → Read case (machine_fields case (station_at case s) m) (machine_at case (station_at case s) (suc m)) (CaseMachine (machine_of case s m))
+    machine_read : (m : ℕ) → Read case (machine_fields case (station_at case s) m) (machine_at case (station_at case s) (suc m))
+        (CaseMachine (machine_of case s m))
     unfolding machine_fields machine_at machine_width field
     machine_read m = all_read case (machine_fields case (station_at case s) m) (λ a. (omega (arith, ltb-true), search row_is), λ r. search row_kept depth 40)
 

@@ -76,7 +76,8 @@ module _ (case : List ℤ) where
   demands_read v k t =
       let offset = node_at case v in
       rw (demands_are case offset (steps_of case), ← add_assoc)
-      (fields_read case (offset + 6) (steps_of case) (least_demand (count_at case offset)) (most_demand (count_at case offset)) (λ i. CaseDemand (node_of case v i))
+      (fields_read case (offset + 6) (steps_of case) (least_demand (count_at case offset)) (most_demand (count_at case offset))
+      (λ i. CaseDemand (node_of case v i))
       (λ i. rw add_assoc (demand_iff (node_of case v i) k)) t)
 
   pub node_read : (v : ℕ) → Read case (node_fields case v) (node_at case v + node_width case) (NodeFacts case v)

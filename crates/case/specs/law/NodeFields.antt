@@ -4,7 +4,8 @@
 use Rattle.std.specs.Prelude.{cond, List, ◌++◌, ℕ, ◌+◌, eqb, ℤ, pos, negsuc}
 use Rattle.numbers.specs.law.Question.{Question}
 use Rattle.numbers.specs.law.Items.{over}
-use Rattle.case.specs.law.Layout.{number_at, count_at, nodes_of, steps_of, node_at, node_kind_at, p0_at, bounds_in, demand_in, low_at, high_at, actlow_at, acthigh_at}
+use Rattle.case.specs.law.Layout.{number_at, count_at, nodes_of, steps_of, node_at, node_kind_at, p0_at}
+use Rattle.case.specs.law.Layout.{bounds_in, demand_in, low_at, high_at, actlow_at, acthigh_at}
 use Rattle.case.specs.law.Field.{field, fields, most_pressure, most_flow}
 
 -- kind and p0 of the row that begins at index `offset`

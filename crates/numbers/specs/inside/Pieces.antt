@@ -2,7 +2,8 @@
 -- stand one after the other are found by their index.
 -- Assumes nothing.
 use Rattle.std.specs.Prelude.{◌≡◌, refl, List, [], ◌∷◌, ◌++◌, ℕ, zero, suc, ◌+◌, ◌-◌, ◌*◌, ◌≤◌, ◌<◌, min, length, get_or, take, drop, set}
-use Rattle.std.proofs.Common.{ap, sym, ◌∙◌, append_assoc, add-one, arith, length-set, length-append, drop-cons, get_or-set_same, get_or-set_other, get_or-append-add, drop_at}
+use Rattle.std.proofs.Common.{ap, sym, ◌∙◌, append_assoc, add-one, arith, length-set}
+use Rattle.std.proofs.Common.{length-append, drop-cons, get_or-set_same, get_or-set_other, get_or-append-add, drop_at}
 use Rattle.std.proofs.Math.ListN.{get_or-append}
 use Rattle.std.proofs.lemmas.List.Edits.{sets}
 use Rattle.std.proofs.Math.Seq.{length-sets, set_out, take-append_seam}

@@ -1,8 +1,10 @@
 -- Bytes that are cut short or followed by others: a reading goes by the bytes up to its place, and of those after it says nothing. Where they end inside a
 -- number, a byte 1 more ends that number; where a byte is wrong, those before it end inside a number; where the list is full, those before are read whole.
 -- Assumes nothing.
-use Rattle.std.specs.Prelude.{◌≡◌, refl, Bool, true, false, cond, List, [], ◌∷◌, ◌++◌, ℕ, zero, suc, ◌+◌, ◌*◌, ◌-◌, ◌≤◌, ◌<◌, ltb, leb, eqb, ℤ, length, take, drop}
-use Rattle.std.proofs.Common.{ap, sym, subst, ◌∙◌, append_assoc, arith, length-append, length-drop, take-append-drop, drop_of_length-le, length-take-le, drop_at, take-add}
+use Rattle.std.specs.Prelude.{◌≡◌, refl, Bool, true, false, cond, List, [], ◌∷◌, ◌++◌, ℕ, zero, suc}
+use Rattle.std.specs.Prelude.{◌+◌, ◌*◌, ◌-◌, ◌≤◌, ◌<◌, ltb, leb, eqb, ℤ, length, take, drop}
+use Rattle.std.proofs.Common.{ap, sym, subst, ◌∙◌, append_assoc, arith, length-append}
+use Rattle.std.proofs.Common.{length-drop, take-append-drop, drop_of_length-le, length-take-le, drop_at, take-add}
 use Rattle.numbers.specs.law.Mapping.{signed_of}
 use Rattle.numbers.specs.law.Reading.{number_of, later_bytes, last_byte, in_front, Read, Ending, all, no, with_first, after_number, read_from}
 use Rattle.numbers.specs.inside.ReadingBounds.{Within, within_number, used_some}

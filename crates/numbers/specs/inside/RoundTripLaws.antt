@@ -1,6 +1,7 @@
 -- The round trip, number by number: what the claims of it stand on.
 -- Assumes nothing.
-use Rattle.std.specs.Prelude.{◌≡◌, refl, Bool, true, false, cond, List, [], ◌∷◌, ◌++◌, ℕ, zero, suc, ◌+◌, ◌*◌, ◌-◌, ◌/◌, ◌%◌, ◌^◌, ◌≤◌, ◌<◌, ltb, leb, eqb, ℤ, length, drop}
+use Rattle.std.specs.Prelude.{◌≡◌, refl, Bool, true, false, cond, List, [], ◌∷◌, ◌++◌, ℕ, zero, suc, ◌+◌}
+use Rattle.std.specs.Prelude.{◌*◌, ◌-◌, ◌/◌, ◌%◌, ◌^◌, ◌≤◌, ◌<◌, ltb, leb, eqb, ℤ, length, drop}
 use Rattle.std.proofs.Common.{ap, ap₂, sym, ◌∙◌, pow-suc, arith, le-ltb, ne_eqb, ltb-true, ltb-false, leb-true, length-append}
 use Rattle.std.proofs.Math.Nat.{one-le-pow}
 use Rattle.std.proofs.lemmas.Bool.{eqb-false}
@@ -21,12 +22,14 @@ abbrev split : ℕ → ℕ → Bool → List ℕ
 split more m b = cond b (m ∷ []) ((m % 128 + 128) ∷ groups_up_to more (m / 128))
 
 -- those that come after the first
-later_groups : (more m : ℕ) (rest : List ℕ) → 1 ≤ m → m < 2 * 128 ^ more → later_bytes more (groups_up_to more m ++ rest) ≡ Whole m (length (groups_up_to more m))
+later_groups : (more m : ℕ) (rest : List ℕ) → 1 ≤ m → m < 2 * 128 ^ more
+    → later_bytes more (groups_up_to more m ++ rest) ≡ Whole m (length (groups_up_to more m))
 later_groups zero m rest h l = let e : m ≡ 1 = omega (arith, h, l) in rw e
 later_groups (suc more) m rest h l = go (ltb m 128) refl (later_groups more (m / 128) rest)
   where
     go : (b : Bool) → ltb m 128 ≡ b
-        → (1 ≤ m / 128 → m / 128 < 2 * 128 ^ more → later_bytes more (groups_up_to more (m / 128) ++ rest) ≡ Whole (m / 128) (length (groups_up_to more (m / 128))))
+        → (1 ≤ m / 128 → m / 128 < 2 * 128 ^ more → later_bytes more (groups_up_to more (m / 128) ++ rest)
+        ≡ Whole (m / 128) (length (groups_up_to more (m / 128))))
         → later_bytes (suc more) (split more m b ++ rest) ≡ Whole m (length (split more m b))
     go true t again =
         let z : eqb m 0 ≡ false = ne_eqb m 0 (λ e. omega arith) in
@@ -151,7 +154,8 @@ unfolding number_of groups
 number_whole [] v u f e = never e
 number_whole (b ∷ bytes) v u f e = go (ltb b 128) refl e
   where
-    go : (t : Bool) → ltb b 128 ≡ t → cond t (Whole b 1) (in_front (b - 128) (later_bytes 8 bytes)) ≡ Whole v u → groups_up_to 9 v ++ drop u (b ∷ bytes) ≡ b ∷ bytes
+    go : (t : Bool) → ltb b 128 ≡ t → cond t (Whole b 1) (in_front (b - 128) (later_bytes 8 bytes)) ≡ Whole v u
+        → groups_up_to 9 v ++ drop u (b ∷ bytes) ≡ b ∷ bytes
     go true t e =
         let w : b ≡ v = cc in
         let x : 1 ≡ u = cc in
@@ -173,7 +177,8 @@ bytes_drop (suc u) (b ∷ bytes) f = bytes_drop u bytes f.1
 ended_no {ℓ} : {X : Type ℓ} {n p : ℕ} → no n p ≡ all → X
 ended_no e = let z : ◌≡◌ {A = ℕ} 0 1 = cc in let f : ⊥ = omega arith in absurd f
 
-pub encode_read : (room place : ℕ) (bytes : List ℕ) → Bytes bytes → (read_from room place bytes).ended ≡ all → encode (read_from room place bytes).stored ≡ bytes
+pub encode_read : (room place : ℕ) (bytes : List ℕ) → Bytes bytes → (read_from room place bytes).ended ≡ all
+    → encode (read_from room place bytes).stored ≡ bytes
 encode_read zero place [] f e = refl
 encode_read zero place (b ∷ bytes) f e = ended_no e
 encode_read (suc room) place [] f e = refl

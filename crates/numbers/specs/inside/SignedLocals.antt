@@ -1,6 +1,7 @@
 -- Signed locals. The machine reads a local back from its bits, `to_z w64 (of_z w64 z)`; these laws say what is read, and that it fits.
 -- Assumes nothing.
-use Rattle.std.specs.Prelude.{◌≡◌, refl, Bool, true, false, List, ℕ, ◌+◌, ◌*◌, ◌-◌, ◌<◌, ◌≤◌, ◌^◌, max, T, ltb, ℤ, pos, negsuc, neg_ℤ, nat_abs, ◌+ℤ◌, ◌-ℤ◌, ◌*ℤ◌, get_or}
+use Rattle.std.specs.Prelude.{◌≡◌, refl, Bool, true, false, List, ℕ, ◌+◌, ◌*◌, ◌-◌, ◌<◌, ◌≤◌, ◌^◌}
+use Rattle.std.specs.Prelude.{max, T, ltb, ℤ, pos, negsuc, neg_ℤ, nat_abs, ◌+ℤ◌, ◌-ℤ◌, ◌*ℤ◌, get_or}
 use Rattle.std.proofs.Common.{ap, ◌∙◌, subst, mul-le-mul, le_trans, arith, ltb→lt, lt→ltb, SFits, Fits, to_z, of_z, to_z-of_z}
 use Rattle.std.specs.Int.Signed.{mag, non_neg, lt_z}
 use Rattle.std.specs.Int.{w64}
@@ -108,7 +109,8 @@ pub nonneg : {z : ℤ} → SFits w64 z → lt_z (to_z w64 (of_z w64 z)) (pos 0) 
 nonneg {z} f e = to_z-of_z f ∙ abs_above z (cc (to_z-of_z f))
 
 -- the goal of such a cast whole: `castu c.ranges.a` and the fact of the test
-pub castu : {z : ℤ} → SFits w64 z → lt_z (to_z w64 (of_z w64 z)) (pos 0) ≡ false → T (non_neg (to_z w64 (of_z w64 z))) × Fits w64 (nat_abs (to_z w64 (of_z w64 z)))
+pub castu : {z : ℤ} → SFits w64 z → lt_z (to_z w64 (of_z w64 z)) (pos 0) ≡ false
+    → T (non_neg (to_z w64 (of_z w64 z))) × Fits w64 (nat_abs (to_z w64 (of_z w64 z)))
 castu {z} f e = rw (nonneg f e) (tt, Fits-nat_abs tt f)
 
 -- what the cast gives: `nat_abs z`

@@ -89,7 +89,8 @@ module _ (case : List ℤ) (old : ℕ → ℤ) (rows : List ℤ) (i : ℕ) where
     stations = λ s q.
         let a = all_yes (station_questions case rows i s) (item_yes (station_questions case rows i) (stations_of case) (stations_yes case old rows i y) s q) in
         record { rule30 = a.0; rule31 = a.1.0; rule32 = a.1.1.0 };
-    rule33 = λ v q. (all_yes (balance_questions case rows i v) (item_yes (balance_questions case rows i) (nodes_of case) (balances_yes case old rows i y) v q)).0;
+    rule33 = λ v q. (all_yes (balance_questions case rows i v)
+        (item_yes (balance_questions case rows i) (nodes_of case) (balances_yes case old rows i y) v q)).0;
   }
 
   zero_add : (n : ℕ) → 0 + n ≡ n

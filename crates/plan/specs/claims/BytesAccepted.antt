@@ -57,7 +57,8 @@ module _ (b : ℕ) (next : Told) where
   plan_read_past (no n p) s e = let f : ⊥ = omega (arith, s.3, e) in absurd f
 
 module _ (case_bytes plan_bytes : List ℕ) (case_list plan_list : List ℤ) where
-  pub bytes_zero : (bytes_judged case_bytes plan_bytes case_list plan_list).told.number ≡ 0 → BytesAccepted case_bytes plan_bytes (length case_list) (length plan_list)
+  pub bytes_zero : (bytes_judged case_bytes plan_bytes case_list plan_list).told.number ≡ 0
+      → BytesAccepted case_bytes plan_bytes (length case_list) (length plan_list)
   unfolding bytes_judged
   bytes_zero e =
       let case = numbers_in case_bytes (length case_list) in

@@ -40,7 +40,8 @@ pub record Rule21 (n : Node) (r : NodeRow) : Type 0 where
   pub inner : n.kind ≡ 0 → (r.d ≡ pos 0) × (r.splus ≡ pos 0) × (r.sminus ≡ pos 0) × (r.uplus ≡ pos 0) × (r.uminus ≡ pos 0)
 
 flow_says : (kind : ℕ) (d : ℤ) → kind ≤ 2
-    → Says (boundary_flow_kept kind d) ((kind ≡ 0 → d ≡ pos 0) × (kind ≡ 1 → Between (pos 0) d (pos 10000000)) × (kind ≡ 2 → Between (negsuc 9999999) d (pos 0)))
+    → Says (boundary_flow_kept kind d) ((kind ≡ 0 → d ≡ pos 0) × (kind ≡ 1 → Between (pos 0) d (pos 10000000))
+    × (kind ≡ 2 → Between (negsuc 9999999) d (pos 0)))
 unfolding boundary_flow_kept
 flow_says kind d h = go (eqb kind 0) (eqb kind 1) refl refl
   where

@@ -19,7 +19,8 @@ use Rattle.case.specs.claims.Says.{Says, Between}
 use Rattle.case.specs.inside.SaysLaws.{means, then, both, choose, when, all, flag_says, ltb_says, le_says, zero_says, one_says}
 use Rattle.plan.specs.law.PlanRecords.{node_row, arc_row, choice_of, active_in, direction_in, state_in}
 use Rattle.plan.specs.law.Pipes.{duration}
-use Rattle.plan.specs.law.StationRules.{one_of, active_set, obeyed, choice_kept, on_arc, machines_once, station_flow, fence_node_kept, fence_kept, fence_flows_kept}
+use Rattle.plan.specs.law.StationRules.{one_of, active_set, obeyed, choice_kept, on_arc}
+use Rattle.plan.specs.law.StationRules.{machines_once, station_flow, fence_node_kept, fence_kept, fence_flows_kept}
 use Rattle.plan.specs.law.Balance.{outflow, inflow, net_flow, node_imbalance, node_residual, balance_kept}
 
 -- the direction and the state that the station has in the step
@@ -40,7 +41,8 @@ pub record Rule30 (case rows : List ℤ) (s : ℕ) : Type 0 where
   pub state : Between (pos 0) (choice_of case rows s).state (last_of (station_of case s).states)
   pub supports : member_of (chosen_state case rows s).directions (direction_in case rows s) ≡ true
   pub on : (e : ℕ) → e < arcs_of case → belongs case s e ≡ true → member_of (chosen_state case rows s).on (arcs_before case s e) ≡ true → IsActive case rows e
-  pub off : (e : ℕ) → e < arcs_of case → belongs case s e ≡ true → member_of (chosen_state case rows s).off (arcs_before case s e) ≡ true → ¬ IsActive case rows e
+  pub off : (e : ℕ) → e < arcs_of case → belongs case s e ≡ true → member_of (chosen_state case rows s).off (arcs_before case s e) ≡ true
+      → ¬ IsActive case rows e
 
 one_of_says : (x : ℤ) (n : ℕ) → Says (one_of x n) (Between (pos 0) x (last_of n))
 one_of_says x n =

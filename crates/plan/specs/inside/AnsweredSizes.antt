@@ -128,7 +128,8 @@ module _ (case : List ℤ) (old : ℕ → ℤ) (rows : List ℤ) (i : ℕ) where
       second_yes (pressure_questions case rows i e) (pipe_questions case old rows i e)
       (second_yes (flow_questions case rows i e) (pressure_questions case rows i e ++ pipe_questions case old rows i e) y)
 
-  pub arc_numbers_lem : (e : ℕ) → first_no (flow_questions case rows i e) ≡ Yes → arc_numbers_kept (arc_of case e) (artificial_of case e) (arc_row case rows e) ≡ true
+  pub arc_numbers_lem : (e : ℕ) → first_no (flow_questions case rows i e) ≡ Yes
+      → arc_numbers_kept (arc_of case e) (artificial_of case e) (arc_row case rows e) ≡ true
   unfolding flow_questions
   arc_numbers_lem e y = (all_yes (flow_questions case rows i e) y).0
 
@@ -163,7 +164,8 @@ module _ (case : List ℤ) (old : ℕ → ℤ) (rows : List ℤ) (i : ℕ) where
       let k = (all_yes (pipe_questions case old rows i e) (pipe_yes e (item_yes (arc_questions case old rows i) (arcs_of case) y e q))).0 in
       go (is_pipe case e) k
     where
-      go : (b : Bool) → (not b || le_z (pos (pipe_residual case old rows i e)) (mass_tolerance case)) ≡ true → only_n b (pipe_residual case old rows i e) ≤ 1000000
+      go : (b : Bool) → (not b || le_z (pos (pipe_residual case old rows i e)) (mass_tolerance case)) ≡ true
+          → only_n b (pipe_residual case old rows i e) ≤ 1000000
       go true k = small (pipe_residual case old rows i e) (mass_tolerance case) k (mass_sized c)
       go false k = omega arith
 

@@ -4,7 +4,8 @@ use Rattle.numbers.specs.law.Sums.{sum, sum_n, count}
 use Rattle.numbers.specs.law.Groups.{groups}
 use Rattle.numbers.specs.law.Reading.{read_of, read_told, number_of}
 use Rattle.case.specs.law.Extents.{most_nodes, most_arcs}
-use Rattle.case.specs.law.Layout.{node_width, node_at, bounds_in, demand_in, arc_at, station_at, direction_width, direction_at, state_at, machine_width, machine_at}
+use Rattle.case.specs.law.Layout.{node_width, node_at, bounds_in, demand_in, arc_at, station_at}
+use Rattle.case.specs.law.Layout.{direction_width, direction_at, state_at, machine_width, machine_at}
 use Rattle.case.specs.law.Field.{field, fields}
 use Rattle.case.specs.law.HeadFields.{count_fields, tolerance_fields, head_fields}
 use Rattle.case.specs.law.TimeFields.{time_field, time_fields}
@@ -86,7 +87,8 @@ nodes_and_arcs = tt
 -- 30 to 33
 unfoldable pub stations_and_balance : Unit {0}
 unfolding active_set obeyed choice_kept machines_once station_part station_flow fence_node_kept fence_flows_kept station_questions all_station_questions
-    flow_at_from flow_at_to out_part in_part outflow inflow net_flow node_imbalance node_residual balance_kept balance_questions all_balance_questions step_questions
+    flow_at_from flow_at_to out_part in_part outflow inflow net_flow node_imbalance node_residual balance_kept balance_questions
+    all_balance_questions step_questions
 stations_and_balance = tt
 
 -- the six totals, and the verdict

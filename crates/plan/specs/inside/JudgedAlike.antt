@@ -87,7 +87,8 @@ module _ (test : CompressionTest) (case plan : List ℤ) (h : Alike26 test case 
   arc_unmoved i e p l = let z : i + 1 - 1 ≡ i = omega arith in rw (z, h i e p l)
 
   step_unmoved : (i : ℕ) → i < steps_of case → Unmoved ask (plan_step case plan i)
-  unfolding plan_step step_questions all_node_questions node_questions all_arc_questions all_station_questions station_questions all_balance_questions balance_questions
+  unfolding plan_step step_questions all_node_questions node_questions all_arc_questions all_station_questions station_questions
+      all_balance_questions balance_questions
   step_unmoved i p =
       let rows = step_rows case plan i in
       let old = pressure_at case plan i in

@@ -27,7 +27,8 @@ not_judged case plan {n} {p} h e = go (first_no (questions case plan)) (judge_sm
 
 -- what is told of the case's reading, then of the case, then of the plan's reading, and else `next`
 abbrev pub in_turn : Ending → Answer → Ending → Told → Told
-in_turn case_ended case_judged plan_ended next = refused_or (read_answer case_ended) (refused_or case_judged (refused_or (on_plan_bytes (read_answer plan_ended)) next))
+in_turn case_ended case_judged plan_ended next = refused_or (read_answer case_ended)
+    (refused_or case_judged (refused_or (on_plan_bytes (read_answer plan_ended)) next))
 
 -- "1 to 3 on plan bytes become 5 (for 1), 6, 7"
 turned : (k n : ℕ) → 1 ≤ k → k ≤ 3 → plan_number k ≡ n + 4 → k ≡ n

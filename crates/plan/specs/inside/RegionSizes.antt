@@ -58,7 +58,8 @@ module _ {case rows : List ℤ} (h : RegionFlows case rows) where
 
   pub edge_small : (inside : ℕ → Bool) (e : ℕ) → e < arcs_of case → nat_abs (edge_flow case inside rows e) ≤ 20000000
   unfolding edge_flow
-  edge_small inside e l = go (begins_in case inside e) (ends_in case inside e) (flow_at_from case rows e) (flow_at_to case rows e) (from_small e l) (to_small e l)
+  edge_small inside e l = go (begins_in case inside e) (ends_in case inside e) (flow_at_from case rows e) (flow_at_to case rows e)
+      (from_small e l) (to_small e l)
     where
       go : (f g : Bool) (x y : ℤ) → nat_abs x ≤ 20000000 → nat_abs y ≤ 20000000 → nat_abs (inward f g x y) ≤ 20000000
       go true true x y m n = omega arith

@@ -29,7 +29,8 @@ module _ {case : List ℤ} (c : Counted case) where
       all_station_questions station_questions all_balance_questions balance_questions
   step_small old rows i l =
       let k : i < 48 = omega (arith, l, c.steps) in
-      all_append limit (all_node_questions case rows i) (all_arc_questions case old rows i ++ (all_station_questions case rows i ++ all_balance_questions case rows i))
+      all_append limit (all_node_questions case rows i)
+      (all_arc_questions case old rows i ++ (all_station_questions case rows i ++ all_balance_questions case rows i))
       (all_over limit (node_questions case rows i) 0 (nodes_of case) (λ v q. let h : v < node_capacity = omega (arith, q, c.nodes) in search rules))
       (all_append limit (all_arc_questions case old rows i) (all_station_questions case rows i ++ all_balance_questions case rows i)
       (all_over limit (arc_questions case old rows i) 0 (arcs_of case) (λ e q. let h : e < arc_capacity = omega (arith, q, c.arcs) in search rules))

@@ -91,7 +91,8 @@ module _ {case rows : List ℤ} (h : NodesSized case rows) (v : ℕ) (q : v < no
   demand_slack_le = let r = h.each v q in (sized r.splus +ʳ sized r.sminus).bound
 
 -- a pipe of a kept step
-pub at_pipe : {case old rows : List ℤ} {i e : ℕ} → AcceptedCase case → i < steps_of case → StepKept case old rows i → e < arcs_of case → (arc_of case e).kind ≡ 2
+pub at_pipe : {case old rows : List ℤ} {i e : ℕ} → AcceptedCase case → i < steps_of case
+    → StepKept case old rows i → e < arcs_of case → (arc_of case e).kind ≡ 2
     → AtPipe case old rows i e
 at_pipe {e = e} c s k q h = record {
   at = record {

@@ -149,7 +149,8 @@ plan_list_after case plan_bytes list = reached_if (first_no (case_questions case
 module _ (case : List ℤ) (plan_bytes : List ℕ) (room : ℕ) where
   pub plan_read_lem : {count : ℕ} (list : List ℤ) {r : Verdict} → first_no (case_questions case) ≡ Yes → ReadAll plan_bytes room count
       → take count list ≡ (read_of plan_bytes room).stored
-      → r ≡ verdict_of (first_no (plan_questions case (take count list))) (totals_of case (take count list)) → verdict_told r ≡ plan_bytes_told case plan_bytes room
+      → r ≡ verdict_of (first_no (plan_questions case (take count list))) (totals_of case (take count list))
+      → verdict_told r ≡ plan_bytes_told case plan_bytes room
   unfolding plan_bytes_told
   plan_read_lem {count} list y a e h = judge_yes case (take count list) y h ∙ rw (e, a.ended)
 
@@ -187,7 +188,8 @@ module _ (case_bytes plan_bytes : List ℕ) (case_list plan_list : List ℤ) whe
 
   -- they were not, and the plan's list is not reached
   pub case_unread : {n p : ℕ} → (read_of case_bytes (length case_list)).ended ≡ no n p
-      → (refuses n 0 p ≡ (bytes_judged case_bytes plan_bytes case_list plan_list).told) × (plan_list ≡ (bytes_judged case_bytes plan_bytes case_list plan_list).plan_list)
+      → (refuses n 0 p ≡ (bytes_judged case_bytes plan_bytes case_list plan_list).told)
+      × (plan_list ≡ (bytes_judged case_bytes plan_bytes case_list plan_list).plan_list)
   unfolding bytes_judged
   case_unread e = (rw e, rw e)
 

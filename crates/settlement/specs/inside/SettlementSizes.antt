@@ -40,7 +40,8 @@ unfolding settle_questions records_question
 settle_small sender receiver agreed =
     small_next limit (records_question sender receiver agreed) (row_questions sender receiver) (omega arith) (omega arith) (omega arith) (omega arith) (λ y.
     let s = whole_few sender (and_first (whole_rows sender) _ y) in
-    let r = whole_few receiver (and_first (whole_rows receiver) (in_grams agreed) (and_second (whole_rows sender) (whole_rows receiver && in_grams agreed) y)) in
+    let r = whole_few receiver (and_first (whole_rows receiver) (in_grams agreed)
+    (and_second (whole_rows sender) (whole_rows receiver && in_grams agreed) y)) in
     let masses = all_append limit (mass_questions sender) (mass_questions receiver) (masses_small sender s) (masses_small receiver r) in
     let later = all_append limit (time_questions receiver) _ (times_small receiver r) masses in
     all_small limit (row_questions sender receiver) (all_append limit (time_questions sender) _ (times_small sender s) later))

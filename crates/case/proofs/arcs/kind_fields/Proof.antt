@@ -41,7 +41,13 @@ returns_4 : tie.Need-returns-in_default
 unfolding kind_fields
 returns_4 c =
     let i = c.before.before.before in
-    rw (← kind_is i.before, lt-leb _ _ i.in_default.if-kind-lt2-own.false, ne_eqb _ _ i.in_default.in_default-own.rest.1, lt-leb _ _ i.in_default.if-kind-lt5-own.false, first_no_append)
+    rw (
+      ← kind_is i.before,
+      lt-leb _ _ i.in_default.if-kind-lt2-own.false,
+      ne_eqb _ _ i.in_default.in_default-own.rest.1,
+      lt-leb _ _ i.in_default.if-kind-lt5-own.false,
+      first_no_append,
+    )
     (chain c.or_else-in_default.ensures c.member_fields-in_default.ensures c.compressor_fields.ensures)
 
 pub kind_fields_spec : {M : Type 1} → statement M

@@ -7,7 +7,8 @@ use Rattle.case.proofs.fields.fields.Statement.{statement}
 use Rattle.case.proofs.fields.fields.Tie as tie
 
 abbrev invariant-loop-j : tie.invariant-loop-j
-invariant-loop-j case i n low high j₀ j = Asking (next_field case i (to_z w64 low) (to_z w64 high)) (first_no (fields case i n (to_z w64 low) (to_z w64 high))) j n
+invariant-loop-j case i n low high j₀ j = Asking (next_field case i (to_z w64 low) (to_z w64 high))
+    (first_no (fields case i n (to_z w64 low) (to_z w64 high))) j n
 
 abbrev decreases-loop-j : tie.decreases-loop-j
 decreases-loop-j case i n low high j₀ j = n - j

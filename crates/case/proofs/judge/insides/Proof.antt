@@ -9,7 +9,8 @@ use Rattle.case.proofs.judge.insides.Statement.{statement}
 use Rattle.case.proofs.judge.insides.Tie as tie
 
 abbrev invariant-loop-s : tie.invariant-loop-s
-invariant-loop-s case arcs stations inside₀ s₀ inside s = (s ≤ stations) × (length inside ≡ 8) × Holds (pos 0) inside (station_nodes case) s × Clear (pos 0) inside s
+invariant-loop-s case arcs stations inside₀ s₀ inside s = (s ≤ stations) × (length inside ≡ 8)
+    × Holds (pos 0) inside (station_nodes case) s × Clear (pos 0) inside s
 
 abbrev decreases-loop-s : tie.decreases-loop-s
 decreases-loop-s case arcs stations inside₀ s₀ inside s = stations - s

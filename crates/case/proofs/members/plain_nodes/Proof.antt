@@ -21,7 +21,10 @@ loop_again c =
     let t = b.before in
     let g = t.loop-e.invariant in
     let f = sym b.plain.ensures in
-    elim c.if-plain.branch [ then-plain x ↦ gather_yes g t.loop-e-test.true (x.set-is ∙ x.with_ends-set.ensures) (f ∙ x.if-plain.true) | else-plain x ↦ gather_no g t.loop-e-test.true x.set-is (f ∙ x.if-plain.false) ]
+    elim c.if-plain.branch [
+      | then-plain x ↦ gather_yes g t.loop-e-test.true (x.set-is ∙ x.with_ends-set.ensures) (f ∙ x.if-plain.true)
+      | else-plain x ↦ gather_no g t.loop-e-test.true x.set-is (f ∙ x.if-plain.false)
+    ]
 
 returns : tie.Need-returns invariant-loop-e decreases-loop-e
 returns c = gather_end c.loop-e.invariant c.loop-e-test.false

@@ -20,7 +20,10 @@ loop_again c =
     let b = c.before in
     let t = b.before in
     let f = sym b.belongs.ensures in
-    elim c.if-belongs.branch [ then-belongs x ↦ tally_yes t.loop-e.invariant t.loop-e-test.true x.own-is (f ∙ x.if-belongs.true) | else-belongs x ↦ tally_no t.loop-e.invariant t.loop-e-test.true x.own-is (f ∙ x.if-belongs.false) ]
+    elim c.if-belongs.branch [
+      | then-belongs x ↦ tally_yes t.loop-e.invariant t.loop-e-test.true x.own-is (f ∙ x.if-belongs.true)
+      | else-belongs x ↦ tally_no t.loop-e.invariant t.loop-e-test.true x.own-is (f ∙ x.if-belongs.false)
+    ]
 
 returns : tie.Need-returns invariant-loop-e decreases-loop-e
 unfolding arcs_before

@@ -21,7 +21,10 @@ loop_again c =
     let t = b.before in
     let g = t.loop-e.invariant in
     let f = sym b.belongs.ensures in
-    elim c.if-belongs.branch [ then-belongs x ↦ gather_yes g t.loop-e-test.true (x.nodes-is ∙ x.with_ends-nodes.ensures) (f ∙ x.if-belongs.true) | else-belongs x ↦ gather_no g t.loop-e-test.true x.nodes-is (f ∙ x.if-belongs.false) ]
+    elim c.if-belongs.branch [
+      | then-belongs x ↦ gather_yes g t.loop-e-test.true (x.nodes-is ∙ x.with_ends-nodes.ensures) (f ∙ x.if-belongs.true)
+      | else-belongs x ↦ gather_no g t.loop-e-test.true x.nodes-is (f ∙ x.if-belongs.false)
+    ]
 
 returns : tie.Need-returns invariant-loop-e decreases-loop-e
 returns c = gather_end c.loop-e.invariant c.loop-e-test.false

@@ -23,7 +23,10 @@ loop_again c =
     let t = b.before.before in
     let h = t.before in
     let e = simp (kept (get_or h.args.inside h.loop-s.s (pos 0)) b.member-arg-1.given) at (sym b.member.ensures) in
-    elim c.if-member.branch [ then-member x ↦ tally_yes h.loop-s.invariant t.loop-s-test.true x.n-is (e ∙ x.if-member.true) | else-member x ↦ tally_no h.loop-s.invariant t.loop-s-test.true x.n-is (e ∙ x.if-member.false) ]
+    elim c.if-member.branch [
+      | then-member x ↦ tally_yes h.loop-s.invariant t.loop-s-test.true x.n-is (e ∙ x.if-member.true)
+      | else-member x ↦ tally_no h.loop-s.invariant t.loop-s-test.true x.n-is (e ∙ x.if-member.false)
+    ]
 
 returns : tie.Need-returns invariant-loop-s decreases-loop-s
 returns c = tally_end c.loop-s.invariant c.loop-s-test.false

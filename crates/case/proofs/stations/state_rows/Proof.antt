@@ -7,7 +7,8 @@ use Rattle.case.proofs.stations.state_rows.Statement.{statement}
 use Rattle.case.proofs.stations.state_rows.Tie as tie
 
 abbrev invariant-loop-z : tie.invariant-loop-z
-invariant-loop-z case offset first directions states sets z₀ z = Asking (state_fields case offset) (first_no (over (state_fields case offset) 0 states)) z states
+invariant-loop-z case offset first directions states sets z₀ z =
+    Asking (state_fields case offset) (first_no (over (state_fields case offset) 0 states)) z states
 
 abbrev decreases-loop-z : tie.decreases-loop-z
 decreases-loop-z case offset first directions states sets z₀ z = states - z

@@ -46,5 +46,6 @@ returns c =
 
 pub station_end_spec : {M : Type 1} → statement M
 station_end_spec = tie.close (tie.spec
-    invariant-loop-m decreases-loop-m (λ c κs. search rules) (λ c κs. search rules) loop_holds (λ c κs. search rules) add_end (λ c. omega arith) (λ c. omega arith)
+    invariant-loop-m decreases-loop-m (λ c κs. search rules) (λ c κs. search rules) loop_holds (λ c κs. search rules) add_end
+    (λ c. omega arith) (λ c. omega arith)
     loop_again returns)

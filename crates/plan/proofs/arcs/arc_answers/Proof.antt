@@ -63,5 +63,6 @@ returns_2 c =
 
 pub arc_answers_spec : {M : Type 1} → statement M
 arc_answers_spec = tie.close (tie.spec
-    invariant-loop-e decreases-loop-e loop_holds (λ c. search rules) arc_answer_requires (λ c. search rules) (λ c. search rules) returns add_e (λ c. omega arith)
+    invariant-loop-e decreases-loop-e loop_holds (λ c. search rules) arc_answer_requires (λ c. search rules) (λ c. search rules)
+    returns add_e (λ c. omega arith)
     loop_again returns_2)

@@ -72,7 +72,8 @@ returns c =
     let r = s.args.rows.now in
     let e : h.loop-e.e ≡ arcs_of l = omega (arith, s.requires.1, h.loop-e.invariant.0, c.loop-e-test.false) in
     record {
-      each = λ i p. h.loop-e.invariant.1.each i (omega (arith, p, (counted s.requires.0).nodes)) ∙ ap (λ (n : ℕ). sum n (node_part l r i)) e ∙ net_flow_lem l r i;
+      each = λ i p. h.loop-e.invariant.1.each i (omega (arith, p, (counted s.requires.0).nodes))
+          ∙ ap (λ (n : ℕ). sum n (node_part l r i)) e ∙ net_flow_lem l r i;
     }
 
 pub net_flows_spec : {M : Type 1} → statement M

@@ -16,7 +16,8 @@ open_valve : (way : Way) (mode : Mode) (r : ArcRow) → true ≡ no_flow_against
 open_valve Forward mode r = refl
 open_valve Backward mode r = refl
 
-plain : (artificial : Bool) (s : Setting) (way : Way) (mode : Mode) (r : ArcRow) → s ≡ Active way mode → artificial ≡ false → true ≡ no_flow_against artificial s r
+plain : (artificial : Bool) (s : Setting) (way : Way) (mode : Mode) (r : ArcRow)
+    → s ≡ Active way mode → artificial ≡ false → true ≡ no_flow_against artificial s r
 plain artificial s way mode r e f =
     open_valve way mode r ∙ sym (ap (λ (x : Setting). no_flow_against false x r) e) ∙ sym (ap (λ (b : Bool). no_flow_against b s r) f)
 

@@ -46,7 +46,10 @@ loop_again c =
     let g = h.loop-e.invariant.1 in
     let q = o.own_station-s.ensures in (
       omega arith,
-      elim c.if-s-lt-NO_STATION.branch [ then-s-lt-NO_STATION x ↦ rw (x.sets-is, x.counts-is) (active_more g q x.if-s-lt-NO_STATION.true refl x.with_active.ensures) | else-s-lt-NO_STATION x ↦ rw (x.sets-is, x.counts-is) (active_same g q x.if-s-lt-NO_STATION.false) ],
+      elim c.if-s-lt-NO_STATION.branch [
+        | then-s-lt-NO_STATION x ↦ rw (x.sets-is, x.counts-is) (active_more g q x.if-s-lt-NO_STATION.true refl x.with_active.ensures)
+        | else-s-lt-NO_STATION x ↦ rw (x.sets-is, x.counts-is) (active_same g q x.if-s-lt-NO_STATION.false)
+      ],
     )
 
 returns : tie.Need-returns invariant-loop-e decreases-loop-e

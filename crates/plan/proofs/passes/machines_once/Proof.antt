@@ -39,7 +39,13 @@ loop_again c =
       elim c.if-s-lt-NO_STATION.branch [
         | then-s-lt-NO_STATION x ↦
             let m = machines_are
-            (record { before = record { before = record { before = record { before = o; if-s-lt-NO_STATION = x.if-s-lt-NO_STATION }; arc_row = x.arc_row }; struct_told-1 = x.struct_told-1 }; index-machines = x.index-machines }) in
+            (record {
+              before = record {
+                before = record { before = record { before = o; if-s-lt-NO_STATION = x.if-s-lt-NO_STATION }; arc_row = x.arc_row };
+                struct_told-1 = x.struct_told-1;
+              };
+              index-machines = x.index-machines;
+            }) in
             let small : x.index-machines.result < 2 ^ 64 = omega (arith, x.index-machines.type_inv) in
             elim x.if-machines-had-ne0.branch [
               | then-machines-had-ne0 y ↦ rw (x.once-is, x.taken-is, y.once-is)

@@ -61,7 +61,8 @@ returns c =
     let t = q.before in
     let s = t.before.before.before.before in
     let l = s.args.case.now in
-    let state = ap₂ (state_row l) (s.requires.0.at.laid.offsets.each s.args.s s.requires.0.station) (j.index-then-one_of-2.ensures ∙ ap pos_part (state_is t)) in
+    let state = ap₂ (state_row l) (s.requires.0.at.laid.offsets.each s.args.s s.requires.0.station)
+    (j.index-then-one_of-2.ensures ∙ ap pos_part (state_is t)) in
     let on = to_z_pos w64 (small s) ∙ ap pos s.requires.1 in
     let bits = pos (active_bits l s.args.rows.now s.args.s) in
     rw (sym (direction_in_lem q) ∙ o.if-one_of.true, sym (state_in_lem o) ∙ w.if-one_of-2.true)

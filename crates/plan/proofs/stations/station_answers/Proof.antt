@@ -88,5 +88,6 @@ pub station_answers_spec : {M : Type 1} → statement M
 station_answers_spec = tie.close (tie.spec
     invariant-loop-s decreases-loop-s (λ c κs. (c.requires.0.accepted, c.requires.0.laid.arcs)) machines_once_requires artificial_flows_requires loop_holds
     (λ c. omega (arith, c.loop-s-test.true, c.requires.0.laid.stations, (counted c.requires.0.accepted).stations))
-    (λ c. omega (arith, c.loop-s-test.true, c.requires.0.laid.stations, (counted c.requires.0.accepted).stations)) (λ c. omega (arith, station_few c)) (λ c. search rules)
+    (λ c. omega (arith, c.loop-s-test.true, c.requires.0.laid.stations, (counted c.requires.0.accepted).stations))
+    (λ c. omega (arith, station_few c)) (λ c. search rules)
     station_answer_requires (λ c. search rules) (λ c. search rules) returns (λ c. omega arith) (λ c. omega arith) loop_again returns_2)

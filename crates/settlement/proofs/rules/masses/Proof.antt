@@ -39,4 +39,5 @@ returns_2 c = asking_end c.loop-i.invariant c.loop-i-test.false
 
 pub masses_spec : {M : Type 1} → statement M
 masses_spec = tie.close (tie.spec
-    invariant-loop-i decreases-loop-i loop_holds (λ c κs. c.loop-i-test.true) (λ c κs. search rules) returns (λ c. omega arith) (λ c. omega arith) loop_again returns_2)
+    invariant-loop-i decreases-loop-i loop_holds (λ c κs. c.loop-i-test.true) (λ c κs. search rules) returns
+    (λ c. omega arith) (λ c. omega arith) loop_again returns_2)
