@@ -1,4 +1,4 @@
-//! What the crates of the Rattle kit do, as far as the gas plan crates call them, for these crates as Rust.
+//! What Rattle's std does, as far as the gas plan program calls it, for the crates as Rust.
 //!
 //! The program's two files and what it prints are kept in memory, one set for each thread: see [`run`].
 #![forbid(unsafe_code)]
@@ -34,7 +34,10 @@ thread_local! {
 }
 
 /// What a program prints that is run in a folder with these files.
-pub fn run(files: Vec<(&'static [u8], Vec<u8>)>, main: fn()) -> Vec<u8> {
+pub fn run(
+    files: Vec<(&'static [u8], Vec<u8>)>,
+    main: fn(rt::HostRuntime) -> io::Result<()>,
+) -> Vec<u8> {
     FOLDER.with_borrow_mut(|folder| {
         folder.files = files
             .into_iter()
@@ -42,51 +45,67 @@ pub fn run(files: Vec<(&'static [u8], Vec<u8>)>, main: fn()) -> Vec<u8> {
             .collect();
         folder.printed.clear();
     });
-    main();
+    main(rt::HostRuntime).expect("a program that ends well");
     FOLDER.with_borrow(|folder| folder.printed.clone())
 }
 
-pub mod bytes {
-    /// Puts the word at the line's front; the answer is its length.
-    pub fn copy(word: &[u8], line: &mut [u8]) -> usize {
-        line[..word.len()].copy_from_slice(word);
-        word.len()
-    }
+pub mod rt {
+    /// What is handed to `main`: the leave to open files, and standard output.
+    pub struct HostRuntime;
+
+    pub trait Files {}
+
+    impl Files for HostRuntime {}
 }
 
-pub mod os {
-    use super::FOLDER;
+pub mod fs {
+    use super::{FOLDER, io, rt};
 
-    /// A number for the file, and -1 where there is none of this name.
-    pub fn open_read(path: &[u8]) -> i32 {
+    /// A file of the folder by its place there.
+    pub struct File(usize);
+
+    pub fn open(_: &impl rt::Files, path: &str) -> io::Result<File> {
         FOLDER.with_borrow(|folder| {
-            let found = folder.files.iter().position(|(name, _, _)| *name == path);
-            found.map_or(-1, |place| place as i32)
+            let mut names = folder.files.iter().map(|(name, _, _)| *name);
+            let found = names.position(|name| name == path.as_bytes());
+            found.map(File).ok_or(io::Error)
         })
+    }
+
+    impl io::Read for File {
+        /// Fills the buffer as far as the file goes; the answer is the count of bytes.
+        fn read(&mut self, buffer: &mut [u8]) -> io::Result<usize> {
+            FOLDER.with_borrow_mut(|folder| {
+                let (_, file, at) = &mut folder.files[self.0];
+                let count = buffer.len().min(file.len() - *at);
+                buffer[..count].copy_from_slice(&file[*at..*at + count]);
+                *at += count;
+                Ok(count)
+            })
+        }
     }
 }
 
 pub mod io {
-    use super::FOLDER;
+    use super::{FOLDER, rt};
 
-    /// Fills the buffer as far as the file goes; the answer is the count of bytes.
-    pub fn read_full(fd: i32, buffer: &mut [u8]) -> usize {
-        FOLDER.with_borrow_mut(|folder| {
-            let (_, file, at) = &mut folder.files[fd as usize];
-            let count = buffer.len().min(file.len() - *at);
-            buffer[..count].copy_from_slice(&file[*at..*at + count]);
-            *at += count;
-            count
-        })
+    #[derive(Debug)]
+    pub struct Error;
+
+    pub type Result<T> = std::result::Result<T, Error>;
+
+    pub trait Read {
+        fn read(&mut self, buffer: &mut [u8]) -> Result<usize>;
     }
 
-    pub fn write_all(_: i32, bytes: &[u8]) {
-        FOLDER.with_borrow_mut(|folder| folder.printed.extend_from_slice(bytes));
+    pub trait Print {
+        fn write_all(&self, bytes: &[u8]) -> Result<()>;
     }
-}
 
-pub mod libc {
-    pub const STDOUT_FILENO: i32 = 1;
-
-    pub fn close(_: i32) {}
+    impl Print for rt::HostRuntime {
+        fn write_all(&self, bytes: &[u8]) -> Result<()> {
+            FOLDER.with_borrow_mut(|folder| folder.printed.extend_from_slice(bytes));
+            Ok(())
+        }
+    }
 }
