@@ -1,6 +1,6 @@
 /* The gas plan checker, for programs in C and C++.
  *
- * Link libgasplan.a: `rt staticlib gasplan` proves it and writes it to target/staticlib, `./install PREFIX` puts it where
+ * Link libgasplan.a: `tools/prove gasplan` proves it and writes it to target/staticlib, `./install PREFIX` puts it where
  * `pkg-config --cflags --libs gasplan` finds it. What a case, a plan and a record are, and each refusal at length, is in
  * RULES.md (docs, or PREFIX/share/doc/gasplan).
  *

@@ -48,7 +48,7 @@ fn folder() -> Result<PathBuf, String> {
         // The repository's own and no other: an installed one may be older.
         Some(root) if root.join("crates/gasplan").is_dir() => with_archive(
             root.join("target/staticlib"),
-            "make it with 'rt staticlib gasplan' in the repository's root",
+            "make it with 'tools/prove gasplan' in the repository's root",
         ),
         _ => with_archive(installed()?, "pkg-config names this folder"),
     }

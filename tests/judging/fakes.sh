@@ -43,52 +43,62 @@ tools() {
     done
 }
 
-# Lines of rt, with a pause in which a crate is proved.
+# A prover that builds the program as it was, with pauses in which a crate is proved; one that fails; and one that another run waits for.
 provers() {
     local tree=$room/prover
     tree "$tree"
     mkdir "$room/fake"
+    mv "$tree/target/bin/checker" "$tree/crates/checker/program"
     script "$room/fake/rt" <<'END'
-[[ $* == "check checker" ]] || exit 9
-echo "rt: numbers proved (unchanged since it was last proved)"
+[[ $* != version ]] || { echo one; exit; }
+[[ $* == run && $PWD == */crates/checker ]] || exit 9
+echo "only=0 proved=0"
+echo "rt: chose --jobs 2 for case"
 sleep 3
 echo "fn case::head: proved"
-echo "rt: case proved (48 s)"
-echo "rt: plan proved (0 s)"
-echo "rt: line proved (2 s)"
+echo "logic=proved functions=89 sum=0"
+for crate in plan line; do echo "rt: chose --jobs 1 for $crate" && echo "logic=proved functions=9 sum=0"; done
+echo "rt: chose --jobs 2 for checker"
 sleep 3
-echo "rt: checker proved (15 s)"
-echo "rt: checker ran, and wrote what its file 'stdout' has (0 s)"
+echo "logic=proved functions=2 sum=0"
+echo "rt: running out/checker; to give it other input, run that file yourself"
+mkdir -p out
+cp program out/checker
 END
     run "a prover at work" env PATH="$room/fake:$PATH" "$tree/judge" "$tree/examples/incident"
     ends 1 "$incident"
-    cmp -s <(grep -E 'prov(ed \(|ing|es)' "$room/err") <(printf 'judge: %s\n' "the first run proves everything, which takes about three minutes" \
-        "proving case .." "case proved (48 s)" "plan proved (0 s)" "line proved (2 s)" "proving checker .." "checker proved (15 s)") ||
-        fail "other lines were due for the crates"
+    cmp -s <(grep -E 'prov(ed \(|ing|es)' "$room/err" | sed 's/([0-9]* s)/(some s)/') <(printf 'judge: %s\n' \
+        "the first run proves everything, which takes about three minutes" "proving case .." "case proved (some s)" "plan proved (some s)" \
+        "line proved (some s)" "proving checker .." "checker proved (some s)") || fail "other lines were due for the crates"
     is_silent_on 'fn case::head'
     grep -q 'fn case::head: proved' "$tree/target/judge.log" || fail "the log is not whole"
 
-    script "$room/fake/rt" <<<'for n in {1..40}; do echo "line $n"; done; echo "rt: plan NOT PROVED (exit 1, 9 s)" >&2; exit 1'
-    run "a prover that fails" env PATH="$room/fake:$PATH" "$tree/judge" "$tree/examples/incident"
-    ends 2
-    says 'ended with status 1.*target/judge.log'
-    says 'rt: plan NOT PROVED'
-    says 'no verdict: the program is not proved'
-    is_silent_on '^line 1$'
-    [[ $(wc -l <"$tree/target/judge.log") == 41 ]] || fail "the log is not whole"
-
-    # rt goes by its stamp, and would leave a program out that was removed
-    script "$room/fake/rt" <<<'[[ -f target/stamp/checker ]] || { cp crates/checker/program target/bin/checker; echo "rt: checker proved (15 s)"; }'
-    mv "$tree/target/bin/checker" "$tree/crates/checker/program"
-    run "a program that was removed" env PATH="$room/fake:$PATH" "$tree/judge" "$tree/examples/incident"
-    ends 1 "$incident"
-
-    script "$room/fake/rt" <<<'exit 0'
     flock "$tree/target/judge.lock" sleep 5 &
     run "another run at work" env PATH="$room/fake:$PATH" "$tree/judge" "$tree/examples/incident"
     ends 1 "$incident"
     says 'waiting for another run'
+    is_silent_on 'prov(ed|es)'
     wait
+
+    rm "$tree/target/bin/checker"
+    run "a program that was removed" env PATH="$room/fake:$PATH" "$tree/judge" "$tree/examples/incident"
+    ends 1 "$incident"
+    says 'checker proved'
+
+    echo "accepted 0 0 0 0 0 0" >"$tree/crates/checker/stdout"
+    run "a program that prints something else than its crate says" env PATH="$room/fake:$PATH" "$tree/judge" "$tree/examples/incident"
+    ends 2
+    says 'does not print what crates/checker/stdout has'
+    says 'no verdict: the program is not proved'
+
+    script "$room/fake/rt" <<<'for n in {1..40}; do echo "line $n"; done; echo "logic=not-proved" >&2; exit 1'
+    run "a prover that fails" env PATH="$room/fake:$PATH" "$tree/judge" "$tree/examples/incident"
+    ends 2
+    says 'ended with status 1.*target/judge.log'
+    says 'logic=not-proved'
+    says 'no verdict: the program is not proved'
+    is_silent_on '^line 1$'
+    [[ $(wc -l <"$tree/target/judge.log") == 41 ]] || fail "the log is not whole"
 }
 
 needs() {

@@ -13,10 +13,16 @@ path_without() { # FOLDER NAME..
     (cd "$1" && rm -f "${@:2}")
 }
 
+# The crates, without what the prover keeps beside them.
+sources() { # FOLDER
+    tar -c --exclude='crates/*/out' crates crates.txt | tar -x -C "$1"
+}
+
 # What ./judge needs, with the program as it was proved here.
 tree() { # FOLDER
     mkdir -p "$1/target/bin" "$1/target/stamp" "$1/tools" "$1/examples"
-    cp -r judge crates.txt crates "$1"
+    sources "$1"
+    cp judge "$1"
     cp tools/needs tools/prove "$1/tools"
     cp -r examples/line examples/incident "$1/examples"
     cp target/stamp/checker "$1/target/stamp"
