@@ -9,7 +9,7 @@ use std::os::unix::fs::{PermissionsExt, symlink};
 use std::path::Path;
 use std::process::Command;
 
-use common::{COMMAND, judge_many, root, scratch, skipped, text};
+use common::{COMMAND, judge_many, outside, root, skipped, text};
 
 /// Called as `ssh [-l USER] MACHINE -- COMMAND..`; notes the machine, and begins elsewhere, as a login does.
 const SSH: &str = r#"#!/bin/sh
@@ -78,7 +78,7 @@ fn the_recipe_for_many_machines() {
     if !is_installed() {
         return;
     }
-    let place = scratch("machines");
+    let place = outside("machines");
     let examples = ["two-nodes", "incident", "line", "crowd"];
     prepare(&place, "one\nplanner@two\n:\n", &examples, 2_300);
     let (status, reached) = run(&place);
@@ -100,7 +100,7 @@ fn a_machine_that_is_down() {
     if !is_installed() {
         return;
     }
-    let place = scratch("machine-down");
+    let place = outside("machine-down");
     prepare(&place, "down\none\n", &["two-nodes", "line"], 1_000);
     let (status, reached) = run(&place);
     assert_eq!(status, Some(2), "all others are accepted");
@@ -117,7 +117,7 @@ fn all_are_accepted() {
     if !is_installed() {
         return;
     }
-    let place = scratch("machines-accept");
+    let place = outside("machines-accept");
     prepare(&place, "one\n", &["two-nodes", "line"], 600);
     assert_eq!(run(&place), (Some(0), "one\none\n".to_string()));
 }

@@ -9,7 +9,8 @@ use std::path::{Path, PathBuf};
 use std::process::{Command, Stdio};
 
 use common::{
-    Files, LIMITS, any_files, judge_many, root, scratch, second_line, skipped, text, write_folders,
+    Files, LIMITS, any_files, judge_many, outside, root, scratch, second_line, skipped, text,
+    write_folders,
 };
 
 const HEADER: &str = "folder,verdict,number,step,place,pressure_slack,demand_slack,switching_cost,residual,gas_at_start,gas_at_end,note\n";
@@ -192,7 +193,8 @@ fn each_line_and_status_is_that_of_judge() {
     let judge = install_judge(&scratch("judge-installed"), &program);
     let all: Vec<Files> = (20_000..20_040).map(any_files).collect();
     let (_, mut names) = write_folders("judge", &all);
-    names.extend(broken(&scratch("broken")));
+    let links = outside("broken");
+    names.extend(broken(&links));
     let mut open = 0;
     for name in &names {
         let run = Command::new(&judge).arg(name).stdin(Stdio::null()).output();

@@ -1,10 +1,12 @@
 //! Folders to judge, and the command run on them.
 #![allow(dead_code)] // each test uses a part
 
+use std::env::temp_dir;
 use std::fs;
 use std::io::{Write, stdout};
+use std::ops::Deref;
 use std::path::{Path, PathBuf};
-use std::process::{Command, Output};
+use std::process::{Command, Output, id};
 
 use inputs::aimed::AIMS;
 use inputs::bytes::{BYTES_AIMS, encode};
@@ -28,6 +30,29 @@ pub fn scratch(name: &str) -> PathBuf {
     let _ = fs::remove_dir_all(&folder);
     fs::create_dir_all(&folder).expect("a folder to write into");
     folder
+}
+
+/// An empty folder with links, as long as this is held: outside the repository, in which the prover takes no link.
+pub struct Outside(PathBuf);
+
+pub fn outside(name: &str) -> Outside {
+    let folder = temp_dir().join(format!("gasplan-{name}-{}", id()));
+    fs::create_dir(&folder).expect("a folder to write into");
+    Outside(folder)
+}
+
+impl Deref for Outside {
+    type Target = Path;
+
+    fn deref(&self) -> &Path {
+        &self.0
+    }
+}
+
+impl Drop for Outside {
+    fn drop(&mut self) {
+        let _ = fs::remove_dir_all(&self.0);
+    }
 }
 
 pub fn judge_many(words: &[&str]) -> Output {
