@@ -51,7 +51,7 @@ provers() {
     mv "$tree/target/bin/checker" "$tree/crates/checker/program"
     script "$room/fake/rt" <<'END'
 [[ $* != version ]] || { echo one; exit; }
-[[ $* == run && $PWD == */crates/checker ]] || exit 9
+[[ $* == "run --cpu x86-64" && $PWD == */crates/checker ]] || exit 9
 echo "only=0 proved=0"
 echo "rt: chose --jobs 2 for case"
 sleep 3
