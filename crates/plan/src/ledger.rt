@@ -162,6 +162,7 @@ fn gather(
 }
 
 // The figures of the region `inside`, which has `size` nodes.
+#[inline(never)] // so that the ledger's call stays within the stack that the header names
 fn figures(
     case: &[i64],
     plan: &[i64],
