@@ -1,10 +1,9 @@
--- Questions that are asked one group after the other: the first group that has a "no" answers for all.
+-- Questions that are asked one after the other, group after group and item after item: the first "no" answers for all.
 -- Assumes nothing.
-use mathlib.Core.Path.{◌≡◌, ap₂, ◌∙◌}
-use Rattle.numbers.specs.law.Question.{or_else}
+use Rattle.case.proofs.Common.{first_no_append, to_z-of_z}
+use Rattle.numbers.specs.inside.ItemLaws.{rest_turn, rest_done}
+use Rattle.numbers.specs.inside.QuestionLaws.{or_else_yes}
 pub use Rattle.numbers.specs.inside.QuestionLaws.{went_on, stopped}
-use Rattle.numbers.specs.declared.answer.Answer.{Answer}
 
--- the first no of two
-pub chain : {a b r x y : Answer} → r ≡ or_else a b → a ≡ x → b ≡ y → r ≡ or_else x y
-chain e p q = e ∙ ap₂ or_else p q
+-- what answers a function that asks with ?: the laws of groups and of items, and that a signed number is read back as it is
+pub ruleset questions = (first_no_append, or_else_yes, rest_turn, rest_done, to_z-of_z)

@@ -5,4 +5,6 @@ pub mod Asked
 pub mod Counting
 pub mod Rows
 pub mod Ruled
-pub mod Ends
+pub mod Gathered
+pub mod Chains
+pub mod Laid

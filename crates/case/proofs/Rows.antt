@@ -1,52 +1,45 @@
--- Where rows begin, from the counts as they were read, and the questions of one row.
+-- Where rows begin: each where the one before it ends.
 -- Assumes nothing.
-use Rattle.case.proofs.Common.{arith, ◌≡◌, first_no_append}
+use Rattle.case.proofs.Common.{arith, ◌≡◌, refl}
 use mathlib.Core.List.{List}
-use Prim.Native.Nat.{ℕ, ◌+◌, ◌*◌, ◌≤◌}
+use Prim.Native.Nat.{ℕ, ◌+◌, ◌*◌}
 use lib.IntN.{ℤ}
-use Rattle.numbers.specs.law.Question.{first_no, or_else}
-use Rattle.numbers.specs.declared.answer.Answer.{Answer}
-use Rattle.case.specs.law.Extents.{arcs_extent, stations_extent}
-use Rattle.case.specs.law.Layout.{nodes_of, arcs_of, stations_of, steps_of, arc_at, state_at, station_at}
-use Rattle.case.specs.inside.Counts.{Counts, Counted}
-use Rattle.case.specs.inside.Places.{arcs_begin, stations_begin}
-use Rattle.case.specs.law.ArcFields.{end_fields, kind_fields, arc_fields}
-use Rattle.case.proofs.Asked.{chain}
+use Rattle.case.specs.law.Layout.{steps_of, node_at, direction_at, state_at, station_at}
+use Rattle.case.specs.law.Layout.{direction_count, direction_width}
+use Rattle.case.specs.law.StationFields.{row_fields, station_fields}
+use Rattle.case.specs.inside.CountsInRange.{machine_narrow, row_counted, row_narrow}
+use Rattle.case.specs.inside.Places.{node_next, node_width_lem, direction_next, direction_width_lem, state_early, machine_next, machine_early}
+use Rattle.case.specs.inside.Places.{machines_begin, station_next, end_most}
 
-pub arc_row_lem : (l : List ℤ) (e : ℕ) {first : ℕ} → first ≡ arc_at l 0 → first + e * 11 ≡ arc_at l e
-unfolding arc_at
-arc_row_lem l e h = omega (arith, h)
+module _ (l : List ℤ) where
+  pub node_first : node_at l 0 ≡ 7 + steps_of l
+  unfolding node_at
+  node_first = omega arith
 
-pub state_row_lem : (l : List ℤ) (offset z : ℕ) {first : ℕ} → first ≡ state_at l offset 0 → first + z * 4 ≡ state_at l offset z
-unfolding state_at
-state_row_lem l offset z h = omega (arith, h)
+  pub direction_first : (offset : ℕ) → direction_at l offset 0 ≡ offset + 5
+  unfolding direction_at
+  direction_first offset = omega arith
 
-pub arc_asked : (l : List ℤ) (e offset : ℕ) {a b r : Answer} → offset ≡ arc_at l e → r ≡ or_else a b → a ≡ first_no (end_fields l offset)
-    → b ≡ first_no (kind_fields l offset) → r ≡ first_no (arc_fields l e)
-unfolding arc_fields
-arc_asked l e offset h o p q = rw (← h, first_no_append) (chain o p q)
+  pub state_place : (offset z : ℕ) → state_at l offset z ≡ offset + 5 + direction_count l offset * direction_width l + z * 4
+  unfolding state_at direction_at
+  state_place offset z = omega arith
 
--- the head's counts as they were read, and where the stations' rows begin
-pub record Begins (l : List ℤ) (n a t k first : ℕ) : Type 0 where
-  pub nodes : n ≡ nodes_of l
-  pub arcs : a ≡ arcs_of l
-  pub stations : t ≡ stations_of l
-  pub steps : k ≡ steps_of l
-  pub arc : first ≡ arc_at l 0
-  pub station : first + a * 11 ≡ station_at l 0
-  pub early_arc : arc_at l 0 ≤ arcs_extent
-  pub early_station : station_at l 0 ≤ stations_extent
+  pub station_row : (s : ℕ) → station_fields l s ≡ row_fields l (station_at l s)
+  unfolding station_fields
+  station_row s = refl
 
-pub begins : {l : List ℤ} {n a t k first : ℕ} → Counted l → Counts l 1 n → Counts l 2 a → Counts l 3 t → Counts l 4 k → first ≡ arc_at l 0
-    → Begins l n a t k first
-unfolding station_at arc_at
-begins {l} c n a t k f = record {
-  nodes = n.value;
-  arcs = a.value;
-  stations = t.value;
-  steps = k.value;
-  arc = f;
-  station = rw a.value (omega (arith, f));
-  early_arc = arcs_begin l c;
-  early_station = stations_begin l c;
-}
+-- nodes, directions and states, whose rows have one width each
+pub ruleset node_laws = (node_first, node_next, node_width_lem)
+
+pub ruleset direction_laws = (direction_first, direction_next, direction_width_lem)
+
+pub ruleset state_laws = (state_place, direction_width_lem, state_early)
+
+-- a machine's row begins where the one before it ends, and is narrow
+pub ruleset machine_laws = (machine_next, machine_narrow, machine_early)
+
+-- the rows of a station's parts begin early
+pub ruleset part_laws = (state_early, machines_begin)
+
+-- what a station's rows without a "no" say of it, and where the next station begins
+pub ruleset station_laws = (station_row, row_counted, row_narrow, station_next, end_most)

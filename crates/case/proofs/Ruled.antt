@@ -1,66 +1,88 @@
--- One item of a rule has one question, which is answered by what was found of the item; the layout says of it what the case does.
+-- What the rules find by the layout is what the law says of the case.
 -- Assumes nothing.
-use Rattle.case.proofs.Common.{◌∙◌, ◌≡◌, ap, sym, refl, ℕ, ◌<◌, ◌≤◌}
-use mathlib.Core.Bool.{Bool, true, false}
-use mathlib.Core.List.{List, [], ◌∷◌}
-use borrow.Author.Tests.{le-leb, lt-leb}
-use lib.IntN.{ℤ}
-use Rattle.numbers.specs.law.Sets.{member_of}
+use Rattle.std.specs.Prelude.{◌≡◌, refl, ◌&&◌, List, ℕ, ◌<◌, ◌^◌, ℤ, pos, get_or, Ok}
+use Rattle.std.proofs.Common.{ap, sym, leb-true}
+use Rattle.numbers.specs.law.Items.{over}
+use Rattle.numbers.specs.law.Question.{first_no}
+use Rattle.numbers.specs.law.Sets.{member_of, subset_of}
+use Rattle.numbers.specs.law.Signed.{pos_part}
 use Rattle.numbers.specs.law.Sums.{count}
-use Rattle.numbers.specs.law.Question.{first_no, answer}
-use Rattle.numbers.specs.declared.answer.Answer.TheVariants.{Yes, No}
+use Rattle.numbers.specs.inside.ItemLaws.{item_yes}
+use Rattle.numbers.specs.inside.QuestionLaws.{all_yes}
 use Rattle.case.specs.declared.records.Layout.{Layout}
-use Rattle.case.specs.law.Layout.{stations_of, station_at, direction_count}
-use Rattle.case.specs.law.Records.{station_of, direction_row}
+use Rattle.case.specs.law.Extents.{set_room}
+use Rattle.case.specs.law.Layout.{nodes_of, arcs_of, stations_of}
 use Rattle.case.specs.law.LayoutOf.{LayoutOf}
-use Rattle.case.specs.inside.InSet.{in_set, in_both}
-use Rattle.case.specs.law.StationArcs.{station_arcs, every}
-use Rattle.case.specs.law.StationNodes.{station_nodes, plain_nodes}
-use Rattle.case.specs.law.OneStation.{in_station, one_station}
-use Rattle.case.specs.law.StationSize.{station_size}
-use Rattle.case.specs.law.Directions.{sets_kept, direction_kept, direction_sets}
-use Rattle.case.specs.law.States.{station_kept, state_sets}
+use Rattle.case.specs.law.Records.{station_of}
+use Rattle.case.specs.law.StationArcs.{every}
+use Rattle.case.specs.law.ArcEnds.{arc_ends, all_arc_ends}
+use Rattle.case.specs.law.OneStation.{in_station, one_station, all_one_station}
+use Rattle.case.specs.law.StationSize.{station_size, all_station_sizes}
+use Rattle.case.specs.law.Directions.{only_fence, direction_kept, direction_sets, all_direction_sets}
+use Rattle.case.specs.law.States.{state_sets, all_state_sets}
+use Rattle.case.specs.inside.Counts.{Sized}
 use Rattle.case.specs.inside.CountLaws.{count_same}
+use Rattle.case.specs.inside.InSet.{in_set, in_both, directions_kept}
+use Rattle.case.specs.inside.SetLaws.{node_set, only_both}
+use Rattle.case.proofs.Asked.{questions}
+
+-- the items of each rule
+module _ (l : List ℤ) where
+  pub arcs_asked : all_arc_ends l ≡ over (arc_ends l) 0 (arcs_of l)
+  unfolding all_arc_ends
+  arcs_asked = refl
+
+  pub nodes_asked : all_one_station l ≡ over (one_station l) 0 (nodes_of l)
+  unfolding all_one_station
+  nodes_asked = refl
+
+  pub sizes_asked : all_station_sizes l ≡ over (station_size l) 0 (stations_of l)
+  unfolding all_station_sizes
+  sizes_asked = refl
+
+  pub directions_asked : all_direction_sets l ≡ over (direction_sets l) 0 (stations_of l)
+  unfolding all_direction_sets
+  directions_asked = refl
+
+  pub states_asked : all_state_sets l ≡ over (state_sets l) 0 (stations_of l)
+  unfolding all_state_sets
+  states_asked = refl
 
 -- 14: the stations that have the node, by the layout's sets
-pub stations_with : {l : List ℤ} {y : Layout} → LayoutOf l y → (v : ℕ) → count y.stations (in_set y.inside v) ≡ count (stations_of l) (in_station l v)
+pub stations_with : {l : List ℤ} {y : Layout} → LayoutOf l y → (v : ℕ)
+    → count y.stations (in_set y.inside v) ≡ count (stations_of l) (in_station l v)
 stations_with {l} {y} h v =
     rw h.stations
     (count_same (in_set y.inside v) (in_station l v) (stations_of l) (λ s p. ap (λ (z : ℤ). member_of z v) (h.inside.each s p)))
 
-pub one_no : (l : List ℤ) (v : ℕ) {n : ℕ} → n ≡ count (stations_of l) (in_station l v) → 1 < n → No 14 0 v ≡ first_no (one_station l v)
-unfolding one_station
-one_no l v e h = rw (← e, lt-leb _ _ h)
+-- 16: the directions of a station, by the layout's sets
+pub directions_are : {l : List ℤ} {y : Layout} → LayoutOf l y → (s : ℕ) → s < y.stations
+    → directions_kept l (get_or y.offsets s 0) (get_or y.inside s (pos 0)) y.plain ≡ every (station_of l s).directions (direction_kept l s)
+unfolding in_both directions_kept
+directions_are {l} {y} h s p =
+    let q : s < stations_of l = rw h.stations at p in
+    rw (h.offsets.each s q, h.inside.each s q, h.plain)
 
-pub one_yes : (l : List ℤ) (v : ℕ) {n : ℕ} → n ≡ count (stations_of l) (in_station l v) → n ≤ 1 → Yes ≡ first_no (one_station l v)
-unfolding one_station
-one_yes l v e h = rw (← e, le-leb _ _ h)
+-- a node set that holds only nodes that are in both sets is within each
+pub fence_of : (inside plain set : ℤ) → pos_part set < 2 ^ set_room
+    → only_fence (in_both inside plain) set ≡ (subset_of set inside && subset_of set plain)
+fence_of inside plain set h = sym (only_both inside plain set h)
 
--- 15
-pub size_no : (l : List ℤ) (s : ℕ) {n : ℕ} → n ≡ station_arcs l s → 30 < n → No 15 0 s ≡ first_no (station_size l s)
-unfolding station_size
-size_no l s e h = rw (← e, lt-leb _ _ h)
+-- 15, where it has let the case pass
+pub sized : (l : List ℤ) → first_no (all_station_sizes l) ≡ Ok tt → Sized l
+unfolding all_station_sizes station_size
+sized l e = record { each = λ s p. leb-true _ _ (all_yes (station_size l s) (item_yes (station_size l) (stations_of l) e s p)).0 }
 
-pub size_yes : (l : List ℤ) (s : ℕ) {n : ℕ} → n ≡ station_arcs l s → n ≤ 30 → Yes ≡ first_no (station_size l s)
-unfolding station_size
-size_yes l s e h = rw (← e, le-leb _ _ h)
-
--- the answer to one question
-single : (v : Bool) (number s : ℕ) → answer v number 0 s ≡ first_no (record { yes = v; number = number; step = 0; place = s } ∷ [])
-single true number s = refl
-single false number s = refl
-
--- 16: the answer by what was found of all directions
-pub directions_asked : (l : List ℤ) (s offset : ℕ) (inside plain : ℤ) {b v : Bool} → offset ≡ station_at l s
-    → inside ≡ station_nodes l s → plain ≡ plain_nodes l
-    → b ≡ every (direction_count l offset) (λ f. sets_kept (in_both inside plain) (direction_row l offset f)) → b ≡ v
-    → answer v 16 0 s ≡ first_no (direction_sets l s)
-unfolding direction_sets
-directions_asked l s offset inside plain {b} {v} r i p e w =
-    let k : b ≡ every (station_of l s).directions (direction_kept l s) = rw (r, i, p) at e in
-    rw (sym k ∙ w) (single v 16 s)
-
--- 17
-pub states_asked : (l : List ℤ) (s : ℕ) {b v : Bool} → b ≡ station_kept l s → b ≡ v → answer v 17 0 s ≡ first_no (state_sets l s)
-unfolding state_sets
-states_asked l s {v = v} e w = rw (sym e ∙ w) (single v 17 s)
+pub ruleset rule_laws = (
+  questions,
+  arcs_asked,
+  nodes_asked,
+  sizes_asked,
+  directions_asked,
+  states_asked,
+  stations_with,
+  directions_are,
+  node_set,
+  fence_of,
+  sized,
+)

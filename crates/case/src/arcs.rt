@@ -8,80 +8,62 @@ ghost use Rattle.case.specs.law.ArcFields.{end_fields, pipe_fields, least_both_w
 
 use super::fields::{MOST_FLOW, MOST_PRESSURE, MOST_WEIGHT, field, fields};
 use super::offsets::{ARC, count, last};
-use numbers::answer::{Answer, or_else};
+use numbers::answer::Answer;
 
+#[tactic(auto, using(crate::proofs::Asked::questions), unfolding(crate::specs::law::ArcFields::end_fields))]
 fn end_fields(case: &[i64], offset: usize) -> Answer
     requires { offset ≤ stations_extent }
     ensures { result ≡ first_no (end_fields case.now offset) }
 {
     let last_node = last(count(case, 0, 1));
-    or_else(
-        field(case, offset, 0, 6),
-        or_else(
-            fields(case, offset + 1, 2, 0, last_node),
-            field(case, offset + 3, 0, MOST_FLOW),
-        ),
-    )
+    field(case, offset, 0, 6)?;
+    fields(case, offset + 1, 2, 0, last_node)?;
+    field(case, offset + 3, 0, MOST_FLOW)
 }
 
+#[tactic(auto, using(crate::proofs::Asked::questions), unfolding(crate::specs::law::ArcFields::pipe_fields))]
 fn pipe_fields(case: &[i64], offset: usize) -> Answer
     requires { offset ≤ stations_extent }
     ensures { result ≡ first_no (pipe_fields case.now offset) }
 {
-    or_else(
-        field(case, offset + 4, 1, 100000000),
-        or_else(
-            fields(case, offset + 5, 2, 0, 10000000),
-            or_else(
-                field(case, offset + 7, -200000, 200000),
-                fields(case, offset + 8, 3, 0, 0),
-            ),
-        ),
-    )
+    field(case, offset + 4, 1, 100000000)?;
+    fields(case, offset + 5, 2, 0, 10000000)?;
+    field(case, offset + 7, -200000, 200000)?;
+    fields(case, offset + 8, 3, 0, 0)
 }
 
 // A shortcut goes both ways.
 fn least_both_ways(kind: usize) -> i64
     ensures { result ≡ least_both_ways kind }
 {
-    match kind {
-        3 => 1,
-        _ => 0,
-    }
+    i64::from(kind == 3)
 }
 
+#[tactic(auto, using(crate::proofs::Asked::questions), unfolding(crate::specs::law::ArcFields::member_fields))]
 fn member_fields(case: &[i64], offset: usize, kind: usize) -> Answer
     requires { (offset ≤ stations_extent) × (kind ≡ count_at case.now offset) }
     ensures { result ≡ first_no (member_fields case.now offset) }
 {
     let last_station = last(count(case, 0, 3));
     let least = least_both_ways(kind);
-    or_else(
-        field(case, offset + 4, 0, last_station),
-        or_else(
-            field(case, offset + 5, least, 1),
-            or_else(
-                field(case, offset + 6, 0, MOST_WEIGHT),
-                field(case, offset + 7, 0, 1),
-            ),
-        ),
-    )
+    field(case, offset + 4, 0, last_station)?;
+    field(case, offset + 5, least, 1)?;
+    field(case, offset + 6, 0, MOST_WEIGHT)?;
+    field(case, offset + 7, 0, 1)
 }
 
+#[tactic(auto, using(crate::proofs::Asked::questions), unfolding(crate::specs::law::ArcFields::compressor_fields))]
 fn compressor_fields(case: &[i64], offset: usize) -> Answer
     requires { offset ≤ stations_extent }
     ensures { result ≡ first_no (compressor_fields case.now offset) }
 {
-    or_else(
-        field(case, offset + 8, 0, 4095),
-        or_else(
-            field(case, offset + 9, 0, 12),
-            field(case, offset + 10, 0, MOST_PRESSURE),
-        ),
-    )
+    field(case, offset + 8, 0, 4095)?;
+    field(case, offset + 9, 0, 12)?;
+    field(case, offset + 10, 0, MOST_PRESSURE)
 }
 
 // The seven fields past the first four.
+#[tactic(auto, using(crate::proofs::Asked::questions), unfolding(crate::specs::law::ArcFields::kind_fields))]
 fn kind_fields(case: &[i64], offset: usize) -> Answer
     requires { offset ≤ stations_extent }
     ensures { result ≡ first_no (kind_fields case.now offset) }
@@ -90,36 +72,26 @@ fn kind_fields(case: &[i64], offset: usize) -> Answer
     match kind {
         0 | 1 => fields(case, offset + 4, 7, 0, 0),
         2 => pipe_fields(case, offset),
-        3 | 4 => or_else(
-            member_fields(case, offset, kind),
-            fields(case, offset + 8, 3, 0, 0),
-        ),
-        _ => or_else(
-            member_fields(case, offset, kind),
-            compressor_fields(case, offset),
-        ),
+        3 | 4 => {
+            member_fields(case, offset, kind)?;
+            fields(case, offset + 8, 3, 0, 0)
+        }
+        _ => {
+            member_fields(case, offset, kind)?;
+            compressor_fields(case, offset)
+        }
     }
 }
 
+#[tactic(auto, using(crate::proofs::Asked::questions), unfolding(crate::specs::law::ArcFields::arc_fields, crate::specs::law::Layout::arc_at))]
 pub(crate) fn arc_rows(case: &[i64], first: usize, arcs: usize) -> Answer
     requires { (first ≤ arcs_extent) × (arcs ≤ arc_capacity) × (first ≡ arc_at case.now 0) }
     ensures { result ≡ first_no (over (arc_fields case.now) 0 arcs) }
 {
-    let mut e: usize = 0;
-    while e < arcs {
+    for e in 0..arcs {
         let offset = first + e * ARC;
-        let a = or_else(end_fields(case, offset), kind_fields(case, offset));
-        match a {
-            Answer::Yes => {}
-            Answer::No {
-                number: _,
-                step: _,
-                place: _,
-            } => {
-                return a;
-            }
-        }
-        e += 1;
+        end_fields(case, offset)?;
+        kind_fields(case, offset)?;
     }
-    Answer::Yes
+    Ok(())
 }

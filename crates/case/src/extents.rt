@@ -16,12 +16,14 @@ pub(crate) const MOST_SET: i64 = 1152921504606846975; // 2^60 - 1
 
 pub(crate) const LAST_EDITION: i64 = 1;
 
+#[tactic(auto, unfolding(crate::specs::law::Extents::most_nodes))]
 pub(crate) fn most_nodes(case: &[i64]) -> i64
     ensures { result ≡ pos (most_nodes case.now) }
 {
     60
 }
 
+#[tactic(auto, unfolding(crate::specs::law::Extents::most_arcs))]
 pub(crate) fn most_arcs(case: &[i64]) -> i64
     ensures { result ≡ pos (most_arcs case.now) }
 {

@@ -3,7 +3,7 @@ ghost use Rattle.std.specs.Prelude.{◌≡◌, ◌+◌, ◌<◌, ◌^◌};
 ghost use Rattle.numbers.specs.law.Question.{first_no};
 ghost use Rattle.case.specs.law.Field.{field, fields};
 
-use numbers::answer::{Answer, ask};
+use numbers::answer::{Answer, No, ask};
 use numbers::compare::within;
 
 // Limits that several fields share.
@@ -15,40 +15,28 @@ pub(crate) const MOST_FLOW: i64 = 10000000;
 
 pub(crate) const MOST_WEIGHT: i64 = 1000000;
 
+#[tactic(auto, using(crate::proofs::Asked::questions), unfolding(crate::specs::law::Field::field))]
 pub(crate) fn field(case: &[i64], i: usize, low: i64, high: i64) -> Answer
     ensures { result ≡ first_no (field case.now i low high) }
 {
-    if i < case.len() {
-        let x = case[i];
-        ask(within(low, x, high), 11, 0, i)
-    } else {
-        Answer::No {
+    match case.get(i) {
+        Some(x) => ask(within(low, *x, high), 11, 0, i),
+        None => Err(No {
             number: 10,
             step: 0,
             place: i,
-        }
+        }),
     }
 }
 
 // The `n` fields from `i` on, which share their range.
+#[tactic(auto, using(crate::proofs::Asked::questions), unfolding(crate::specs::law::Field::fields))]
 pub(crate) fn fields(case: &[i64], i: usize, n: usize, low: i64, high: i64) -> Answer
     requires { i + n < 2 ^ 63 }
     ensures { result ≡ first_no (fields case.now i n low high) }
 {
-    let mut j: usize = 0;
-    while j < n {
-        let a = field(case, i + j, low, high);
-        match a {
-            Answer::Yes => {}
-            Answer::No {
-                number: _,
-                step: _,
-                place: _,
-            } => {
-                return a;
-            }
-        }
-        j += 1;
+    for j in 0..n {
+        field(case, i + j, low, high)?;
     }
-    Answer::Yes
+    Ok(())
 }

@@ -11,34 +11,31 @@ use super::extents::{LAST_EDITION, most_arcs, most_nodes};
 use super::fields::field;
 use super::offsets::HEAD;
 use super::read::time_before;
-use numbers::answer::{Answer, or_else};
+use numbers::answer::Answer;
 
 // Edition, nodes, arcs, stations, steps.
+#[tactic(auto, using(crate::proofs::Asked::questions), unfolding(crate::specs::law::HeadFields::count_fields))]
 fn counts(case: &[i64]) -> Answer
     ensures { result ≡ first_no (count_fields case.now) }
 {
-    or_else(
-        field(case, 0, 1, LAST_EDITION),
-        or_else(
-            field(case, 1, 1, most_nodes(case)),
-            or_else(
-                field(case, 2, 0, most_arcs(case)),
-                or_else(field(case, 3, 0, 8), field(case, 4, 1, 48)),
-            ),
-        ),
-    )
+    field(case, 0, 1, LAST_EDITION)?;
+    field(case, 1, 1, most_nodes(case))?;
+    field(case, 2, 0, most_arcs(case))?;
+    field(case, 3, 0, 8)?;
+    field(case, 4, 1, 48)
 }
 
+#[tactic(auto, using(crate::proofs::Asked::questions), unfolding(crate::specs::law::HeadFields::head_fields, crate::specs::law::HeadFields::tolerance_fields))]
 pub(crate) fn head(case: &[i64]) -> Answer
     ensures { result ≡ first_no (head_fields case.now) }
 {
-    or_else(
-        counts(case),
-        or_else(field(case, 5, 0, 1000000), field(case, 6, 0, 1000)),
-    )
+    counts(case)?;
+    field(case, 5, 0, 1000000)?;
+    field(case, 6, 0, 1000)
 }
 
 // The time at which the step with index `i` ends, by the time at which it begins.
+#[tactic(auto, using(crate::proofs::Asked::questions), unfolding(crate::specs::law::TimeFields::time_field))]
 fn time_field(case: &[i64], i: usize) -> Answer
     requires { (i < 48) × (Bounded (time_before case.now i) 4147200) }
     ensures { result ≡ first_no (time_field case.now i) }
@@ -47,24 +44,13 @@ fn time_field(case: &[i64], i: usize) -> Answer
     field(case, HEAD + i, before + 1, before + 86400)
 }
 
+#[tactic(auto, using(crate::proofs::Asked::questions, crate::proofs::Counting::time_grows))]
 pub(crate) fn times(case: &[i64], steps: usize) -> Answer
     requires { steps ≤ 48 }
     ensures { result ≡ first_no (over (time_field case.now) 0 steps) }
 {
-    let mut i: usize = 0;
-    while i < steps {
-        let a = time_field(case, i);
-        match a {
-            Answer::Yes => {}
-            Answer::No {
-                number: _,
-                step: _,
-                place: _,
-            } => {
-                return a;
-            }
-        }
-        i += 1;
+    for i in 0..steps {
+        time_field(case, i)?;
     }
-    Answer::Yes
+    Ok(())
 }

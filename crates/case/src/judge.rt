@@ -18,9 +18,10 @@ use super::offsets::{ARC, HEAD, count, node_width};
 use super::records::{Laying, Layout};
 use super::rules::rules;
 use super::stations::{station_end, station_rows};
-use numbers::answer::{Answer, or_else};
+use numbers::answer::Answer;
 
 // Where the arcs' rows begin.
+#[tactic(auto, using(crate::proofs::Laid::arc_first, crate::proofs::Laid::nodes_room))]
 fn first_arc(case: &[i64]) -> usize
     requires { Counted case.now }
     ensures { result ≡ arc_at case.now 0 }
@@ -29,6 +30,7 @@ fn first_arc(case: &[i64]) -> usize
 }
 
 // 10 to 12 past the head, whose counts are in range.
+#[tactic(auto, using(crate::proofs::Laid::begin_laws), unfolding(crate::specs::law::Judged::row_questions))]
 fn rows(case: &[i64]) -> Answer
     requires { Counted case.now }
     ensures { result ≡ first_no (row_questions case.now) }
@@ -38,34 +40,23 @@ fn rows(case: &[i64]) -> Answer
     let stations = count(case, 0, 3);
     let steps = count(case, 0, 4);
     let first = first_arc(case);
-    or_else(
-        times(case, steps),
-        or_else(
-            node_rows(case, steps, nodes),
-            or_else(
-                arc_rows(case, first, arcs),
-                station_rows(case, first + arcs * ARC, stations),
-            ),
-        ),
-    )
+    times(case, steps)?;
+    node_rows(case, steps, nodes)?;
+    arc_rows(case, first, arcs)?;
+    station_rows(case, first + arcs * ARC, stations)
 }
 
 // 10 to 12.
+#[tactic(auto, using(crate::proofs::Laid::begin_laws), unfolding(crate::specs::law::Judged::list_questions))]
 fn list_answer(case: &[i64]) -> Answer
     ensures { result ≡ first_no (list_questions case.now) }
 {
-    let a = head(case);
-    match a {
-        Answer::Yes => rows(case),
-        Answer::No {
-            number: _,
-            step: _,
-            place: _,
-        } => a,
-    }
+    head(case)?;
+    rows(case)
 }
 
 // Where each station's rows begin.
+#[tactic(auto, using(crate::proofs::Laid::filled))]
 fn station_firsts(case: &[i64], first: usize, stations: usize) -> [usize; STATIONS]
     requires { (first ≤ stations_extent) × (first ≡ station_at case.now 0) × (stations ≤ 8) ×
         (stations ≡ stations_of case.now) × (StationsCounted case.now) × (StationsNarrow case.now) }
@@ -73,30 +64,28 @@ fn station_firsts(case: &[i64], first: usize, stations: usize) -> [usize; STATIO
 {
     let mut offsets = [0usize; STATIONS];
     let mut offset = first;
-    let mut s: usize = 0;
-    while s < stations {
-        offsets[s] = offset;
+    for place in &mut offsets[..stations] {
+        *place = offset;
         offset = station_end(case, offset);
-        s += 1;
     }
     offsets
 }
 
 // Each station's nodes.
+#[tactic(auto, using(crate::proofs::Laid::filled), unfolding(crate::specs::law::StationNodes::station_nodes))]
 fn insides(case: &[i64], arcs: usize, stations: usize) -> [i64; STATIONS]
     requires { (stations ≤ 8) × (arcs ≡ arcs_of case.now) }
     ensures { (Holds (pos 0) result (station_nodes case.now) stations) × (Clear (pos 0) result stations) }
 {
     let mut inside = [0i64; STATIONS];
-    let mut s: usize = 0;
-    while s < stations {
-        inside[s] = station_nodes(case, s, arcs);
-        s += 1;
+    for (s, nodes) in inside[..stations].iter_mut().enumerate() {
+        *nodes = station_nodes(case, s, arcs);
     }
     inside
 }
 
 // The layout of a case whose fields are all there and in range.
+#[tactic(auto, using(crate::proofs::Laid::begin_laws), unfolding(crate::specs::law::StationNodes::plain_nodes))]
 fn lay(case: &[i64]) -> Layout
     requires { (Counted case.now) × (StationsCounted case.now) × (StationsNarrow case.now) }
     ensures { LayoutOf case.now result }
@@ -106,15 +95,13 @@ fn lay(case: &[i64]) -> Layout
     let stations = count(case, 0, 3);
     let steps = count(case, 0, 4);
     let first = first_arc(case) + arcs * ARC;
-    let offsets = station_firsts(case, first, stations);
-    let inside = insides(case, arcs, stations);
     Layout {
-        steps: steps,
-        nodes: nodes,
-        arcs: arcs,
-        stations: stations,
-        offsets: offsets,
-        inside: inside,
+        steps,
+        nodes,
+        arcs,
+        stations,
+        offsets: station_firsts(case, first, stations),
+        inside: insides(case, arcs, stations),
         plain: plain_nodes(case, arcs),
     }
 }
@@ -123,21 +110,16 @@ fn lay(case: &[i64]) -> Layout
 pub fn judge_and_lay(case: &[i64]) -> Laying
     ensures { LayingOf case.now result }
 {
-    let a = list_answer(case);
-    match a {
-        Answer::Yes => {
+    match list_answer(case) {
+        Ok(()) => {
             let layout = lay(case);
             Laying {
                 answer: rules(case, layout),
-                layout: layout,
+                layout,
             }
         }
-        Answer::No {
-            number: _,
-            step: _,
-            place: _,
-        } => Laying {
-            answer: a,
+        Err(no) => Laying {
+            answer: Err(no),
             layout: Layout {
                 steps: 0,
                 nodes: 0,

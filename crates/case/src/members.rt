@@ -1,5 +1,5 @@
 // A station's arcs and nodes. Every function is total, but for the set of the arcs that are active.
-ghost use Rattle.std.specs.Prelude.{◌≡◌, ◌+◌, ◌<◌, ◌≤◌, ◌^◌, pos};
+ghost use Rattle.std.specs.Prelude.{◌≡◌, Bool, ℕ, ◌+◌, ◌<◌, ◌≤◌, ◌^◌, pos};
 ghost use Rattle.numbers.specs.law.Sums.{only_n};
 ghost use Rattle.case.specs.law.StationArcs.{belongs, arcs_before, arc_set};
 ghost use Rattle.case.specs.law.StationNodes.{with_node, with_ends, ends_of, plain};
@@ -13,11 +13,7 @@ pub(crate) fn belongs(case: &[i64], s: usize, e: usize) -> bool
     ensures { result ≡ belongs case.now s e }
 {
     let offset = arc_at(case, e);
-    if 3 <= count(case, offset, 0) {
-        count(case, offset, 4) == s
-    } else {
-        false
-    }
+    3 <= count(case, offset, 0) && count(case, offset, 4) == s
 }
 
 // Is arc `e` a valve, a regulator or a pipe?
@@ -32,15 +28,7 @@ pub(crate) fn plain(case: &[i64], e: usize) -> bool
 pub(crate) fn station_arcs(case: &[i64], s: usize, arcs: usize) -> usize
     ensures { result ≡ arcs_before case.now s arcs }
 {
-    let mut own: usize = 0;
-    let mut e: usize = 0;
-    while e < arcs {
-        if belongs(case, s, e) {
-            own += 1;
-        }
-        e += 1;
-    }
-    own
+    (0..arcs).filter(|e| belongs(case, s, *e)).count()
 }
 
 // A set of the station's arcs, with arc `e`, its `n`-th, in it if the arc is active at step 0.
@@ -56,19 +44,18 @@ fn with_arc(case: &[i64], set: usize, n: usize, e: usize) -> usize
 }
 
 // Those of the station's arcs that are active at step 0, as a set.
+#[tactic(auto, using(crate::proofs::Gathered::own_arcs))]
 pub(crate) fn start_set(case: &[i64], s: usize, arcs: usize) -> i64
     requires { arcs_before case.now s arcs ≤ 30 }
     ensures { result ≡ pos (arc_set case.now s (active_at_start case.now) arcs) }
 {
     let mut set: usize = 0;
     let mut n: usize = 0;
-    let mut e: usize = 0;
-    while e < arcs {
+    for e in 0..arcs {
         if belongs(case, s, e) {
             set = with_arc(case, set, n, e);
             n += 1;
         }
-        e += 1;
     }
     set as i64
 }
@@ -82,6 +69,7 @@ pub fn active(case: &[i64], e: usize) -> bool
 }
 
 // The set with the node in it.
+#[tactic(auto, unfolding(crate::specs::law::StationNodes::with_node))]
 fn with_node(set: usize, v: usize) -> usize
     ensures { result ≡ with_node set v }
 {
@@ -103,32 +91,31 @@ fn with_ends(case: &[i64], set: usize, e: usize) -> usize
     )
 }
 
+// The ends of those of the first `arcs` arcs that `named` names, as a node set.
+#[tactic(auto, using(crate::proofs::Gathered::ends))]
+fn ends<F: Fn(usize) -> bool>(case: &[i64], arcs: usize, named: F) -> i64
+    requires { F.IsAlwaysCallable named }
+    ensures { (w : ℕ → Bool) → ((e : ℕ) (b : Bool) → F.post named e b → b ≡ w e) → result ≡ pos (ends_of case.now w arcs) }
+{
+    let mut nodes: usize = 0;
+    for e in 0..arcs {
+        if named(e) {
+            nodes = with_ends(case, nodes, e);
+        }
+    }
+    nodes as i64
+}
+
 // The ends of the station's arcs among the first `arcs`, as a node set.
 pub(crate) fn station_nodes(case: &[i64], s: usize, arcs: usize) -> i64
     ensures { result ≡ pos (ends_of case.now (belongs case.now s) arcs) }
 {
-    let mut nodes: usize = 0;
-    let mut e: usize = 0;
-    while e < arcs {
-        if belongs(case, s, e) {
-            nodes = with_ends(case, nodes, e);
-        }
-        e += 1;
-    }
-    nodes as i64
+    ends(case, arcs, |e| belongs(case, s, e))
 }
 
 // The ends of the first `arcs` arcs of kind 0 to 2, as a node set.
 pub(crate) fn plain_nodes(case: &[i64], arcs: usize) -> i64
     ensures { result ≡ pos (ends_of case.now (plain case.now) arcs) }
 {
-    let mut set: usize = 0;
-    let mut e: usize = 0;
-    while e < arcs {
-        if plain(case, e) {
-            set = with_ends(case, set, e);
-        }
-        e += 1;
-    }
-    set as i64
+    ends(case, arcs, |e| plain(case, e))
 }

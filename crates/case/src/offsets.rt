@@ -4,7 +4,7 @@ ghost use Rattle.case.specs.law.Layout.{number_at, node_width, node_at, bounds_i
 ghost use Rattle.case.specs.inside.Counts.{Counts};
 ghost use Rattle.case.specs.law.Field.{last_of};
 
-use numbers::compare::index;
+use numbers::compare::{at, index};
 
 // How many numbers the head and the rows have whose width is the same in every case.
 pub const HEAD: usize = 7;
@@ -24,12 +24,7 @@ pub const DEMANDS: usize = 6;
 pub(crate) fn number(case: &[i64], offset: usize, j: usize) -> i64
     ensures { result ≡ number_at case.now (offset + j) }
 {
-    if offset < case.len() {
-        if j < case.len() - offset {
-            return case[offset + j];
-        }
-    }
-    0
+    at(case, offset.saturating_add(j))
 }
 
 pub(crate) fn count(case: &[i64], offset: usize, j: usize) -> usize
@@ -40,37 +35,34 @@ pub(crate) fn count(case: &[i64], offset: usize, j: usize) -> usize
 
 // The place `count` rows of `width` numbers past `at`, or the end.
 pub(crate) fn along(end: usize, at: usize, count: usize, width: usize) -> usize
-    requires { 0 < width }
     ensures { result ≡ min (at + count * width) end }
 {
-    if end <= at {
-        return end;
-    }
-    if (end - at) / width < count {
-        return end;
-    }
-    at + count * width
+    at.saturating_add(count.saturating_mul(width)).min(end)
 }
 
 // How many numbers a node's row has, a direction's, and the machine's that begins at `offset`.
+#[tactic(auto, unfolding(crate::specs::law::Layout::node_width))]
 pub(crate) fn node_width(case: &[i64]) -> usize
     ensures { result ≡ node_width case.now }
 {
     DEMANDS + count(case, 0, 4)
 }
 
+#[tactic(auto, unfolding(crate::specs::law::Layout::direction_width))]
 pub(crate) fn direction_width(case: &[i64]) -> usize
     ensures { result ≡ direction_width case.now }
 {
     3
 }
 
+#[tactic(auto, unfolding(crate::specs::law::Layout::machine_width))]
 pub(crate) fn machine_width(case: &[i64], offset: usize) -> usize
     ensures { result ≡ machine_width case.now offset }
 {
     2
 }
 
+#[tactic(auto, unfolding(crate::specs::law::Layout::node_at, crate::specs::law::Layout::node_width))]
 pub(crate) fn node_at(case: &[i64], v: usize) -> usize
     ensures { result ≡ min (node_at case.now v) (length case.now) }
 {
@@ -79,12 +71,14 @@ pub(crate) fn node_at(case: &[i64], v: usize) -> usize
 }
 
 // Where the bounds of the node whose row begins at `offset` stand in the step with index `i`, and where its demand does.
+#[tactic(auto, unfolding(crate::specs::law::Layout::bounds_in))]
 pub(crate) fn bounds_at(case: &[i64], offset: usize, i: usize) -> usize
     ensures { result ≡ min (offset + bounds_in case.now i) (length case.now) }
 {
     along(case.len(), offset, BOUNDS, 1)
 }
 
+#[tactic(auto, unfolding(crate::specs::law::Layout::demand_in))]
 pub(crate) fn demand_at(case: &[i64], offset: usize, i: usize) -> usize
     ensures { result ≡ min (offset + demand_in case.now i) (length case.now) }
 {
@@ -92,6 +86,7 @@ pub(crate) fn demand_at(case: &[i64], offset: usize, i: usize) -> usize
     along(end, along(end, offset, DEMANDS, 1), i, 1)
 }
 
+#[tactic(auto, unfolding(crate::specs::law::Layout::arc_at))]
 pub(crate) fn arc_at(case: &[i64], e: usize) -> usize
     ensures { result ≡ min (arc_at case.now e) (length case.now) }
 {
@@ -99,6 +94,7 @@ pub(crate) fn arc_at(case: &[i64], e: usize) -> usize
     along(case.len(), node_at(case, nodes), e, ARC)
 }
 
+#[tactic(auto, unfolding(crate::specs::law::Layout::direction_at, crate::specs::law::Layout::direction_width))]
 pub(crate) fn direction_at(case: &[i64], offset: usize, f: usize) -> usize
     ensures { result ≡ min (direction_at case.now offset f) (length case.now) }
 {
@@ -111,6 +107,7 @@ pub(crate) fn direction_at(case: &[i64], offset: usize, f: usize) -> usize
     )
 }
 
+#[tactic(auto, unfolding(crate::specs::law::Layout::state_at))]
 pub(crate) fn state_at(case: &[i64], offset: usize, z: usize) -> usize
     ensures { result ≡ min (state_at case.now offset z) (length case.now) }
 {

@@ -103,6 +103,7 @@ pub fn state(case: &[i64], offset: usize, z: usize) -> State
 }
 
 // Where the rows of the station's machines begin, or the end.
+#[tactic(auto, unfolding(crate::specs::law::Layout::machine_at))]
 pub fn first_machine(case: &[i64], offset: usize) -> usize
     ensures { result ≡ min (machine_at case.now offset 0) (length case.now) }
 {
@@ -111,6 +112,7 @@ pub fn first_machine(case: &[i64], offset: usize) -> usize
 }
 
 // Where the row of the machine ends whose row begins at `at`, or the end: the next machine's begins there.
+#[tactic(auto, unfolding(crate::specs::law::Layout::machine_width))]
 pub fn past_machine(case: &[i64], at: usize) -> usize
     ensures { result ≡ min (at + machine_width case.now at) (length case.now) }
 {

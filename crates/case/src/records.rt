@@ -1,9 +1,11 @@
 // Nodes, arcs and stations as records by value; read.rt reads them off the list.
+// A kind stays the list's number: document 01 names the form "match on the kind number chooses ranges, flow, pressure and machine rules". So do
+// `bothways` and `active`: a record is read before 11 has said that they are 0 or 1, and a bool would need a place for the others.
 use super::extents::STATIONS;
 use numbers::answer::Answer;
 
 // A node, with its bounds and its demand in one step.
-#[derive(Clone, Copy)]
+#[derive(Clone, Copy, Debug, PartialEq, Eq)]
 pub struct Node {
     pub kind: usize, // 0 inner, 1 source, 2 sink
     pub p0: i64,
@@ -15,7 +17,7 @@ pub struct Node {
 }
 
 // What an arc of every kind has.
-#[derive(Clone, Copy)]
+#[derive(Clone, Copy, Debug, PartialEq, Eq)]
 pub struct Arc {
     pub kind: usize, // 0 valve, 1 regulator, 2 pipe, 3 shortcut, 4 regulating, 5 compressor, 6 combined
     pub from: usize,
@@ -24,7 +26,7 @@ pub struct Arc {
 }
 
 // What a pipe has besides.
-#[derive(Clone, Copy)]
+#[derive(Clone, Copy, Debug, PartialEq, Eq)]
 pub struct Pipe {
     pub c: i64, // g per mbar
     pub f: i64, // friction at from, millionths of a mbar per g/s
@@ -33,7 +35,7 @@ pub struct Pipe {
 }
 
 // What an artificial arc has besides.
-#[derive(Clone, Copy)]
+#[derive(Clone, Copy, Debug, PartialEq, Eq)]
 pub struct Artificial {
     pub station: usize,
     pub bothways: usize,
@@ -44,7 +46,7 @@ pub struct Artificial {
     pub outbound: i64,
 }
 
-#[derive(Clone, Copy)]
+#[derive(Clone, Copy, Debug, PartialEq, Eq)]
 pub struct Station {
     pub directions: usize,
     pub states: usize,
@@ -53,14 +55,14 @@ pub struct Station {
     pub state: usize, // at step 0
 }
 
-#[derive(Clone, Copy)]
+#[derive(Clone, Copy, Debug, PartialEq, Eq)]
 pub struct Direction {
     pub entry: i64, // a node set
     pub exit: i64, // a node set
     pub weight: usize,
 }
 
-#[derive(Clone, Copy)]
+#[derive(Clone, Copy, Debug, PartialEq, Eq)]
 pub struct State {
     pub directions: i64, // a set of the station's directions
     pub on: i64, // a set of the station's arcs
@@ -68,14 +70,14 @@ pub struct State {
     pub weight: usize,
 }
 
-#[derive(Clone, Copy)]
+#[derive(Clone, Copy, Debug, PartialEq, Eq)]
 pub struct Machine {
     pub flow: i64,
     pub ratio: i64, // thousandths
 }
 
-// What is found once for a case, so that no judge of a step looks for it again.
-#[derive(Clone, Copy)]
+// What is found once for a case, so that no judge of a step looks for it again. Its arrays have a room for each station, as there is no heap.
+#[derive(Clone, Copy, Debug, PartialEq, Eq)]
 pub struct Layout {
     pub steps: usize,
     pub nodes: usize,
@@ -86,8 +88,8 @@ pub struct Layout {
     pub plain: i64, // the nodes that end an arc of kind 0 to 2, a node set
 }
 
-// The answer on a case, and its layout where 10 to 12 have let the list pass.
-#[derive(Clone, Copy)]
+// The answer on a case, and its layout where 10 to 12 have let the list pass. Not a Result: the layout is promised beside a no of 13 to 19 too.
+#[derive(Clone, Copy, Debug, PartialEq, Eq)]
 pub struct Laying {
     pub answer: Answer,
     pub layout: Layout,

@@ -8,7 +8,7 @@ ghost use Rattle.case.specs.law.Layout.{arcs_of, station_at, direction_count, st
 ghost use Rattle.case.specs.law.Records.{direction_row};
 ghost use Rattle.case.specs.inside.Ranges.{DirectionRanges};
 ghost use Rattle.case.specs.law.LayoutOf.{LayoutOf};
-ghost use Rattle.case.specs.inside.InSet.{in_set, in_both};
+ghost use Rattle.case.specs.inside.InSet.{in_set, in_both, directions_kept};
 ghost use Rattle.case.specs.inside.Counts.{Counted, StationCounted, StationsCounted, DirectionsRanged, StationsRanged, Sized};
 ghost use Rattle.case.specs.law.ArcEnds.{all_arc_ends};
 ghost use Rattle.case.specs.law.OneStation.{all_one_station};
@@ -23,27 +23,20 @@ use super::members::{belongs, start_set, station_arcs};
 use super::read::{arc, artificial, direction, state, station};
 use super::records::Layout;
 use super::stations::first_items;
-use numbers::answer::{Answer, or_else};
+use numbers::answer::{Answer, ask};
 use numbers::sets::{disjoint, member, subset};
 
 // 13
+#[tactic(auto, using(crate::proofs::Ruled::rule_laws), unfolding(crate::specs::law::ArcEnds::arc_ends))]
 fn arc_ends(case: &[i64], arcs: usize) -> Answer
     requires { arcs ≡ arcs_of case.now }
     ensures { result ≡ first_no (all_arc_ends case.now) }
 {
-    let mut e: usize = 0;
-    while e < arcs {
+    for e in 0..arcs {
         let a = arc(case, e);
-        if a.from == a.to {
-            return Answer::No {
-                number: 13,
-                step: 0,
-                place: e,
-            };
-        }
-        e += 1;
+        ask(a.from != a.to, 13, 0, e)?;
     }
-    Answer::Yes
+    Ok(())
 }
 
 // How many of the stations have the node.
@@ -51,187 +44,112 @@ fn stations_with(inside: [i64; STATIONS], stations: usize, v: usize) -> usize
     requires { stations ≤ 8 }
     ensures { result ≡ count stations (in_set inside v) }
 {
-    let mut n: usize = 0;
-    let mut s: usize = 0;
-    while s < stations {
-        if member(inside[s], v) {
-            n += 1;
-        }
-        s += 1;
-    }
-    n
+    inside[..stations]
+        .iter()
+        .filter(|set| member(**set, v))
+        .count()
 }
 
 // 14
+#[tactic(auto, using(crate::proofs::Ruled::rule_laws), unfolding(crate::specs::law::OneStation::one_station))]
 fn one_station(case: &[i64], layout: Layout) -> Answer
     requires { (Counted case.now) × (LayoutOf case.now layout) }
     ensures { result ≡ first_no (all_one_station case.now) }
 {
-    let inside = layout.inside;
-    let stations = layout.stations;
-    let nodes = layout.nodes;
-    let mut v: usize = 0;
-    while v < nodes {
-        let several = 1 < stations_with(inside, stations, v);
-        if several {
-            return Answer::No {
-                number: 14,
-                step: 0,
-                place: v,
-            };
-        }
-        v += 1;
+    for v in 0..layout.nodes {
+        let having = stations_with(layout.inside, layout.stations, v);
+        ask(having <= 1, 14, 0, v)?;
     }
-    Answer::Yes
+    Ok(())
 }
 
 // 15
+#[tactic(auto, using(crate::proofs::Ruled::rule_laws), unfolding(crate::specs::law::StationSize::station_size))]
 fn station_size(case: &[i64], layout: Layout) -> Answer
     requires { LayoutOf case.now layout }
     ensures { result ≡ first_no (all_station_sizes case.now) }
 {
-    let arcs = layout.arcs;
-    let stations = layout.stations;
-    let mut s: usize = 0;
-    while s < stations {
-        let over = 30 < station_arcs(case, s, arcs);
-        if over {
-            return Answer::No {
-                number: 15,
-                step: 0,
-                place: s,
-            };
-        }
-        s += 1;
+    for s in 0..layout.stations {
+        let own = station_arcs(case, s, layout.arcs);
+        ask(own <= 30, 15, 0, s)?;
     }
-    Answer::Yes
+    Ok(())
 }
 
 // Does the set hold only nodes that are in both sets, those inside the station and those that end an arc of kind 0 to 2?
+#[tactic(auto, using(crate::proofs::Ruled::rule_laws))]
 fn only_fence(inside: i64, plain: i64, set: i64) -> bool
     requires { pos_part set < 2 ^ set_room }
     ensures { result ≡ only_fence (in_both inside plain) set }
 {
-    if subset(set, inside) {
-        subset(set, plain)
-    } else {
-        false
-    }
+    subset(set, inside) && subset(set, plain)
 }
 
+#[tactic(auto, using(crate::proofs::Ruled::rule_laws), unfolding(crate::specs::law::Directions::sets_kept))]
 fn direction_kept(case: &[i64], offset: usize, inside: i64, plain: i64, f: usize) -> bool
     requires { DirectionRanges (direction_row case.now offset f) }
     ensures { result ≡ sets_kept (in_both inside plain) (direction_row case.now offset f) }
 {
     let d = direction(case, offset, f);
-    let entry = d.entry;
-    let exit = d.exit;
-    if disjoint(entry, exit) {
-        if only_fence(inside, plain, entry) {
-            return only_fence(inside, plain, exit);
-        }
-    }
-    false
+    disjoint(d.entry, d.exit)
+        && only_fence(inside, plain, d.entry)
+        && only_fence(inside, plain, d.exit)
 }
 
 fn directions_kept(case: &[i64], offset: usize, inside: i64, plain: i64) -> bool
     requires { DirectionsRanged case.now offset }
-    ensures { result ≡ every (direction_count case.now offset) (λ f. sets_kept (in_both inside plain) (direction_row case.now offset f)) }
+    ensures { result ≡ directions_kept case.now offset inside plain }
 {
     let directions = station(case, offset).directions;
-    let mut f: usize = 0;
-    while f < directions {
-        if !direction_kept(case, offset, inside, plain, f) {
-            return false;
-        }
-        f += 1;
-    }
-    true
+    (0..directions).all(|f| direction_kept(case, offset, inside, plain, f))
 }
 
 // 16
+#[tactic(auto, using(crate::proofs::Ruled::rule_laws), unfolding(crate::specs::law::Directions::direction_sets))]
 fn direction_sets(case: &[i64], layout: Layout) -> Answer
     requires { (Counted case.now) × (LayoutOf case.now layout) × (StationsRanged case.now) }
     ensures { result ≡ first_no (all_direction_sets case.now) }
 {
-    let plain = layout.plain;
-    let stations = layout.stations;
-    let mut s: usize = 0;
-    while s < stations {
-        let offset = layout.offsets[s];
-        let inside = layout.inside[s];
-        if !directions_kept(case, offset, inside, plain) {
-            return Answer::No {
-                number: 16,
-                step: 0,
-                place: s,
-            };
-        }
-        s += 1;
+    for s in 0..layout.stations {
+        let kept = directions_kept(case, layout.offsets[s], layout.inside[s], layout.plain);
+        ask(kept, 16, 0, s)?;
     }
-    Answer::Yes
+    Ok(())
 }
 
+#[tactic(auto, unfolding(crate::specs::law::States::state_kept))]
 fn state_kept(case: &[i64], offset: usize, own: i64, z: usize) -> bool
     ensures { result ≡ state_kept case.now offset own z }
 {
     let a = state(case, offset, z);
-    let on = a.on;
-    let off = a.off;
-    if disjoint(on, off) {
-        if subset(on, own) {
-            return subset(off, own);
-        }
-    }
-    false
+    disjoint(a.on, a.off) && subset(a.on, own) && subset(a.off, own)
 }
 
 fn states_kept(case: &[i64], offset: usize, own: i64) -> bool
     ensures { result ≡ every (state_count case.now offset) (state_kept case.now offset own) }
 {
     let states = station(case, offset).states;
-    let mut z: usize = 0;
-    while z < states {
-        if !state_kept(case, offset, own, z) {
-            return false;
-        }
-        z += 1;
-    }
-    true
+    (0..states).all(|z| state_kept(case, offset, own, z))
 }
 
 // Do the machine sets of the station's arcs name only the machines in `own`?
 fn machines_kept(case: &[i64], s: usize, own: i64, arcs: usize) -> bool
     ensures { result ≡ every arcs (machines_kept case.now s own) }
 {
-    let mut e: usize = 0;
-    while e < arcs {
-        if belongs(case, s, e) {
-            let machines = artificial(case, e).machines;
-            if !subset(machines, own) {
-                return false;
-            }
-        }
-        e += 1;
-    }
-    true
+    (0..arcs).all(|e| !belongs(case, s, e) || subset(artificial(case, e).machines, own))
 }
 
 // Does activity at step 0 obey the step-0 state?
+#[tactic(auto, unfolding(crate::specs::law::States::start_kept))]
 fn start_kept(case: &[i64], offset: usize, active: i64) -> bool
     ensures { result ≡ start_kept case.now offset active }
 {
     let z = station(case, offset).state;
     let a = state(case, offset, z);
-    let on = a.on;
-    let off = a.off;
-    if subset(on, active) {
-        disjoint(off, active)
-    } else {
-        false
-    }
+    subset(a.on, active) && disjoint(a.off, active)
 }
 
+#[tactic(auto, unfolding(crate::specs::law::States::station_kept))]
 fn station_kept(case: &[i64], offset: usize, s: usize, arcs: usize) -> bool
     requires { (offset ≡ station_at case.now s) × (arcs ≡ arcs_of case.now) × (station_arcs case.now s ≤ 30) × (StationCounted case.now offset) }
     ensures { result ≡ station_kept case.now s }
@@ -239,55 +157,33 @@ fn station_kept(case: &[i64], offset: usize, s: usize, arcs: usize) -> bool
     let own_arcs = first_items(station_arcs(case, s, arcs));
     let own_machines = first_items(station(case, offset).machines);
     let active = start_set(case, s, arcs);
-    if states_kept(case, offset, own_arcs) {
-        if machines_kept(case, s, own_machines, arcs) {
-            return start_kept(case, offset, active);
-        }
-    }
-    false
+    states_kept(case, offset, own_arcs)
+        && machines_kept(case, s, own_machines, arcs)
+        && start_kept(case, offset, active)
 }
 
 // 17
+#[tactic(auto, using(crate::proofs::Ruled::rule_laws), unfolding(crate::specs::law::States::state_sets))]
 fn state_sets(case: &[i64], layout: Layout) -> Answer
     requires { (Counted case.now) × (LayoutOf case.now layout) × (Sized case.now) × (StationsCounted case.now) }
     ensures { result ≡ first_no (all_state_sets case.now) }
 {
-    let arcs = layout.arcs;
-    let stations = layout.stations;
-    let mut s: usize = 0;
-    while s < stations {
-        let offset = layout.offsets[s];
-        if !station_kept(case, offset, s, arcs) {
-            return Answer::No {
-                number: 17,
-                step: 0,
-                place: s,
-            };
-        }
-        s += 1;
+    for s in 0..layout.stations {
+        let kept = station_kept(case, layout.offsets[s], s, layout.arcs);
+        ask(kept, 17, 0, s)?;
     }
-    Answer::Yes
+    Ok(())
 }
 
 // 13 to 16, and then 17, which leans on 15.
+#[tactic(auto, using(crate::proofs::Ruled::rule_laws), unfolding(crate::specs::law::Judged::rule_questions, crate::specs::law::Judged::early_rules))]
 pub(crate) fn rules(case: &[i64], layout: Layout) -> Answer
     requires { (Counted case.now) × (LayoutOf case.now layout) × (StationsCounted case.now) × (StationsRanged case.now) }
     ensures { result ≡ first_no (rule_questions case.now) }
 {
-    let arcs = layout.arcs;
-    let a = or_else(
-        arc_ends(case, arcs),
-        or_else(
-            one_station(case, layout),
-            or_else(station_size(case, layout), direction_sets(case, layout)),
-        ),
-    );
-    match a {
-        Answer::Yes => state_sets(case, layout),
-        Answer::No {
-            number: _,
-            step: _,
-            place: _,
-        } => a,
-    }
+    arc_ends(case, layout.arcs)?;
+    one_station(case, layout)?;
+    station_size(case, layout)?;
+    direction_sets(case, layout)?;
+    state_sets(case, layout)
 }

@@ -18,7 +18,8 @@ fn contents(rt: &impl Files, path: &str, buf: &mut [u8]) -> usize
     }
 }
 
-// A read that fails ends the file, as a read of nothing does.
+// A read that fails ends the file, as a read of nothing does. The loop is no `for`: each read says how far it went; and without a heap no library's
+// method reads a file to its end.
 fn read_full(file: &mut impl Read, buf: &mut [u8]) -> usize
     ensures { IsPrefixLen result buf.new }
 {

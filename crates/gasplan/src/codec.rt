@@ -4,12 +4,13 @@ ghost use Rattle.numbers.specs.law.Groups.{write_told, written};
 ghost use Rattle.numbers.specs.law.Reading.{read_of, read_told};
 ghost use Rattle.numbers.specs.law.Told.{overlay};
 ghost use Rattle.gasplan.specs.law.Out.{code_of, out_of, if_room};
+ghost use Rattle.gasplan.specs.inside.Fits.{count_told, count_fits};
 
-use numbers::reader::Reading;
-use numbers::writer::Writing;
+use super::tell::{Values, front, tell};
 
 // The numbers of the bytes, into the list. out[0] is their count.
 // Two wrong answers that the promise rules out: the place of a refusal where the step belongs, and a list that is written though `out` is short.
+#[tactic(auto, using(crate::proofs::Fitting::read_told_fits))]
 #[unsafe(no_mangle)]
 pub extern "C" fn gasplan_read(bytes: &[u8], list: &mut [i64], out: &mut [i64]) -> i64
     ensures value { result ≡ code_of out.old (read_told (read_of bytes.now (length list.old))) }
@@ -20,14 +21,12 @@ pub extern "C" fn gasplan_read(bytes: &[u8], list: &mut [i64], out: &mut [i64]) 
     if out.len() < 6 {
         return -1;
     }
-    let r = numbers::reader::read(bytes, list);
-    match r {
-        Reading::Count(count) => crate::tell::values(out, [count as i64, 0, 0, 0, 0, 0], 1),
-        Reading::Refused { number, place } => crate::tell::refusal(out, number, 0, place),
-    }
+    let count = numbers::reader::read(bytes, list);
+    tell(out, count)
 }
 
 // The bytes of the list. out[0] is their count.
+#[tactic(auto, using(crate::proofs::Fitting::write_told_fits))]
 #[unsafe(no_mangle)]
 pub extern "C" fn gasplan_write(list: &[i64], bytes: &mut [u8], out: &mut [i64]) -> i64
     ensures value { result ≡ code_of out.old (write_told list.now (length bytes.old)) }
@@ -37,9 +36,17 @@ pub extern "C" fn gasplan_write(list: &[i64], bytes: &mut [u8], out: &mut [i64])
     if out.len() < 6 {
         return -1;
     }
-    let r = numbers::writer::write(list, bytes);
-    match r {
-        Writing::Count(count) => crate::tell::values(out, [count as i64, 0, 0, 0, 0, 0], 1),
-        Writing::Refused { number, place } => crate::tell::refusal(out, number, 0, place),
+    let count = numbers::writer::write(list, bytes);
+    tell(out, count)
+}
+
+// A count.
+impl Values for usize {
+    ghost told = { count_told };
+
+    ghost fits = { count_fits };
+
+    fn put(self, out: &mut [i64]) {
+        front(out, &[self as i64]);
     }
 }

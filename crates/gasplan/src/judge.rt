@@ -1,15 +1,16 @@
 // Case and plan.
-ghost use Rattle.std.specs.Prelude.{◌≡◌, ◌≤◌, ◌^◌, length};
+ghost use Rattle.std.specs.Prelude.{◌≡◌};
 ghost use Rattle.case.specs.law.Judged.{judged_case};
-ghost use Rattle.plan.specs.law.Judged.{judge_of, verdict_told};
+ghost use Rattle.plan.specs.law.Judged.{totals_told, judge_of};
 ghost use Rattle.plan.specs.law.JudgedBytes.{bytes_judged};
-ghost use Rattle.plan.specs.inside.VerdictSizes.{Fit};
 ghost use Rattle.gasplan.specs.law.Out.{code_of, out_of, if_room};
+ghost use Rattle.gasplan.specs.inside.Fits.{nothing_told, nothing_fits, totals_fit};
 
-use numbers::answer::Answer;
-use plan::verdict::Verdict;
+use super::tell::{Values, front, tell};
+use plan::totals::Totals;
 
 // Is the list a case? Two wrong answers that the promise rules out: 0 for every list, and a refusal with step and place swapped.
+#[tactic(auto, using(crate::proofs::Fitting::case_told_fits))]
 #[unsafe(no_mangle)]
 pub extern "C" fn gasplan_case(case: &[i64], out: &mut [i64]) -> i64
     ensures value { result ≡ code_of out.old (judged_case case.now) }
@@ -18,18 +19,11 @@ pub extern "C" fn gasplan_case(case: &[i64], out: &mut [i64]) -> i64
     if out.len() < 6 {
         return -1;
     }
-    let a = case::judge::judge_case(case);
-    match a {
-        Answer::Yes => 0,
-        Answer::No {
-            number,
-            step,
-            place,
-        } => crate::tell::refusal(out, number, step, place),
-    }
+    tell(out, case::judge::judge_case(case))
 }
 
 // The verdict on a plan for a case. The values of an accepted plan are the six totals in document 01's order.
+#[tactic(auto, using(crate::proofs::Fitting::judge_told_fits))]
 #[unsafe(no_mangle)]
 pub extern "C" fn gasplan_judge(case: &[i64], plan: &[i64], out: &mut [i64]) -> i64
     ensures value { result ≡ code_of out.old (judge_of case.now plan.now) }
@@ -38,10 +32,11 @@ pub extern "C" fn gasplan_judge(case: &[i64], plan: &[i64], out: &mut [i64]) -> 
     if out.len() < 6 {
         return -1;
     }
-    tell_verdict(out, plan::judge::judge(case, plan))
+    tell(out, plan::judge::judge(case, plan))
 }
 
 // The verdict on two byte strings, which are read into the two lists.
+#[tactic(auto, using(crate::proofs::Fitting::bytes_told_fits))]
 #[unsafe(no_mangle)]
 pub extern "C" fn gasplan_judge_bytes(
     casebytes: &[u8],
@@ -64,33 +59,34 @@ pub extern "C" fn gasplan_judge_bytes(
     if out.len() < 6 {
         return -1;
     }
-    tell_verdict(
-        out,
-        plan::judge::judge_bytes(casebytes, planbytes, caselist, planlist),
-    )
+    let verdict = plan::judge::judge_bytes(casebytes, planbytes, caselist, planlist);
+    tell(out, verdict)
 }
 
-fn tell_verdict(out: &mut [i64], v: Verdict) -> i64
-    requires { (6 ≤ length out.old) × (Fit (2 ^ 63) v) }
-    ensures value { result ≡ code_of out.old (verdict_told v) }
-    ensures out_after { out.new ≡ out_of out.old (verdict_told v) }
-{
-    match v {
-        Verdict::Accepted(t) => {
-            let switching = t.switching as i64;
-            let residual = t.residual as i64;
-            crate::tell::values(
-                out,
-                [
-                    t.pressure, t.demand, switching, residual, t.opening, t.closing,
-                ],
-                6,
-            )
-        }
-        Verdict::Refused {
-            number,
-            step,
-            place,
-        } => crate::tell::refusal(out, number, step, place),
+impl Values for () {
+    ghost told = { nothing_told };
+
+    ghost fits = { nothing_fits };
+
+    fn put(self, _out: &mut [i64]) {}
+}
+
+impl Values for Totals {
+    ghost told = { totals_told };
+
+    ghost fits = { totals_fit };
+
+    fn put(self, out: &mut [i64]) {
+        front(
+            out,
+            &[
+                self.pressure,
+                self.demand,
+                self.switching as i64,
+                self.residual as i64,
+                self.opening,
+                self.closing,
+            ],
+        );
     }
 }

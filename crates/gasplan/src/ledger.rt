@@ -1,13 +1,15 @@
 // A region's figures.
-ghost use Rattle.std.specs.Prelude.{◌≡◌, ◌≤◌, ◌^◌, length};
-ghost use Rattle.plan.specs.law.Ledger.{ledger_of, ledger_told};
-ghost use Rattle.plan.specs.inside.VerdictSizes.{FitLedger};
+ghost use Rattle.std.specs.Prelude.{◌≡◌};
+ghost use Rattle.plan.specs.law.Ledger.{figures_told, ledger_of};
 ghost use Rattle.gasplan.specs.law.Out.{code_of, out_of};
+ghost use Rattle.gasplan.specs.inside.Fits.{figures_fit};
 
-use plan::figures::Ledger;
+use super::tell::{Values, front, tell};
+use plan::figures::Figures;
 
 // The values are nodes, inner pipes, gas at s, gas at t, gas brought in and residual. Of the ledger's answer the plan crate promises the balance too.
 // Two wrong answers that the promise rules out: six zeros, and gas at t where gas at s belongs.
+#[tactic(auto, using(crate::proofs::Fitting::ledger_told_fits))]
 #[unsafe(no_mangle)]
 pub extern "C" fn gasplan_ledger(
     case: &[i64],
@@ -23,29 +25,25 @@ pub extern "C" fn gasplan_ledger(
     if out.len() < 6 {
         return -1;
     }
-    tell_ledger(out, plan::ledger::ledger(case, plan, set, s, t))
+    tell(out, plan::ledger::ledger(case, plan, set, s, t))
 }
 
-fn tell_ledger(out: &mut [i64], v: Ledger) -> i64
-    requires { (6 ≤ length out.old) × (FitLedger (2 ^ 63) v) }
-    ensures value { result ≡ code_of out.old (ledger_told v) }
-    ensures out_after { out.new ≡ out_of out.old (ledger_told v) }
-{
-    match v {
-        Ledger::Given(f) => {
-            let nodes = f.nodes as i64;
-            let pipes = f.pipes as i64;
-            let residual = f.residual as i64;
-            crate::tell::values(
-                out,
-                [nodes, pipes, f.opening, f.closing, f.brought, residual],
-                6,
-            )
-        }
-        Ledger::Refused {
-            number,
-            step,
-            place,
-        } => crate::tell::refusal(out, number, step, place),
+impl Values for Figures {
+    ghost told = { figures_told };
+
+    ghost fits = { figures_fit };
+
+    fn put(self, out: &mut [i64]) {
+        front(
+            out,
+            &[
+                self.nodes as i64,
+                self.pipes as i64,
+                self.opening,
+                self.closing,
+                self.brought,
+                self.residual as i64,
+            ],
+        );
     }
 }

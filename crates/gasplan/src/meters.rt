@@ -1,13 +1,15 @@
 // Two meters at a border point.
-ghost use Rattle.std.specs.Prelude.{◌≡◌, ◌≤◌, ◌^◌, length};
-ghost use Rattle.settlement.specs.law.Settling.{settlement_told, settle_of};
-ghost use Rattle.settlement.specs.inside.SettlementSizes.{Fit};
+ghost use Rattle.std.specs.Prelude.{◌≡◌};
+ghost use Rattle.settlement.specs.law.Settling.{settlement_values, settle_of};
 ghost use Rattle.gasplan.specs.law.Out.{code_of, out_of};
+ghost use Rattle.gasplan.specs.inside.Fits.{settlement_fit};
 
-use settlement::figures::Settlement;
+use super::tell::{Values, front, tell};
+use settlement::figures::Figures;
 
 // The values are the settled total and the counts agreed, cut to the smaller, only sender, only receiver.
 // Two wrong answers that the promise rules out: the counts of the two records exchanged, and a sixth value in `out`.
+#[tactic(auto, using(crate::proofs::Fitting::settle_told_fits))]
 #[unsafe(no_mangle)]
 pub extern "C" fn gasplan_settle(
     sender: &[i64],
@@ -21,26 +23,19 @@ pub extern "C" fn gasplan_settle(
     if out.len() < 6 {
         return -1;
     }
-    tell_settlement(out, settlement::settle(sender, receiver, agreed))
+    tell(out, settlement::settle(sender, receiver, agreed))
 }
 
-fn tell_settlement(out: &mut [i64], v: Settlement) -> i64
-    requires { (6 ≤ length out.old) × (Fit (2 ^ 63) v) }
-    ensures value { result ≡ code_of out.old (settlement_told v) }
-    ensures out_after { out.new ≡ out_of out.old (settlement_told v) }
-{
-    match v {
-        Settlement::Settled(f) => {
-            let agreed = f.agreed as i64;
-            let cut = f.cut as i64;
-            let sender = f.sender as i64;
-            let receiver = f.receiver as i64;
-            crate::tell::values(out, [f.total, agreed, cut, sender, receiver, 0], 5)
-        }
-        Settlement::Refused {
-            number,
-            step,
-            place,
-        } => crate::tell::refusal(out, number, step, place),
+impl Values for Figures {
+    ghost told = { settlement_values };
+
+    ghost fits = { settlement_fit };
+
+    fn put(self, out: &mut [i64]) {
+        let agreed = self.agreed as i64;
+        let cut = self.cut as i64;
+        let sender = self.sender as i64;
+        let receiver = self.receiver as i64;
+        front(out, &[self.total, agreed, cut, sender, receiver]);
     }
 }

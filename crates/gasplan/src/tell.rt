@@ -1,24 +1,45 @@
 // Answers as the other side sees them.
-ghost use Rattle.std.specs.Prelude.{◌≡◌, [], ◌∷◌, ◌<◌, ◌≤◌, ◌^◌, pos, length, take};
+ghost use Rattle.std.specs.Prelude.{◌≡◌, List, ◌≤◌, length, ℤ};
 ghost use Rattle.numbers.specs.law.Told.{overlay};
+ghost use Rattle.numbers.specs.law.Question.{told_with};
+ghost use Rattle.gasplan.specs.law.Out.{code_of, out_of};
+ghost use Rattle.gasplan.specs.inside.Fits.{Fits};
 
-// The first `n` of six values.
-pub(crate) fn values(out: &mut [i64], six: [i64; 6], n: usize) -> i64
-    requires { (6 ≤ length out.old) × (n ≤ 6) }
-    ensures value { result ≡ pos 0 }
-    ensures out_after { out.new ≡ overlay (take n six) out.old }
-{
-    numbers::lists::copy(&six[..n], out, 0);
-    0
+use numbers::answer::No;
+
+// What is told of a yes: values, at most six, at the front of `out`.
+pub(crate) trait Values {
+    ghost told: { Self → List ℤ };
+
+    ghost fits: { Self → Type 0 };
+
+    fn put(self, out: &mut [i64])
+        requires { (6 ≤ length out.old) × fits self }
+        ensures { out.new ≡ overlay (told self) out.old };
 }
 
-// A refusal.
-pub(crate) fn refusal(out: &mut [i64], number: usize, step: usize, place: usize) -> i64
-    requires { (6 ≤ length out.old) × (number < 2 ^ 63) × (step < 2 ^ 63) × (place < 2 ^ 63) }
-    ensures value { result ≡ pos number }
-    ensures out_after { out.new ≡ overlay (pos step ∷ pos place ∷ []) out.old }
+// The values at the front.
+pub(crate) fn front(out: &mut [i64], values: &[i64])
+    requires { length values.now ≤ length out.old }
+    ensures { out.new ≡ overlay values.now out.old }
 {
-    out[0] = step as i64;
-    out[1] = place as i64;
-    number as i64
+    out[..values.len()].copy_from_slice(values);
+}
+
+// The number of the question that has a "no", or 0.
+pub(crate) fn tell<T: Values>(out: &mut [i64], answer: Result<T, No>) -> i64
+    requires { (6 ≤ length out.old) × Fits T.fits answer }
+    ensures value { result ≡ code_of out.old (told_with T.told answer) }
+    ensures out_after { out.new ≡ out_of out.old (told_with T.told answer) }
+{
+    match answer {
+        Ok(values) => {
+            values.put(out);
+            0
+        }
+        Err(no) => {
+            front(out, &[no.step as i64, no.place as i64]);
+            no.number as i64
+        }
+    }
 }

@@ -1,13 +1,13 @@
 -- The first i numbers stand in the line, each in at most 21 places, so that there is room for one more.
-use Rattle.line.proofs.Common.{◌≡◌, refl, sym, ap, ◌∙◌, List, [], ◌∷◌, ◌++◌, ℕ, ◌+◌, ◌<◌, ◌≤◌, arith, ℤ, pos, length, set, length-set}
+use Rattle.line.proofs.Common.{◌≡◌, sym, ap, ◌∙◌, List, [], ◌∷◌, ◌++◌, ℕ, ◌+◌, ◌<◌, ◌≤◌, arith, ℤ, pos, length, set, length-set}
 use mathlib.Core.List.{append_assoc, append-nil}
 use Prim.Native.Nat.{◌*◌}
 use native.Mathlib.Numerals.{add-one}
 use lib.ListN.{get_or, take}
-use lib.Seq.{length-sets, take-suc, take_all}
+use lib.Seq.{length-sets, take-suc}
 use Rattle.line.specs.law.Decimal.{signed}
 use Rattle.line.specs.law.Line.{spaced}
-use Rattle.line.specs.inside.Put.{Put, put_none, put_first, put_both}
+use Rattle.line.specs.inside.Put.{Put, put_first, put_both}
 
 spaced_last : (list : List ℤ) (x : ℤ) → spaced (list ++ (x ∷ [])) ≡ spaced list ++ (32 ∷ signed x)
 spaced_last [] x = append-nil (32 ∷ signed x)
@@ -20,14 +20,7 @@ pub record Spacing (list : List ℤ) (old : List ℕ) (start : ℕ) (line : List
   pub near : at ≤ start + 21 * i
   pub text : Put old line start (spaced (take i list)) at
 
-pub spacing : (list : List ℤ) (old : List ℕ) (start : ℕ) → start + 21 * length list ≤ length old → Spacing list old start old start 0
-spacing list old start h = record { upto = omega arith; whole = refl; near = omega arith; text = put_none old start (omega arith) }
-
 module _ {list : List ℤ} {old : List ℕ} {start : ℕ} {line : List ℕ} {at i : ℕ} (s : Spacing list old start line at i) where
-  -- there is room for a number more
-  pub space_room : i < length list → start + 21 * length list ≤ length old → at + 21 ≤ length line
-  space_room h k = omega (arith, s.near, s.whole)
-
   pub space_turn : {new : List ℕ} {next : ℕ} → i < length list → Put (set line at 32) new (at + 1) (signed (get_or list i (pos 0))) next → next ≤ at + 1 + 20
       → Spacing list old start new next (i + 1)
   space_turn {new} h p k =
@@ -40,6 +33,3 @@ module _ {list : List ℤ} {old : List ℕ} {start : ℕ} {line : List ℕ} {at 
         near = omega (arith, s.near);
         text = rw e at (put_both s.text (put_first line at 32 p));
       }
-
-  pub space_end : length list ≤ i → Put old line start (spaced list) at
-  space_end h = rw (take_all i list h) at s.text

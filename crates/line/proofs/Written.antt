@@ -1,10 +1,11 @@
 -- Digits are written the last one first: once the digits of `rest` are written too, the line holds those of n.
-use Rattle.line.proofs.Common.{◌≡◌, refl, sym, ap, ◌∙◌, List, [], ◌∷◌, ℕ, ◌+◌, ◌-◌, ◌/◌, ◌<◌, ◌≤◌, arith, length, set, length-set}
+use Rattle.line.proofs.Common.{◌≡◌, refl, sym, ap, ◌∙◌, List, [], ◌∷◌, ℕ, ◌+◌, ◌-◌, ◌/◌, ◌^◌, ◌<◌, ◌≤◌, arith, length, set, length-set}
 use Prim.Native.Nat.{suc}
 use lib.ListN.{length-append}
 use lib.Seq.{sets, set_comm}
 use Rattle.numbers.specs.inside.OverlayLaws.{sets_append}
 use Rattle.line.specs.law.Decimal.{last_digit, decimal}
+use Rattle.line.specs.claims.Decimal.{few_digits}
 use Rattle.line.specs.inside.DigitLaws.{one_digit, more_digits, some_digit}
 
 -- an item that stands after a text may be stored before it
@@ -26,6 +27,17 @@ writing old at n i h k = record { whole = refl; here = h; room = omega arith; re
 -- one digit more before the last
 pub longer : (n : ℕ) → 10 ≤ n → length (decimal n) ≡ length (decimal (n / 10)) + 1
 longer n h = ap length (more_digits n h) ∙ length-append (decimal (n / 10)) (last_digit n ∷ [])
+
+-- the size of 64 bits with a sign has at most 19
+pub few : (n : ℕ) → n ≤ 2 ^ 63 → length (decimal n) ≤ 19
+few n h = few_digits n 18 (omega arith)
+
+-- so it has room past a sign
+pub ruleset past_sign = (few, length-set)
+
+-- and of 64 bits at most 20
+pub few_of_all : (n : ℕ) → n < 2 ^ 64 → length (decimal n) ≤ 20
+few_of_all n h = few_digits n 19 (omega arith)
 
 module _ {old : List ℕ} {at n : ℕ} {line : List ℕ} {rest i : ℕ} (w : Writing old at n line rest i) where
   pub write_turn : 10 ≤ rest → Writing old at n (set line i (last_digit rest)) (rest / 10) (i - 1)

@@ -1,3 +1,4 @@
+-- The law, what users are told of it, and what proofs need.
 pub mod law
 pub mod claims
 pub mod inside

@@ -21,6 +21,7 @@ pub const LINE_BYTES: usize = 160;
 
 // The line for two files' bytes, at the front of the lent one; the answer is the count of its bytes. One that has no room for every line is left as it is,
 // and the answer is 0. Two wrong answers that the promise rules out: two totals that are swapped, and `too long` for a file that is as long as it may be.
+#[tactic(auto, using(crate::specs::inside::Put::put_overlay, crate::specs::inside::Put::put_counts), unfolding(crate::specs::law::Files::files_line))]
 pub fn line_of(case: &[u8], plan: &[u8], line: &mut [u8]) -> usize
     ensures value { result ≡ count_in line.old (files_line case.now plan.now) }
     ensures line_after { line.new ≡ line_with line.old (files_line case.now plan.now) }
@@ -40,14 +41,11 @@ pub fn line_of(case: &[u8], plan: &[u8], line: &mut [u8]) -> usize
 fn within(case: &[u8], plan: &[u8]) -> bool
     ensures { result ≡ within_limits case.now plan.now }
 {
-    if case.len() <= CASE_BYTES {
-        plan.len() <= PLAN_BYTES
-    } else {
-        false
-    }
+    case.len() <= CASE_BYTES && plan.len() <= PLAN_BYTES
 }
 
 // The line for two files that are not too long.
+#[tactic(auto, using(plan::specs::inside::VerdictSizes::bytes_fit))]
 fn judged(case: &[u8], plan: &[u8], line: &mut [u8]) -> usize
     requires { line_bytes ≤ length line.old }
     ensures { Put line.old line.new 0 (line_of (files_told case.now plan.now)) result }

@@ -11,16 +11,15 @@ use borrow.Author.Tests.{lt-ltb, le-ltb, lt-leb}
 use lib.Dec.{leb}
 use lib.ListN.{length, get_or, drop, drop_of_length-le}
 use lib.Seq.{drop-cons}
-use Rattle.numbers.specs.law.Reading.{later_bytes, last_byte, in_front, number_of}
+use Rattle.numbers.specs.law.Reading.{later_bytes, last_byte, in_front, number_of, whole, wrong}
 use Rattle.numbers.specs.inside.Shifted.{shifted, shifted_first, shifted_more}
-use Rattle.numbers.specs.declared.reader.Number.TheVariants.{Whole, Refused}
 
 pub product_small : {b scale : ℕ} → b < 128 → scale ≤ 2 ^ 56 → scale * b ≤ 2 ^ 56 * 127
 product_small {b} h k = let g : b ≤ 127 = omega (arith, h) in mul-le-mul k g
 
 -- ---- the bytes at `at`, by what stands there
 
-pub later_none : (more : ℕ) (bytes : List ℕ) (at : ℕ) → length bytes ≤ at → later_bytes more (drop at bytes) ≡ Refused 1 1
+pub later_none : (more : ℕ) (bytes : List ℕ) (at : ℕ) → length bytes ≤ at → later_bytes more (drop at bytes) ≡ wrong 1 1
 later_none zero bytes at h = rw (drop_of_length-le bytes h)
 later_none (suc more) bytes at h = rw (drop_of_length-le bytes h)
 
@@ -32,18 +31,18 @@ module _ (bytes : List ℕ) (at : ℕ) (h : at < length bytes) where
       → later_bytes (suc more) (drop at bytes) ≡ in_front (get_or bytes at 0 - 128) (later_bytes more (drop (at + 1) bytes))
   later_more more k = rw (drop-cons bytes at 0 h, le-ltb _ _ k, add-one at)
 
-  pub tenth_one : get_or bytes at 0 ≡ 1 → later_bytes 0 (drop at bytes) ≡ Whole 1 1
+  pub tenth_one : get_or bytes at 0 ≡ 1 → later_bytes 0 (drop at bytes) ≡ whole 1 1
   tenth_one e = rw (drop-cons bytes at 0 h, e)
 
-  pub tenth_other : (get_or bytes at 0 ≡ 1 → ⊥) → later_bytes 0 (drop at bytes) ≡ Refused 2 1
+  pub tenth_other : (get_or bytes at 0 ≡ 1 → ⊥) → later_bytes 0 (drop at bytes) ≡ wrong 2 1
   tenth_other n = rw (drop-cons bytes at 0 h) (go (get_or bytes at 0) n)
     where
-      go : (b : ℕ) → (b ≡ 1 → ⊥) → cond (leb b 1) (last_byte b) (Refused 2 1) ≡ Refused 2 1
+      go : (b : ℕ) → (b ≡ 1 → ⊥) → cond (leb b 1) (last_byte b) (wrong 2 1) ≡ wrong 2 1
       go zero n = refl
       go (suc zero) n = absurd (n refl)
       go (suc (suc b)) n = rw (lt-leb (suc (suc b)) 1 (omega arith))
 
-  pub number_one : get_or bytes at 0 < 128 → number_of (drop at bytes) ≡ Whole (get_or bytes at 0) 1
+  pub number_one : get_or bytes at 0 < 128 → number_of (drop at bytes) ≡ whole (get_or bytes at 0) 1
   unfolding number_of
   number_one k = rw (drop-cons bytes at 0 h, lt-ltb _ _ k)
 
@@ -71,10 +70,10 @@ gathering bytes start group h k = record {
 }
 
 module _ {bytes : List ℕ} {start group value scale at more : ℕ} (g : Gathering bytes start group value scale at more) where
-  pub gather_none : length bytes ≤ at → Refused 1 (10 - more) ≡ in_front group (later_bytes 8 (drop start bytes))
+  pub gather_none : length bytes ≤ at → wrong 1 (10 - more) ≡ in_front group (later_bytes 8 (drop start bytes))
   gather_none h =
       let e : 10 - more ≡ 9 - more + 1 = omega (arith, g.few) in
-      ap (Refused 1) e ∙ sym (g.result ∙ ap (shifted value scale (9 - more)) (later_none more bytes at h))
+      ap (wrong 1) e ∙ sym (g.result ∙ ap (shifted value scale (9 - more)) (later_none more bytes at h))
 
 -- with a byte before the tenth still to come
 module _ {bytes : List ℕ} {start group value scale at : ℕ} (less : ℕ) (g : Gathering bytes start group value scale at (suc less)) where

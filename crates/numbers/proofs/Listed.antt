@@ -1,5 +1,6 @@
 -- The numbers of a list, counted and placed one after the other: what is done, and the encoding of what is left, make up the whole encoding.
 -- Assumes nothing.
+use Rattle.std.specs.Prelude.{Some, None}
 use mathlib.Core.Path.{◌≡◌, refl, ap, ◌∙◌}
 use mathlib.Core.Bool.{Bool, true, false, cond}
 use mathlib.Core.List.{List, [], ◌∷◌, ◌++◌}
@@ -16,7 +17,6 @@ use Rattle.numbers.specs.inside.Pieces.{drop_next, Placing, placing, place_room,
 use Rattle.numbers.specs.law.Groups.{groups, encode, write_told, written}
 use Rattle.numbers.specs.inside.GroupLaws.{size_of}
 use Rattle.numbers.specs.law.Mapping.{unsigned_of}
-use Rattle.numbers.specs.declared.writer.Size.TheVariants.{Fits, Over}
 
 -- the groups of the number at i
 abbrev pub groups_at : List ℤ → ℕ → List ℕ
@@ -47,11 +47,11 @@ module _ {list : List ℤ} {room total i w : ℕ} (s : Sizing list room total i)
   pub size_turn : w ≤ room - total → Sizing list room (total + w) (i + 1)
   size_turn k = record { upto = omega arith; held = omega (arith, s.held); sum = omega (arith, s.sum, length_from list i h) }
 
-  pub size_over : room - total < w → Over ≡ size_of list room
+  pub size_over : room - total < w → None ≡ size_of list room
   unfolding size_of
   size_over k = rw (lt-leb (length (encode list)) room (omega (arith, s.held, s.sum, length_from list i h)))
 
-pub size_end : {list : List ℤ} {room total i : ℕ} → Sizing list room total i → length list ≤ i → Fits total ≡ size_of list room
+pub size_end : {list : List ℤ} {room total i : ℕ} → Sizing list room total i → length list ≤ i → Some total ≡ size_of list room
 unfolding size_of
 size_end {list} {room} {total} {i} s h =
     let e : total ≡ length (encode list) = omega (arith, s.sum, ap length (encode_past list i h)) in
@@ -86,19 +86,19 @@ module _ (list : List ℤ) (bytes : List ℕ) where
     pub fits : length (encode list) ≤ length bytes
     pub count : n ≡ length (encode list)
 
-  pub fitting : {n : ℕ} → size_of list (length bytes) ≡ Fits n → Fitting n
+  pub fitting : {n : ℕ} → size_of list (length bytes) ≡ Some n → Fitting n
   unfolding size_of
   fitting {n} e = go (leb (length (encode list)) (length bytes)) refl e
     where
-      go : (b : Bool) → leb (length (encode list)) (length bytes) ≡ b → cond b (Fits (length (encode list))) Over ≡ Fits n → Fitting n
+      go : (b : Bool) → leb (length (encode list)) (length bytes) ≡ b → cond b (Some (length (encode list))) None ≡ Some n → Fitting n
       go true t e = record { fits = leb-true _ _ t; count = cc }
       go false t e = let z : ◌≡◌ {A = ℕ} 0 1 = cc in let f : ⊥ = omega arith in absurd f
 
-  pub too_long : size_of list (length bytes) ≡ Over → length bytes < length (encode list)
+  pub too_long : size_of list (length bytes) ≡ None → length bytes < length (encode list)
   unfolding size_of
   too_long e = go (leb (length (encode list)) (length bytes)) refl e
     where
-      go : (b : Bool) → leb (length (encode list)) (length bytes) ≡ b → cond b (Fits (length (encode list))) Over ≡ Over
+      go : (b : Bool) → leb (length (encode list)) (length bytes) ≡ b → cond b (Some (length (encode list))) None ≡ None
           → length bytes < length (encode list)
       go true t e = let z : ◌≡◌ {A = ℕ} 0 1 = cc in let f : ⊥ = omega arith in absurd f
       go false t e = leb-false _ _ t

@@ -12,8 +12,8 @@ use Rattle.numbers.specs.law.Told.{overlay}
 use Rattle.numbers.specs.inside.OverlayLaws.{overlay_sets}
 use Rattle.numbers.specs.inside.Pieces.{Placing, placing, place_one, place_end}
 use Rattle.numbers.specs.inside.ReadingBounds.{used_some}
-use Rattle.numbers.specs.law.Reading.{number_of, Read, Ending, all, no, stopped, with_first, after_number, read_from, read_of, read_told, end_told}
-use Rattle.numbers.specs.declared.reader.Number.TheVariants.{Whole, Refused}
+use Rattle.numbers.specs.law.Reading.{number_of, Read, Ending, all, no, stopped, with_first}
+use Rattle.numbers.specs.law.Reading.{after_number, read_from, read_of, read_told, end_told, whole, wrong}
 
 -- ---- what is read from `at` on, by what stands there
 
@@ -73,11 +73,11 @@ module _ {bytes : List ℕ} {old list : List ℤ} {at count : ℕ} (s : Storing 
       let e : length old - count ≡ suc (length old - (count + 1)) = omega (arith, s.placed.kept) in
       rw e (read_number (length old - (count + 1)) at bytes h)
 
-  pub store_no : {n m : ℕ} → at < length bytes → count < length list → number_of (drop at bytes) ≡ Refused n m
+  pub store_no : {n m : ℕ} → at < length bytes → count < length list → number_of (drop at bytes) ≡ wrong n m
       → Stopped bytes old list (no n (at + m - 1)) count
   store_no h k e = store_stop (read_one h k ∙ rw e)
 
-  pub store_turn : {v u : ℕ} → at < length bytes → count < length list → number_of (drop at bytes) ≡ Whole v u
+  pub store_turn : {v u : ℕ} → at < length bytes → count < length list → number_of (drop at bytes) ≡ whole v u
       → Storing bytes old (set list count (signed_of v)) (at + u) (count + 1)
   store_turn {v} {u} h k e =
       let rest = read_from (length old - (count + 1)) (at + u) (drop (at + u) bytes) in

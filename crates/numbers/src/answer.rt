@@ -2,40 +2,34 @@
 ghost use Rattle.std.specs.Prelude.{◌≡◌};
 ghost use Rattle.numbers.specs.law.Question.{answer, or_else};
 
-#[derive(Clone, Copy)]
-pub enum Answer {
-    Yes,
-    No {
-        number: usize,
-        step: usize,
-        place: usize,
-    },
+// A question's "no": its number in the documents, the step and the place.
+#[derive(Clone, Copy, Debug, PartialEq, Eq)]
+pub struct No {
+    pub number: usize,
+    pub step: usize,
+    pub place: usize,
 }
+
+// A yes is `Ok(())`, so that `?` goes on past it and ends with the first "no".
+pub type Answer = Result<(), No>;
 
 pub fn ask(yes: bool, number: usize, step: usize, place: usize) -> Answer
     ensures { result ≡ answer yes number step place }
 {
     if yes {
-        Answer::Yes
+        Ok(())
     } else {
-        Answer::No {
-            number: number,
-            step: step,
-            place: place,
-        }
+        Err(No {
+            number,
+            step,
+            place,
+        })
     }
 }
 
-// The first no of two.
+// The first no of two that are both answered.
 pub fn or_else(a: Answer, b: Answer) -> Answer
     ensures { result ≡ or_else a b }
 {
-    match a {
-        Answer::Yes => b,
-        Answer::No {
-            number: _,
-            step: _,
-            place: _,
-        } => a,
-    }
+    a.and(b)
 }

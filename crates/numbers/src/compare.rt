@@ -12,24 +12,20 @@ pub fn at_most(a: i64, b: i64) -> bool
 pub fn within(low: i64, x: i64, high: i64) -> bool
     ensures { result ≡ (le_z low x && le_z x high) }
 {
-    if at_most(low, x) {
-        at_most(x, high)
-    } else {
-        false
-    }
+    low <= x && x <= high
 }
 
 pub fn same(a: i64, b: i64) -> bool
     ensures { result ≡ (le_z a b && le_z b a) }
 {
-    within(a, b, a)
+    a == b
 }
 
 // The number at `i`, and 0 past the end.
 pub fn at(list: &[i64], i: usize) -> i64
     ensures { result ≡ get_or list.now i (pos 0) }
 {
-    if i < list.len() { list[i] } else { 0 }
+    list.get(i).copied().unwrap_or(0)
 }
 
 // A number that is to be an index: 0 where it is negative.

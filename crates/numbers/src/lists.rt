@@ -11,14 +11,9 @@ pub fn copy(from: &[i64], to: &mut [i64], at: usize) -> usize
     if to.len() <= at {
         return to.len();
     }
-    let mut count = to.len() - at;
-    if from.len() < count {
-        count = from.len();
-    }
-    let mut i: usize = 0;
-    while i < count {
+    let count = from.len().min(to.len() - at);
+    for i in 0..count {
         to[at + i] = from[i];
-        i += 1;
     }
     at + count
 }

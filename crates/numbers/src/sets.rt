@@ -7,19 +7,14 @@ use crate::compare::index;
 pub fn member(set: i64, i: usize) -> bool
     ensures { result ≡ member_of set i }
 {
-    if i < 64 {
-        let bit = (index(set) >> i) & 1;
-        bit == 1
-    } else {
-        false
-    }
+    i < 64 && (index(set) >> i) & 1 == 1
 }
 
 // How many items the set has.
 pub fn count(set: i64) -> usize
     ensures { result ≡ count_of set }
 {
-    usize::count_ones(index(set)) as usize
+    index(set).count_ones() as usize
 }
 
 pub fn disjoint(a: i64, b: i64) -> bool

@@ -4,64 +4,50 @@ ghost use Rattle.std.proofs.lemmas.List.Edits.{sets};
 ghost use Rattle.numbers.specs.law.Groups.{encode, groups, write_told, written};
 ghost use Rattle.numbers.specs.inside.GroupLaws.{size_of};
 ghost use Rattle.numbers.specs.inside.LeadingGroups.{leading, past, in_groups};
-ghost use Rattle.numbers.specs.law.CodecTold.{writing_told};
+ghost use Rattle.numbers.specs.law.CodecTold.{count_told};
 
+use crate::answer::No;
 use crate::mapping::unsigned;
 
-// What a writing answers: the count of bytes, or a refusal.
-#[derive(Clone, Copy)]
-pub enum Writing {
-    Count(usize),
-    Refused { number: usize, place: usize },
-}
-
-// How many bytes a list takes, where they fit.
-#[derive(Clone, Copy)]
-pub enum Size {
-    Fits(usize),
-    Over,
-}
-
+// The answer is the count of bytes.
 // Two wrong answers that the promise rules out: "4" where all bytes fit, and bytes changed before it is known that all fit.
-pub fn write(list: &[i64], bytes: &mut [u8]) -> Writing
-    ensures result_value { writing_told result ≡ write_told list.now (length bytes.old) }
+pub fn write(list: &[i64], bytes: &mut [u8]) -> Result<usize, No>
+    ensures result_value { count_told result ≡ write_told list.now (length bytes.old) }
     ensures bytes_after { bytes.new ≡ written list.now bytes.old }
 {
-    let s = size_of(list, bytes.len());
-    match s {
-        Size::Fits(count) => {
+    match size_of(list, bytes.len()) {
+        Some(count) => {
             put_all(list, bytes);
-            Writing::Count(count)
+            Ok(count)
         }
-        Size::Over => Writing::Refused {
+        None => Err(No {
             number: 4,
+            step: 0,
             place: 0,
-        },
+        }),
     }
 }
 
-// The bytes of the list, counted before any is written.
-fn size_of(list: &[i64], room: usize) -> Size
+// The bytes of the list, counted before any is written, where they fit.
+fn size_of(list: &[i64], room: usize) -> Option<usize>
     ensures { result ≡ size_of list.now room }
 {
     let mut total: usize = 0;
-    let mut i: usize = 0;
-    while i < list.len() {
-        let w = width(unsigned(list[i]));
+    for &x in list {
+        let w = width(unsigned(x));
         if room - total < w {
-            return Size::Over;
+            return None;
         }
         total += w;
-        i += 1;
     }
-    Size::Fits(total)
+    Some(total)
 }
 
 // How many groups a number has: one, and nine sixty-fourths of its length in bits. The odd number beside it has as many, and is never 0.
 fn width(m: u64) -> usize
     ensures { result ≡ length (groups m) }
 {
-    let above = u64::leading_zeros(m / 2 * 2 + 1) as usize;
+    let above = (m / 2 * 2 + 1).leading_zeros() as usize;
     (9 * (63 - above) + 73) / 64
 }
 
@@ -71,10 +57,8 @@ fn put_all(list: &[i64], bytes: &mut [u8])
     ensures { bytes.new ≡ sets bytes.old 0 (encode list.now) }
 {
     let mut at: usize = 0;
-    let mut i: usize = 0;
-    while i < list.len() {
-        at = put(bytes, at, unsigned(list[i]));
-        i += 1;
+    for &x in list {
+        at = put(bytes, at, unsigned(x));
     }
 }
 
@@ -137,11 +121,9 @@ fn put_leading(bytes: &mut [u8], at: usize, m: u64, count: usize) -> u64
     ensures bytes_after { bytes.new ≡ sets bytes.old at (leading count m) }
 {
     let mut rest = m;
-    let mut i: usize = 0;
-    while i < count {
+    for i in 0..count {
         bytes[at + i] = (rest % 128 + 128) as u8;
         rest = rest / 128;
-        i += 1;
     }
     rest
 }

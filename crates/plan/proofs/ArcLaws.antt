@@ -15,6 +15,7 @@ use Rattle.case.specs.declared.records.Artificial.{Artificial}
 use Rattle.case.specs.law.Layout.{number_at, nodes_of, arcs_of, machine_count}
 use Rattle.case.specs.law.Records.{arc_of, pipe_of, artificial_of, machine_row}
 use Rattle.plan.specs.declared.rows.ArcRow.{ArcRow}
+use Rattle.plan.specs.declared.step.Step.{Step}
 use Rattle.plan.specs.declared.setting.Way.{Way}
 use Rattle.plan.specs.declared.setting.Mode.TheVariants.{Open, Regulating, Compressing}
 use Rattle.plan.specs.declared.setting.Setting.{Setting}
@@ -27,7 +28,8 @@ use Rattle.plan.specs.law.Machines.{machine_gain, gain_part}
 use Rattle.plan.specs.law.Pipes.{duration, change, pipe_imbalance, pressure_balance}
 use Rattle.plan.specs.inside.Sizes.{MachinesSized}
 use Rattle.plan.specs.inside.SettingLaws.{compressing_five}
-use Rattle.plan.specs.inside.Preconditions.{AcceptedCase, AtArc, PastFlows, AtFlow, AtPipe, Compresses}
+use Rattle.plan.specs.inside.Preconditions.{AcceptedCase}
+use Rattle.plan.specs.inside.StepArcs.{AtArc, PastFlows, Compresses, AtFlow, AtPipe}
 use Rattle.plan.specs.inside.AnsweredSizes.{arc_sized}
 use Rattle.plan.proofs.SignedReads.{read, read_bounded, sized}
 use Rattle.plan.specs.inside.CaseSizes.{duration_sized, from_node, to_node, pipe_sized, station_in, machines_sized}
@@ -49,17 +51,9 @@ module _ {case : List ℤ} {e : ℕ} (a : AcceptedCase case) (p : e < arcs_of ca
 
 -- ---- past 24 the flows are in range
 
-pub at_flow : {case old rows : List ℤ} {offsets : List ℕ} {i e : ℕ} → PastFlows case old rows offsets i e → AtFlow case old rows i e
-at_flow {case} {old} {rows} {offsets} {i} {e} p =
-    let a = p.at in
-    record {
-      accepted = a.at.accepted;
-      step = a.at.step;
-      arc = a.arc;
-      before = p.before;
-      pressures = a.pressures;
-      flows = arc_sized case (number_at old) rows i a.at.accepted e a.arc p.yes;
-    }
+pub at_flow : {s : Step} {offsets : List ℕ} {e : ℕ} → PastFlows s offsets e → AtFlow s e
+at_flow {s} {e = e} p =
+    record { arc = p.at.arc; flows = arc_sized s.case.now (number_at s.old.now) s.rows.now s.i s.accepted e p.at.arc p.yes }
 
 -- ---- 26: the ratio of a station's machines
 
@@ -72,26 +66,17 @@ gain_sized {case} {first} set z =
 
 -- ---- the station of an artificial arc
 
-module _ {case rows : List ℤ} {l : List ℕ} {i e : ℕ} (a : AtArc case rows l i e) (k : 3 ≤ (arc_of case e).kind) where
-  pub offset_is : {x : Artificial} {r : ℕ} → x ≡ artificial_of case e → r ≡ get_or l x.station 0 → r ≡ station_offset case e
+module _ {s : Step} {l : List ℕ} {e : ℕ} (a : AtArc s l e) (k : 3 ≤ (arc_of s.case.now e).kind) where
+  pub offset_is : {x : Artificial} {r : ℕ} → x ≡ artificial_of s.case.now e → r ≡ get_or l x.station 0 → r ≡ station_offset s.case.now e
   offset_is q h =
       h ∙ ap (λ (y : Artificial). get_or l y.station 0) q
-      ∙ a.at.laid.each (artificial_of case e).station (station_in a.at.accepted e a.arc k)
+      ∙ a.laid.each (artificial_of s.case.now e).station (station_in s.accepted e a.arc k)
 
-  pub offset_machines : {r : ℕ} → r ≡ station_offset case e → MachinesSized case r
-  offset_machines h = rw h (machines_sized a.at.accepted (artificial_of case e).station (station_in a.at.accepted e a.arc k))
+  pub offset_machines : {r : ℕ} → r ≡ station_offset s.case.now e → MachinesSized s.case.now r
+  offset_machines h = rw h (machines_sized s.accepted (artificial_of s.case.now e).station (station_in s.accepted e a.arc k))
 
-  pub compresses : {r u w : ℕ} → r ≡ station_offset case e → u < nodes_of case → w < nodes_of case → Compresses case rows r e u w
-  compresses {r} {u} {w} h p q = record {
-    accepted = a.at.accepted;
-    arc = a.arc;
-    offset_of = h;
-    machines = offset_machines h;
-    in_node = p;
-    out_node = q;
-    in_sized = a.pressures.each u p;
-    out_sized = a.pressures.each w q;
-  }
+  pub compresses : {r u w : ℕ} → r ≡ station_offset s.case.now e → u < nodes_of s.case.now → w < nodes_of s.case.now → Compresses s r e u w
+  compresses h p q = record { arc = a.arc; offset_of = h; machines = offset_machines h; in_node = p; out_node = q }
 
 -- an arc that compresses is a station's
 pub compressing_kind : (kind : ℕ) (z : ℤ) (way : Way) → setting_of kind z ≡ Active way Compressing → 3 ≤ kind
@@ -123,46 +108,44 @@ pub record SumRead (dt a b c x y z : ℤ) : Type 0 where
       (to_z w64 (of_z w64 dt) *ℤ (to_z w64 (of_z w64 a) -ℤ to_z w64 (of_z w64 b)) -ℤ to_z w64 (of_z w64 c) *ℤ (to_z w64 (of_z w64 x) +ℤ to_z w64 (of_z w64 y)))
       z 100000000000000
 
-module _ {case old rows : List ℤ} {i e : ℕ} (p : AtPipe case old rows i e) where
-  pub change_sized : (v : ℕ) → v < nodes_of case → Bounded (change (number_at old) rows v) 400000
-  change_sized v q = record { bound = (sized (p.at.pressures.each v q) -ʳ sized (p.at.before.each v q)).bound }
+module _ {s : Step} {e : ℕ} (p : AtPipe s e) where
+  change_sized : (v : ℕ) → v < nodes_of s.case.now → Bounded (change (number_at s.old.now) s.rows.now v) 400000
+  change_sized v q = record { bound = (sized (s.pressures.each v q) -ʳ sized (s.before.each v q)).bound }
 
-  pub sum_read : {dt x y : ℤ} {r : ArcRow} {k : Pipe} {n : Arc} → dt ≡ duration case i → r ≡ arc_row case rows e
-      → k ≡ pipe_of case e → n ≡ arc_of case e → x ≡ change (number_at old) rows n.from → y ≡ change (number_at old) rows n.to
-      → SumRead dt r.a r.b k.c x y (pipe_imbalance case (number_at old) rows i e)
+  pub sum_read : {dt x y : ℤ} {r : ArcRow} {k : Pipe} {n : Arc} → dt ≡ duration s.case.now s.i → r ≡ arc_row s.case.now s.rows.now e
+      → k ≡ pipe_of s.case.now e → n ≡ arc_of s.case.now e → x ≡ change (number_at s.old.now) s.rows.now n.from
+      → y ≡ change (number_at s.old.now) s.rows.now n.to
+      → SumRead dt r.a r.b k.c x y (pipe_imbalance s.case.now (number_at s.old.now) s.rows.now s.i e)
   unfolding pipe_imbalance
   sum_read {dt} {x} {y} {r} {k} {n} et er ek en ex ey =
-      let s = p.at in
-      let z = pipe_sized s.accepted e s.arc p.pipe in
-      let d = read et (duration_sized s.accepted i s.step) tt in
-      let a = read (ap (λ (u : ArcRow). u.a) er) s.flows.a tt in
-      let b = read (ap (λ (u : ArcRow). u.b) er) s.flows.b tt in
+      let z = pipe_sized s.accepted e p.at.arc p.pipe in
+      let d = read et (duration_sized s.accepted s.i s.step) tt in
+      let a = read (ap (λ (u : ArcRow). u.a) er) p.at.flows.a tt in
+      let b = read (ap (λ (u : ArcRow). u.b) er) p.at.flows.b tt in
       let c = read (ap (λ (u : Pipe). u.c) ek) z.c tt in
-      let f = read (ex ∙ ap (λ (u : Arc). change (number_at old) rows u.from) en) (change_sized _ (from_node s.accepted e s.arc)) tt in
-      let t = read (ey ∙ ap (λ (u : Arc). change (number_at old) rows u.to) en) (change_sized _ (to_node s.accepted e s.arc)) tt in
+      let f = read (ex ∙ ap (λ (u : Arc). change (number_at s.old.now) s.rows.now u.from) en) (change_sized _ (from_node s.accepted e p.at.arc)) tt in
+      let t = read (ey ∙ ap (λ (u : Arc). change (number_at s.old.now) s.rows.now u.to) en) (change_sized _ (to_node s.accepted e p.at.arc)) tt in
       record {
         sizes = (read_bounded d, read_bounded a, read_bounded b, read_bounded c, read_bounded f, read_bounded t);
         total = loosen 100000000000000 (omega arith) (d *ʳ (a -ʳ b) -ʳ c *ʳ (f +ʳ t));
       }
 
-  pub imbalance_sized : Bounded (pipe_imbalance case (number_at old) rows i e) 100000000000000
+  pub imbalance_sized : Bounded (pipe_imbalance s.case.now (number_at s.old.now) s.rows.now s.i e) 100000000000000
   unfolding pipe_imbalance
   imbalance_sized =
-      let a = p.at in
-      let f = a.flows in
-      let z = pipe_sized a.accepted e a.arc p.pipe in
-      let x = change_sized (arc_of case e).from (from_node a.accepted e a.arc) in
-      let y = change_sized (arc_of case e).to (to_node a.accepted e a.arc) in
-      let h = sized (duration_sized a.accepted i a.step) *ʳ (sized f.a -ʳ sized f.b) -ʳ sized z.c *ʳ (sized x +ʳ sized y) in
+      let f = p.at.flows in
+      let z = pipe_sized s.accepted e p.at.arc p.pipe in
+      let x = change_sized (arc_of s.case.now e).from (from_node s.accepted e p.at.arc) in
+      let y = change_sized (arc_of s.case.now e).to (to_node s.accepted e p.at.arc) in
+      let h = sized (duration_sized s.accepted s.i s.step) *ʳ (sized f.a -ʳ sized f.b) -ʳ sized z.c *ʳ (sized x +ʳ sized y) in
       record { bound = omega (arith, h.bound) }
 
-  pub balance_sized : Bounded (pressure_balance case rows e) 300000000000000
+  pub balance_sized : Bounded (pressure_balance s.case.now s.rows.now e) 300000000000000
   unfolding pressure_balance
   balance_sized =
-      let a = p.at in
-      let f = a.flows in
-      let z = pipe_sized a.accepted e a.arc p.pipe in
-      let x = sized (a.pressures.each (arc_of case e).from (from_node a.accepted e a.arc)) in
-      let y = sized (a.pressures.each (arc_of case e).to (to_node a.accepted e a.arc)) in
+      let f = p.at.flows in
+      let z = pipe_sized s.accepted e p.at.arc p.pipe in
+      let x = sized (s.pressures.each (arc_of s.case.now e).from (from_node s.accepted e p.at.arc)) in
+      let y = sized (s.pressures.each (arc_of s.case.now e).to (to_node s.accepted e p.at.arc)) in
       let h = literal (pos 1000000) *ʳ (y -ʳ x) +ʳ sized z.f *ʳ sized f.a +ʳ sized z.g *ʳ sized f.b +ʳ sized z.h *ʳ (x +ʳ y) in
       record { bound = omega (arith, h.bound) }

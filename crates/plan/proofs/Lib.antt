@@ -1,9 +1,12 @@
 -- The proofs of the plan's functions, each in its function's folder, and the laws that several of them cite.
 pub mod Common
 pub mod SignedReads
-pub mod Filled
+pub mod Fronts
+pub mod PartSizes
 pub mod Adding
-pub mod Questions
+pub mod Asked
+pub mod CaseFacts
+pub mod CaseRows
 pub mod ArcLaws
 pub mod NetFlows
 pub mod NodeParts

@@ -6,7 +6,8 @@ use Prim.Native.Nat.{◌/◌, min, max}
 use borrow.Author.Tests.{eqb-true, eqb-false, leb-true, ltb-true, ltb-false}
 use lib.Bits.{bit_and, bit_or, or_step, or_shr}
 use lib.Dec.{ltb}
-use lib.Pow.{pow_pos}
+use lib.Pow.{pow_pos, pow_mono}
+use Rattle.std.proofs.lemmas.Nat.{and_le_r}
 use Rattle.numbers.specs.law.Signed.{pos_part}
 use Rattle.numbers.specs.inside.SignedParts.{ints, size}
 use Rattle.numbers.specs.law.Sets.{bit, subset_of}
@@ -23,7 +24,7 @@ use Rattle.plan.specs.law.PlanRecords.{arc_row}
 use Rattle.plan.specs.law.ArcFlows.{machines_within}
 use Rattle.plan.specs.law.StationRules.{on_arc, machine_once, machines_once}
 use Rattle.plan.specs.inside.Preconditions.{AcceptedCase, MachinesKept}
-use Rattle.plan.specs.inside.CaseSizes.{own_machines}
+use Rattle.plan.specs.inside.CaseSizes.{own_machines, machines_sized}
 
 bit_or_lem : (a b i : ℕ) → bit (bit_or a b) i ≡ max (bit a i) (bit b i)
 bit_or_lem a b i = rw or_shr (let k = or_step (a / 2 ^ i) (b / 2 ^ i) in omega arith)
@@ -48,15 +49,39 @@ own_within kind own x {n} k o m p = go (leb kind 4) k
         let z : pos_part x ≡ 0 = omega (ints, size x) in
         rw z (bit_zero m)
     go false e =
-        let a = eqb-true _ _ (and_second (le_z (pos 0) x) (subset_of x own) e) in
+        let a : bit_and (pos_part x) (pos_part own) ≡ pos_part x = eqb-true _ _ (and_second (le_z (pos 0) x) (subset_of x own) e) in
         let h : 2 ^ n - 1 < 2 ^ n = omega (arith, pow_pos n) in
-        let own_few = subset_is (pos_part own) (pos_part (first_items n)) (eqb-true _ _ o) m in
-        omega (arith, subset_is (pos_part x) (pos_part own) a m, own_few, bit_high n (2 ^ n - 1) m h p)
+        let few = subset_is (pos_part own) (pos_part (first_items n)) (eqb-true _ _ o) m in
+        omega (arith, subset_is (pos_part x) (pos_part own) a m, few, bit_high n (2 ^ n - 1) m h p)
 
 pub own_bits : {case rows : List ℤ} {s e : ℕ} → AcceptedCase case → MachinesKept case rows → s < stations_of case → e < arcs_of case → belongs case s e ≡ true
     → (m : ℕ) → (station_of case s).machines ≤ m → bit (pos_part (arc_row case rows e).machines) m ≡ 0
 own_bits {case} {rows} {s} {e} a k p q b =
     own_within (arc_of case e).kind (artificial_of case e).machines (arc_row case rows e).machines (k.each e q) (own_machines a s p e q b)
+
+-- and so the set is a small number
+own_small : (kind : ℕ) (own x : ℤ) {n : ℕ} → machines_within kind own x ≡ true → subset_of own (first_items n) ≡ true → n ≤ 12 → pos_part x < 2 ^ 12
+unfolding machines_within
+own_small kind own x {n} k o few = go (leb kind 4) k
+  where
+    go : (b : Bool) → cond b (is_zero x) (le_z (pos 0) x && subset_of x own) ≡ true → pos_part x < 2 ^ 12
+    go true e =
+        let a : le_z x (pos 0) ≡ true = and_first (le_z x (pos 0)) (le_z (pos 0) x) e in
+        let z : pos_part x ≡ 0 = omega (ints, size x) in
+        omega arith
+    go false e =
+        let a = eqb-true _ _ (and_second (le_z (pos 0) x) (subset_of x own) e) in
+        let h : 2 ^ n - 1 < 2 ^ n = omega (arith, pow_pos n) in
+        let w : 2 ^ n ≤ 2 ^ 12 = pow_mono few in
+        let u : pos_part x ≤ pos_part own = rw a at (and_le_r (pos_part x) (pos_part own)) in
+        let v : pos_part own ≤ 2 ^ n - 1 = rw (eqb-true _ _ o) at (and_le_r (pos_part own) (pos_part (first_items n))) in
+        omega arith
+
+pub own_few : {case rows : List ℤ} {s e : ℕ} → AcceptedCase case → MachinesKept case rows → s < stations_of case → e < arcs_of case → belongs case s e ≡ true
+    → pos_part (arc_row case rows e).machines < 2 ^ 12
+own_few {case} {rows} {s} {e} a k p q b =
+    own_small (arc_of case e).kind (artificial_of case e).machines (arc_row case rows e).machines (k.each e q) (own_machines a s p e q b)
+    (machines_sized a s p).count
 
 -- ---- one arc more
 
@@ -80,7 +105,7 @@ module _ {case rows : List ℤ} {s t e : ℕ} (g : Taken case rows s t e) where
         go m false h = let n = eqb-false (bit x m) 1 h in omega (arith, lacks m h, g.each m, bit_or_lem t x m, n)
 
     -- a machine that an arc before it has
-    pub taken_twice : e < arcs_of case → ((m : ℕ) → (station_of case s).machines ≤ m → bit x m ≡ 0) → x < 2 ^ 64 → (bit_and x t ≡ 0 → ⊥)
+    pub taken_twice : e < arcs_of case → ((m : ℕ) → (station_of case s).machines ≤ m → bit x m ≡ 0) → x < 2 ^ 12 → (bit_and x t ≡ 0 → ⊥)
         → false ≡ machines_once case rows s
     unfolding machines_once
     taken_twice p own l n = go (every (station_of case s).machines (machine_once case rows s)) refl
@@ -100,7 +125,7 @@ module _ {case rows : List ℤ} {s t e : ℕ} (g : Taken case rows s t e) where
 
         go : (v : Bool) → every (station_of case s).machines (machine_once case rows s) ≡ v → false ≡ v
         go false y = refl
-        go true y = absurd (n (is_disjoint 64 x t l (clear y)))
+        go true y = absurd (n (is_disjoint 12 x t l (clear y)))
 
 pub taken_once : {case rows : List ℤ} {s t : ℕ} → Taken case rows s t (arcs_of case) → true ≡ machines_once case rows s
 unfolding machines_once

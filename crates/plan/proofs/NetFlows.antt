@@ -1,12 +1,14 @@
 -- Net flows in an array, gathered arc by arc: one arc more is two stores, one at each of its ends.
 use Rattle.case.specs.law.Extents.{arc_capacity, node_capacity}
-use Rattle.plan.proofs.Common.{◌≡◌, refl, sym, ap, ◌∙◌, Bool, true, false, ℕ, ◌+◌, ◌<◌, ◌≤◌, arith, eqb, ℤ, pos, nat_abs, ◌+ℤ◌, ◌-ℤ◌, length}
+use Rattle.plan.proofs.Common.{◌≡◌, refl, sym, ap, ◌∙◌, Bool, true, false, ℕ, ◌+◌, ◌<◌, ◌≤◌, arith, eqb, ℤ, pos, nat_abs, ◌+ℤ◌, ◌-ℤ◌, length, w64, to_z, of_z}
+use Rattle.plan.proofs.Common.{Held, held, held_fits, param, ◌+ʳ◌, ◌-ʳ◌}
+use mir.Val.{SFits}
 use mathlib.Core.List.{List}
 use Prim.Native.Nat.{zero, suc}
 use native.Mathlib.Numerals.{add-one}
 use borrow.Author.Tests.{eqb-true, eqb-false}
 use lib.IntN.{neg_ℤ, +ℤ_idr}
-use lib.ListN.{get_or, set, replicate}
+use lib.ListN.{get_or, set, replicate, length-set}
 use lib.Seq.{get_or-set_same, get_or-set_other}
 use Rattle.numbers.specs.inside.SignedLinear.{v, ◌⊞◌, ◌⊟◌, eq! }
 use Rattle.numbers.specs.inside.SignedBounds.{Bounded, abs_add, abs_neg}
@@ -15,11 +17,12 @@ use Rattle.numbers.specs.inside.SumLaws.{abs_sum_le, abs_only_le}
 use Rattle.case.specs.law.Layout.{number_at}
 use Rattle.case.specs.law.LayoutOf.{Holds}
 use Rattle.plan.specs.inside.NetFlow.{moved_at, NetSized}
+use Rattle.plan.proofs.SignedReads.{read}
 
 -- ---- one store
 
 -- a store that adds x at one node, or takes it off; nothing is done at the others, where x counts as 0
-pub put : (f : ℤ → ℤ → ℤ) → ((y : ℤ) → f y (pos 0) ≡ y) → (net : List ℤ) (from : ℕ) (z x : ℤ) → from < length net → z ≡ f (number_at net from) x
+put : (f : ℤ → ℤ → ℤ) → ((y : ℤ) → f y (pos 0) ≡ y) → (net : List ℤ) (from : ℕ) (z x : ℤ) → from < length net → z ≡ f (number_at net from) x
     → (i : ℕ) → number_at (set net from z) i ≡ f (number_at net i) (only (eqb from i) x)
 put f zero_right net from z x l e i = go (eqb from i) refl
   where
@@ -33,6 +36,40 @@ pub room : (net : List ℤ) (from to : ℕ) (out : ℤ) → Bounded (number_at n
 room net from to out n o = record {
   bound = omega (arith, abs_add (number_at net to) (only (eqb from to) out), abs_only_le (eqb from to) out o.bound, n.bound);
 }
+
+-- ---- two stores, one at each end of an arc
+
+module _ {net : List ℤ} {from to : ℕ} {out into : ℤ} (p : from < node_capacity) (q : to < node_capacity) (long : length net ≡ node_capacity)
+    (o : Bounded out 20000000) (n : Bounded into 20000000) (z : NetSized net) where
+  -- what is stored at `from`, and the flows then
+  leaves : Held (to_z w64 (of_z w64 (number_at net from)) +ℤ to_z w64 (of_z w64 out)) (number_at net from +ℤ out) 1000020000000
+  leaves = param (z.each from p) tt +ʳ param o tt
+
+  abbrev half : List ℤ
+  half = set net from (to_z w64 (of_z w64 (to_z w64 (of_z w64 (number_at net from)) +ℤ to_z w64 (of_z w64 out))))
+
+  half_is : (i : ℕ) → number_at half i ≡ number_at net i +ℤ only (eqb from i) out
+  half_is = put ◌+ℤ◌ +ℤ_idr net from _ out (omega (arith, long, p)) (held leaves tt).val
+
+  -- what is stored at `to`
+  abbrev right : ℤ
+  right = to_z w64 (of_z w64 (number_at half to)) -ℤ to_z w64 (of_z w64 into)
+
+  enters : Held right (number_at net to +ℤ only (eqb from to) out -ℤ into) 1000040000000
+  enters = read (half_is to) (room net from to out (z.each to q) o) tt -ʳ param n tt
+
+  pub enters_fits : SFits w64 right
+  enters_fits = held_fits enters tt
+
+  pub moved_is : (length (set half to (to_z w64 (of_z w64 right))) ≡ node_capacity)
+      × Holds (pos 0) (set half to (to_z w64 (of_z w64 right))) (moved_at net from to out into) node_capacity
+  unfolding moved_at
+  moved_is =
+      let e : to_z w64 (of_z w64 right) ≡ number_at half to -ℤ into = (held enters tt).val ∙ ap (λ (n : ℤ). n -ℤ into) (sym (half_is to)) in
+      let l : to < length half = simp length-set (omega (arith, long, q)) in (
+        simp length-set long,
+        record { each = λ i p. put ◌-ℤ◌ +ℤ_idr half to (to_z w64 (of_z w64 right)) into l e i ∙ ap (λ (n : ℤ). n -ℤ only (eqb to i) into) (half_is i) },
+      )
 
 -- ---- arc by arc
 

@@ -1,29 +1,38 @@
 -- A node's net flow is the sum of what each arc puts to it, so it is bounded by what the arcs can put.
 use Rattle.plan.specs.inside.SumSizes.{most_net, most_node_residual}
-use Rattle.plan.proofs.Common.{◌≡◌, refl, sym, ◌∙◌, Bool, true, false, ℕ, ◌+◌, ◌<◌, ◌≤◌, arith, eqb, ℤ, pos, nat_abs, ◌-ℤ◌, le_z, counted}
+use Rattle.plan.proofs.Common.{◌≡◌, ◌∙◌, Bool, true, false, ℕ, ◌+◌, ◌<◌, ◌≤◌, arith, eqb, ℤ, pos, nat_abs, ◌-ℤ◌, counted}
+use Rattle.plan.proofs.Common.{ap, w64, to_z, of_z, Held, held, ◌-ʳ◌}
 use mathlib.Core.Bool.{cond}
-use mathlib.Core.List.{List, [], ◌∷◌}
+use mathlib.Core.List.{List}
 use native.Mathlib.Nat.{mul-le-mul}
 use lib.IntN.{neg_ℤ}
-use Rattle.numbers.specs.law.Question.{answer, first_no}
 use Rattle.numbers.specs.inside.SignedBounds.{Bounded, abs_add, abs_neg}
 use Rattle.numbers.specs.law.Sums.{sum, only}
 use Rattle.numbers.specs.inside.SumLaws.{sum_sub, abs_sum_le}
-use Rattle.case.specs.law.Layout.{arcs_of, mass_tolerance}
+use Rattle.case.specs.law.Layout.{nodes_of, arcs_of}
+use Rattle.case.specs.law.LayoutOf.{Holds}
+use Rattle.plan.specs.declared.rows.NodeRow.{NodeRow}
 use Rattle.case.specs.law.Records.{arc_of}
-use Rattle.plan.specs.law.Compared.{asked}
 use Rattle.plan.specs.law.PlanRecords.{node_row}
 use Rattle.plan.specs.law.Pipes.{is_pipe}
 use Rattle.plan.specs.law.Balance.{flow_at_from, flow_at_to, out_part, in_part, outflow, inflow, net_flow}
-use Rattle.plan.specs.law.Balance.{node_imbalance, node_residual, balance_kept, balance_questions}
+use Rattle.plan.specs.law.Balance.{node_imbalance, node_residual}
 use Rattle.plan.specs.inside.Sizes.{FlowsSized}
 use Rattle.plan.specs.inside.Preconditions.{AcceptedCase, AtBalance}
-use Rattle.plan.specs.inside.CaseSizes.{duration_sized}
-use Rattle.plan.proofs.NetFlows.{put_sized}
+use Rattle.plan.specs.inside.CaseSizes.{duration_sized, mass_sized}
+use Rattle.plan.proofs.ArcLaws.{from_small, to_small}
+use Rattle.plan.proofs.NetFlows.{put_sized, Gathers, gathers_more, gathers_sized}
+use Rattle.plan.proofs.SignedReads.{read}
+use Rattle.plan.proofs.Adding.{sum_n_none, sum_n_more}
 
 -- the flow at an end: one of the row's two, or their difference
 pub difference : {a b : ℤ} → Bounded a 10000000 → Bounded b 10000000 → Bounded (a -ℤ b) 20000000
 difference {a} {b} h k = record { bound = omega (arith, abs_add a (neg_ℤ b), abs_neg b, h.bound, k.bound) }
+
+-- and as it is read off the row
+pub flow_read : {a b x y : ℤ} → a ≡ x → b ≡ y → Bounded x 10000000 → Bounded y 10000000
+    → to_z w64 (of_z w64 (to_z w64 (of_z w64 a) -ℤ to_z w64 (of_z w64 b))) ≡ x -ℤ y
+flow_read p q h k = (held (read p h tt -ʳ read q k tt) tt).val
 
 end_sized : (p : Bool) {a b x : ℤ} → Bounded a 10000000 → Bounded b 10000000 → Bounded x 10000000 → Bounded (cond p x (a -ℤ b)) 20000000
 end_sized true h k l = record { bound = omega (arith, l.bound) }
@@ -60,6 +69,12 @@ module _ {case rows : List ℤ} (z : FlowsSized case rows) where
     bound = rw (← net_flow_lem case rows i) (omega (arith, abs_sum_le (arcs_of case) 40000000 (node_part case rows i) (part_sized i), (counted c).arcs));
   }
 
+  pub net_gathered : {net : List ℤ} {e : ℕ} → AcceptedCase case → Gathers net (node_part case rows) e → e ≡ arcs_of case
+      → Holds (pos 0) net (net_flow case rows) (nodes_of case)
+  net_gathered c g q = record {
+    each = λ i p. g.each i (omega (arith, p, (counted c).nodes)) ∙ ap (λ (n : ℕ). sum n (node_part case rows i)) q ∙ net_flow_lem case rows i;
+  }
+
 -- ---- 33 of one node
 
 module _ {case rows : List ℤ} {i n : ℕ} {net : ℤ} (at : AtBalance case rows i n net) where
@@ -74,13 +89,14 @@ module _ {case rows : List ℤ} {i n : ℕ} {net : ℤ} (at : AtBalance case row
   unfolding node_residual
   residual_sized = omega (arith, mul-le-mul (duration_sized at.accepted i at.step).bound imbalance_sized)
 
--- the answer by what was found of the residual
-pub balance_asked : (case rows : List ℤ) (i n : ℕ) {x y : ℤ} {b w : Bool} → x ≡ pos (node_residual case rows i n)
-    → y ≡ mass_tolerance case → b ≡ le_z x y → b ≡ w
-    → answer w 33 (i + 1) n ≡ first_no (balance_questions case rows i n)
-unfolding balance_questions balance_kept
-balance_asked case rows i n {w = w} p q e k = rw (← p, ← q, sym e ∙ k) (single w)
-  where
-    single : (w : Bool) → answer w 33 (i + 1) n ≡ first_no (asked 33 i n w ∷ [])
-    single true = refl
-    single false = refl
+  -- the imbalance as it is read
+  pub left_is : {r : NodeRow} → r ≡ node_row rows n
+      → Held (to_z w64 (of_z w64 net) -ℤ to_z w64 (of_z w64 r.d)) (node_imbalance case rows n) (most_net + 10000000)
+  unfolding node_imbalance
+  left_is q = read at.is (net_sized at.flows at.accepted n) tt -ʳ read (ap (λ (r : NodeRow). r.d) q) (at.node_rows.each n at.node).d tt
+
+-- what the loop over the nodes leans on
+pub ruleset balance_laws = (counted, mass_sized, net_sized, residual_sized, sum_n_none, sum_n_more)
+
+-- what one arc puts to the nodes
+pub ruleset flow_laws = (counted, from_small, to_small, from_sized, to_sized, part_sized, node_part_lem, gathers_more, gathers_sized)

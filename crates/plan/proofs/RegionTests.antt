@@ -1,18 +1,12 @@
--- What goes by equal parts is equal, and a search for the lowest item goes on from item to item.
+-- A search for the lowest item of a set goes on from item to item, and figures of equal parts are equal.
 use Rattle.case.specs.law.Extents.{set_room}
-use Rattle.plan.proofs.Common.{◌≡◌, ap₂, Bool, true, false, arith, ℤ}
+use Rattle.plan.proofs.Common.{◌≡◌, Bool, true, false, arith, ℤ}
 use mathlib.Core.List.{List}
 use Prim.Native.Nat.{ℕ, suc, ◌+◌, ◌-◌, ◌<◌, ◌≤◌}
 use native.Mathlib.Numerals.{add-one}
 use Rattle.numbers.specs.law.Sets.{member_of}
 use Rattle.plan.specs.law.RegionFigures.{figures_of}
 use Rattle.plan.specs.law.Ledger.{lowest_of}
-use Rattle.plan.specs.law.Region.{inward}
-
-pub inward_same : {f g h k : Bool} {x y u w : ℤ} → f ≡ h → g ≡ k → x ≡ u → y ≡ w → inward f g x y ≡ inward h k u w
-inward_same {h = h} {k} {x} {y} {u} {w} p q r s = rw (p, q) (ap₂ (inward h k) r s)
-
--- ---- a search for the lowest item of a set
 
 count_down : (v : ℕ) → v < set_room → set_room - v ≡ suc (set_room - (v + 1))
 count_down v l = omega arith

@@ -1,6 +1,6 @@
 -- The way to demand 3: 28 and 33 of an accepted plan bound each residual by E, and the balance of the steps is added up. That 40 and 41 pass a set of nodes
 -- and times in their order stands in specs/inside/RegionVouched.antt.
-use Rattle.std.specs.Prelude.{◌≡◌, Bool, false, not, ◌||◌, List, ℕ, ◌+◌, ◌*◌, ◌-◌, ◌≤◌, ◌<◌, ℤ, pos, negsuc, ◌-ℤ◌, ◌*ℤ◌, ◌≤ℤ◌}
+use Rattle.std.specs.Prelude.{◌≡◌, Bool, false, not, ◌||◌, List, ℕ, ◌+◌, ◌*◌, ◌-◌, ◌≤◌, ◌<◌, ℤ, pos, negsuc, ◌-ℤ◌, ◌*ℤ◌, ◌≤ℤ◌, Ok}
 use Rattle.std.proofs.Common.{arith}
 use Rattle.std.proofs.Math.Bool.{true}
 use Rattle.std.specs.Int.Signed.{le_z}
@@ -11,7 +11,6 @@ use Rattle.numbers.specs.law.Sets.{member_of}
 use Rattle.numbers.specs.law.Sums.{count}
 use Rattle.case.specs.law.Layout.{nodes_of, arcs_of, steps_of, mass_tolerance}
 use Rattle.plan.specs.declared.totals.Totals.{Totals}
-use Rattle.plan.specs.declared.verdict.Verdict.TheVariants.{Accepted}
 use Rattle.plan.specs.law.PlanLayout.{step_rows}
 use Rattle.plan.specs.law.BeforeStep.{pressure_at}
 use Rattle.plan.specs.law.Pipes.{is_pipe, pipe_residual, pipe_mass_kept}
@@ -70,7 +69,7 @@ sound_of {case} {plan} r =
     }
 
 -- whatever nodes are inside
-module _ (case plan : List ℤ) (inside : ℕ → Bool) (s t : ℤ) (totals : Totals) (accepted : judge_of case plan ≡ verdict_told (Accepted totals))
+module _ (case plan : List ℤ) (inside : ℕ → Bool) (s t : ℤ) (totals : Totals) (accepted : judge_of case plan ≡ verdict_told (Ok totals))
     (times : times_ordered case s t ≡ true) where
   pub region_balanced : Balanced case s t (figures_of case plan inside (pos_part s) (pos_part t))
   unfolding figures_of

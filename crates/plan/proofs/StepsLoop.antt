@@ -1,4 +1,5 @@
 -- The loop over the steps, over plain lists: what holds before the step with index i, one turn, and both ways out.
+use Rattle.std.specs.Prelude.{Ok, Err, Result}
 use Rattle.case.specs.law.Extents.{arc_capacity, node_capacity}
 use Rattle.plan.specs.inside.SumSizes.{most_demand_slack, most_pressure_slack, most_residual, most_step_width, most_switching}
 use Rattle.plan.proofs.Common.{◌≡◌, refl, sym, ap, ap₂, ◌∙◌, ℕ, ◌+◌, ◌-◌, ◌*◌, ◌<◌, ◌≤◌, arith, ℤ, pos, nat_abs, ◌+ℤ◌}
@@ -7,19 +8,17 @@ use native.Mathlib.Nat.{mul-le-mul}
 use native.Mathlib.Numerals.{add-one}
 use lib.ListN.{take, drop}
 use Rattle.numbers.specs.inside.SignedBounds.{abs_add}
-use Rattle.numbers.specs.law.Question.{first_no}
+use Rattle.numbers.specs.declared.answer.No.{No}
+use Rattle.numbers.specs.law.Question.{first_no, found}
 use Rattle.numbers.specs.law.Items.{over}
 use Rattle.numbers.specs.inside.ItemLaws.{rest, rest_on, rest_no, rest_end}
 use Rattle.numbers.specs.law.Sums.{sum, sum_n}
-use Rattle.numbers.specs.declared.answer.Answer.{Answer}
-use Rattle.numbers.specs.declared.answer.Answer.TheVariants.{Yes, No}
 use Rattle.case.specs.law.Layout.{number_at, nodes_of, steps_of}
 use Rattle.case.specs.law.LayoutOf.{Holds, LayoutOf}
 use Rattle.case.specs.declared.records.Layout.{Layout}
 use Rattle.case.specs.law.States.{active_at_start}
 use Rattle.plan.specs.declared.previous.Previous.{Previous}
 use Rattle.plan.specs.declared.totals.Totals.{Totals}
-use Rattle.plan.specs.declared.verdict.Verdict.TheVariants.{Accepted, Refused}
 use Rattle.plan.specs.law.PlanLayout.{step_at, step_width, step_rows}
 use Rattle.plan.specs.law.PlanRecords.{pressure_in, active_in, direction_in, state_in}
 use Rattle.plan.specs.law.BeforeStep.{start_pressure, start_direction, start_state, pressure_at, active_at, direction_chosen, state_chosen}
@@ -32,9 +31,10 @@ use Rattle.plan.specs.inside.AnsweredSizes.{step_kept, pressures_sized}
 use Rattle.plan.specs.law.Step.{step_questions}
 use Rattle.plan.specs.law.Totals.{gas_at, step_pressure_slack, step_demand_slack, step_switching, step_residual, totals_to, totals_of}
 use Rattle.plan.specs.law.Totals.{pressure_slack_in, demand_slack_in, node_residuals}
-use Rattle.plan.specs.law.Judged.{plan_step, verdict_of}
+use Rattle.plan.specs.law.Judged.{plan_step}
 use Rattle.plan.specs.inside.StepSizes.{pressure_slack_sized, demand_slack_sized, choice_costs_le, activity_costs_le}
 use Rattle.plan.specs.inside.StepSizes.{pipe_residuals_le, node_residuals_le}
+use Rattle.plan.specs.inside.StepAnswer.{no_first}
 use Rattle.plan.specs.inside.StepAlike.{step_alike, pipes_alike, gas_alike, choices_alike, activities_alike}
 
 -- the totals of the first i steps
@@ -81,13 +81,15 @@ small {l = l} a d =
     let w : l.nodes * 6 + l.arcs * 4 + l.stations * 2 ≤ most_step_width = omega (arith, d.nodes, k.nodes, d.arcs, k.arcs, d.stations, k.stations) in
     record { few = (omega (arith, d.nodes), omega (arith, d.arcs), omega (arith, d.stations)); steps = s; width = w; all = mul-le-mul s w }
 
-pub part_is : (case plan : List ℤ) (i w : ℕ) {rows : List ℤ} → w ≡ step_width case → rows ≡ take w (drop (2 + i * w) plan) → rows ≡ step_rows case plan i
-unfolding step_rows step_at
-part_is case plan i w e h = h ∙ rw e
-
 pub width_is : {case : List ℤ} {l : Layout} {w : ℕ} → LayoutOf case l → w ≡ l.nodes * 6 + l.arcs * 4 + l.stations * 2 → w ≡ step_width case
 unfolding step_width
 width_is d e = e ∙ rw (d.nodes, d.arcs, d.stations)
+
+-- a step's part of the plan
+pub part_is : {case : List ℤ} (plan : List ℤ) (i : ℕ) {l : Layout} {w : ℕ} {rows : List ℤ} → LayoutOf case l
+    → w ≡ l.nodes * 6 + l.arcs * 4 + l.stations * 2 → rows ≡ take w (drop (2 + i * w) plan) → rows ≡ step_rows case plan i
+unfolding step_rows step_at
+part_is plan i d e h = h ∙ rw (width_is d e)
 
 module _ {case plan : List ℤ} (a : AcceptedCase case) where
   pub going : {x : Previous} {t : Totals} → Carried case x (start_pressure case) (active_at_start case) (start_direction case) (start_state case)
@@ -123,7 +125,7 @@ module _ {case plan : List ℤ} (a : AcceptedCase case) {x : Previous} {t : Tota
       step_alike a (number_at x.pressures) (pressure_at case plan i) g.carried.pressures.each rows i
       ∙ ap (λ (w : List ℤ). first_no (step_questions case (pressure_at case plan i) w i)) r
 
-  pub kept : first_no (step_questions case (number_at x.pressures) rows i) ≡ Yes → StepKept case x.pressures rows i
+  pub kept : first_no (step_questions case (number_at x.pressures) rows i) ≡ Ok tt → StepKept case x.pressures rows i
   kept y = step_kept case x.pressures rows i a l g.pressures y
 
   pub room : TotalsSized t
@@ -137,11 +139,11 @@ module _ {case plan : List ℤ} (a : AcceptedCase case) {x : Previous} {t : Tota
         residual = omega (arith, s.residual);
       }
 
-  pub refused : {n s p : ℕ} {b : Answer} → b ≡ first_no (step_questions case (number_at x.pressures) rows i) → b ≡ No n s p
-      → Refused n s p ≡ verdict_of (first_no (over (plan_step case plan) 0 (steps_of case))) (totals_of case plan)
-  refused e h = rw (rest_no (plan_step case plan) i (steps_of case) g.asked l (e ∙ step_same) h ∙ h)
+  pub refused : (m : ℕ) {n : No} {b : Result ℕ No} → b ≡ found (first_no (step_questions case (number_at x.pressures) rows i)) m → b ≡ Err n
+      → Err n ≡ found (first_no (over (plan_step case plan) 0 (steps_of case))) (totals_of case plan)
+  refused m e h = let k = no_first _ m e h in rw (rest_no (plan_step case plan) i (steps_of case) g.asked l step_same k ∙ k)
 
-  module _ {u : Totals} (yes : first_no (step_questions case (number_at x.pressures) rows i) ≡ Yes) (d : Added case rows x i t u) where
+  module _ {u : Totals} (yes : first_no (step_questions case (number_at x.pressures) rows i) ≡ Ok tt) (d : Added case rows x i t u) where
     sums : Summed case plan u (i + 1)
     unfolding sum sum_n step_pressure_slack step_demand_slack step_switching step_residual
     sums =
@@ -191,7 +193,7 @@ module _ {case plan : List ℤ} (a : AcceptedCase case) {x : Previous} {t : Tota
 
 -- past the last step
 pub finished : {case plan : List ℤ} → AcceptedCase case → {x : Previous} {t u : Totals} {i : ℕ} → Going case plan x t i → steps_of case ≤ i
-    → Closed case (number_at x.pressures) t u → Accepted u ≡ verdict_of (first_no (over (plan_step case plan) 0 (steps_of case))) (totals_of case plan)
+    → Closed case (number_at x.pressures) t u → Ok u ≡ found (first_no (over (plan_step case plan) 0 (steps_of case))) (totals_of case plan)
 unfolding totals_of totals_to
 finished {case} {plan} a {x} {t} {u} {i} g l d =
     let e : i ≡ steps_of case = omega (arith, g.upto) in
@@ -204,3 +206,6 @@ finished {case} {plan} a {x} {t} {u} {i} g l d =
     let o = d.opening ∙ s.opening in
     let c = d.closing ∙ (rw e at h) in
     rw (rest_end (plan_step case plan) i (steps_of case) g.asked l, ← p, ← q, ← w, ← v, ← o, ← c)
+
+-- what the loop leans on
+pub ruleset step_loop = (small, held_sized, start_sized, counted)

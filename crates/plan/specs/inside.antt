@@ -3,6 +3,7 @@ pub mod StationPass
 pub mod StepAnswer
 pub mod SumSizes
 pub mod Sizes
+pub mod Opened
 pub mod Preconditions
 pub mod SettingLaws
 pub mod Unmoved
@@ -22,6 +23,8 @@ pub mod RegionPreconditions
 pub mod RegionSizes
 pub mod RegionSame
 pub mod StepAlike
+pub mod StepArcs
+pub mod StepStations
 pub mod RegionLoop
 pub mod SmallRefusals
 pub mod StepSizes

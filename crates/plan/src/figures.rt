@@ -1,7 +1,8 @@
 // What the ledger answers.
+use numbers::answer::No;
 
 // The six figures of a region, from time s to time t.
-#[derive(Clone, Copy)]
+#[derive(Clone, Copy, Debug, PartialEq, Eq)]
 pub struct Figures {
     pub nodes: usize,
     pub pipes: usize, // inner pipes
@@ -11,12 +12,5 @@ pub struct Figures {
     pub residual: usize,
 }
 
-#[derive(Clone, Copy)]
-pub enum Ledger {
-    Given(Figures),
-    Refused {
-        number: usize,
-        step: usize,
-        place: usize,
-    },
-}
+// The figures, or the first "no".
+pub type Ledger = Result<Figures, No>;

@@ -2,9 +2,10 @@
 ghost use Rattle.std.specs.Prelude.{◌≡◌, true, ◌-◌, ◌≤◌, pos};
 ghost use Rattle.numbers.specs.law.Sets.{member_of, subset_of};
 ghost use Rattle.numbers.specs.law.Sums.{count};
-ghost use Rattle.numbers.specs.law.Question.{first_no};
+ghost use Rattle.numbers.specs.law.Question.{first_no, found};
 ghost use Rattle.case.specs.law.Extents.{node_capacity, set_room};
-ghost use Rattle.case.specs.law.Layout.{nodes_of, steps_of};
+ghost use Rattle.case.specs.law.Layout.{nodes_of, arcs_of, steps_of};
+ghost use Rattle.plan.specs.law.PlanLayout.{step_width};
 ghost use Rattle.case.specs.law.LayoutOf.{Holds};
 ghost use Rattle.case.specs.law.StationFields.{first_items};
 ghost use Rattle.plan.specs.law.BeforeStep.{pressure_at};
@@ -15,16 +16,17 @@ ghost use Rattle.plan.specs.inside.RegionSet.{inside_of};
 ghost use Rattle.plan.specs.inside.RegionPreconditions.{RegionLaid, RegionTimes};
 ghost use Rattle.plan.specs.inside.RegionLoop.{Gathering};
 ghost use Rattle.plan.specs.law.Vouched.{Vouched};
-ghost use Rattle.plan.specs.law.Ledger.{lowest_of, names_nodes, foreign_node, times_ordered, region_questions, ledger_by, ledger_told, figures_for, ledger_of};
+ghost use Rattle.plan.specs.law.Ledger.{lowest_of, names_nodes, foreign_node, times_ordered, region_questions, ledger_told, figures_for, ledger_of};
 
+use super::arrays::fill;
 use super::figures::{Figures, Ledger};
 use super::judge::judge;
 use super::previous::{row_pressures, start_pressures};
 use super::region::{Gathered, inner_pipes, region_gas, with_step};
-use super::verdict::Verdict;
+use super::steps::{part_of, step_width};
 use case::extents::{NODES, SET_ROOM};
-use numbers::answer::{Answer, ask};
-use numbers::compare::{at, at_most, index, within};
+use numbers::answer::{Answer, No, ask};
+use numbers::compare::{at, index, within};
 use numbers::sets::{count, member, subset};
 
 // The set of the first `n` nodes.
@@ -35,16 +37,13 @@ fn first_nodes(n: usize) -> i64
     ((1usize << n) - 1) as i64
 }
 
+#[tactic(auto, using(crate::proofs::Asked::questions), unfolding(crate::specs::law::Ledger::names_nodes))]
 fn names_nodes(case: &[i64], set: i64) -> bool
     requires { nodes_of case.now ≤ set_room }
     ensures { result ≡ names_nodes case.now set }
 {
     let nodes = index(at(case, 1));
-    if within(0, set, first_nodes(SET_ROOM)) {
-        subset(set, first_nodes(nodes))
-    } else {
-        false
-    }
+    within(0, set, first_nodes(SET_ROOM)) && subset(set, first_nodes(nodes))
 }
 
 // The lowest item of the set from `n` on, and 0 where there is none.
@@ -52,17 +51,16 @@ fn lowest(set: i64, n: usize) -> usize
     requires { n ≤ set_room }
     ensures { result ≡ lowest_of set n (set_room - n) }
 {
-    let mut v = n;
-    while v < SET_ROOM {
+    for v in n..SET_ROOM {
         if member(set, v) {
             return v;
         }
-        v += 1;
     }
     0
 }
 
 // The place of 40.
+#[tactic(auto, using(crate::proofs::Asked::questions), unfolding(crate::specs::law::Ledger::foreign_node))]
 fn foreign_node(case: &[i64], set: i64) -> usize
     requires { nodes_of case.now ≤ set_room }
     ensures { result ≡ foreign_node case.now set }
@@ -74,33 +72,29 @@ fn foreign_node(case: &[i64], set: i64) -> usize
     }
 }
 
+#[tactic(auto, using(crate::proofs::Asked::questions), unfolding(crate::specs::law::Ledger::times_ordered))]
 fn times_ordered(case: &[i64], s: i64, t: i64) -> bool
     requires { steps_of case.now ≤ 48 }
     ensures { result ≡ times_ordered case.now s t }
 {
     let steps = index(at(case, 4)) as i64;
-    if at_most(0, s) {
-        if at_most(s, t) {
-            return at_most(t, steps);
-        }
-    }
-    false
+    0 <= s && s <= t && t <= steps
 }
 
 // 40 and 41
+#[tactic(auto, using(crate::proofs::Asked::questions), unfolding(crate::specs::law::Ledger::region_questions))]
 fn region_answer(case: &[i64], set: i64, s: i64, t: i64) -> Answer
     requires { AcceptedCase case.now }
     ensures { result ≡ first_no (region_questions case.now set s t) }
 {
-    if names_nodes(case, set) {
-        ask(times_ordered(case, s, t), 41, 0, 0)
-    } else {
-        Answer::No {
+    if !names_nodes(case, set) {
+        return Err(No {
             number: 40,
             step: 0,
             place: foreign_node(case, set),
-        }
+        });
     }
+    ask(times_ordered(case, s, t), 41, 0, 0)
 }
 
 // Which nodes are in the set, once it is known to name nodes alone.
@@ -109,11 +103,7 @@ fn members(set: i64, nodes: usize) -> [bool; NODES]
     ensures { inside_of result ≡ member_of set }
 {
     let mut inside = [false; NODES];
-    let mut v: usize = 0;
-    while v < nodes {
-        inside[v] = member(set, v);
-        v += 1;
-    }
+    fill(&mut inside[..nodes], |v| member(set, v));
     inside
 }
 
@@ -125,10 +115,7 @@ fn pressures_at(case: &[i64], plan: &[i64], nodes: usize, width: usize, time: us
     if time == 0 {
         return start_pressures(case, nodes);
     }
-    let offset = 2 + (time - 1) * width;
-    let rows = &plan[offset..offset + width];
-    let none = [0i64; NODES];
-    row_pressures(none, rows, nodes)
+    row_pressures([0; NODES], part_of(plan, time - 1, width), nodes)
 }
 
 // One pass over the steps s+1 to t, which have the indices s to t-1.
@@ -145,18 +132,14 @@ fn gather(
     requires { RegionTimes case.now plan.now nodes arcs width s t }
     ensures { Gathering case.now plan.now (inside_of inside.now) s t result }
 {
-    let opening = pressures_at(case, plan, nodes, width, s);
     let mut g = Gathered {
-        pressures: opening,
+        pressures: pressures_at(case, plan, nodes, width, s),
         brought: 0,
         residual: 0,
     };
-    let mut i = s;
-    while i < t {
-        let offset = 2 + i * width;
-        let rows = &plan[offset..offset + width];
+    for i in s..t {
+        let rows = part_of(plan, i, width);
         g = with_step(g, case, inside, rows, nodes, arcs, i);
-        i += 1;
     }
     g
 }
@@ -180,13 +163,12 @@ fn figures(
     let old = pressures_at(case, plan, nodes, width, s);
     let opening = region_gas(case, inside, &old, arcs);
     let g = gather(case, plan, inside, nodes, arcs, width, s, t);
-    let last = g.pressures;
-    let closing = region_gas(case, inside, &last, arcs);
+    let closing = region_gas(case, inside, &g.pressures, arcs);
     Figures {
         nodes: size,
         pipes: inner_pipes(case, inside, arcs),
-        opening: opening,
-        closing: closing,
+        opening,
+        closing,
         brought: g.brought,
         residual: g.residual,
     }
@@ -207,36 +189,43 @@ fn set_figures(
     ensures { result ≡ figures_of case.now plan.now (member_of set) s t }
 {
     let inside = members(set, nodes);
-    let size = count(set);
-    figures(case, plan, &inside, size, nodes, arcs, width, s, t)
+    figures(case, plan, &inside, count(set), nodes, arcs, width, s, t)
+}
+
+// The case's counts of nodes and arcs, and how many numbers a step of its plan has.
+#[derive(Clone, Copy)]
+struct Counts {
+    nodes: usize,
+    arcs: usize,
+    width: usize,
+}
+
+#[tactic(auto, using(crate::proofs::Asked::questions), unfolding(crate::specs::law::PlanLayout::step_width))]
+fn counts_of(case: &[i64]) -> Counts
+    requires { AcceptedCase case.now }
+    ensures { (result.nodes ≡ nodes_of case.now) × (result.arcs ≡ arcs_of case.now) × (result.width ≡ step_width case.now) }
+{
+    let nodes = index(at(case, 1));
+    let arcs = index(at(case, 2));
+    let stations = index(at(case, 3));
+    Counts {
+        nodes,
+        arcs,
+        width: step_width(nodes, arcs, stations),
+    }
 }
 
 // The figures of an accepted plan, or the refusal by 40 or 41.
 fn region_ledger(case: &[i64], plan: &[i64], set: i64, s: i64, t: i64) -> Ledger
     requires { PlanRules case.now plan.now }
-    ensures { result ≡ ledger_by (first_no (region_questions case.now set s t))
+    ensures { result ≡ found (first_no (region_questions case.now set s t))
         (figures_for case.now plan.now set s t) }
 {
-    let a = region_answer(case, set, s, t);
-    match a {
-        Answer::Yes => {
-            let nodes = index(at(case, 1));
-            let arcs = index(at(case, 2));
-            let width = nodes * 6 + arcs * 4 + index(at(case, 3)) * 2;
-            let first = index(s);
-            let last = index(t);
-            Ledger::Given(set_figures(case, plan, set, nodes, arcs, width, first, last))
-        }
-        Answer::No {
-            number,
-            step,
-            place,
-        } => Ledger::Refused {
-            number: number,
-            step: step,
-            place: place,
-        },
-    }
+    region_answer(case, set, s, t)?;
+    let z = counts_of(case);
+    let first = index(s);
+    let last = index(t);
+    Ok(set_figures(case, plan, set, z.nodes, z.arcs, z.width, first, last))
 }
 
 // The figures of the region `set` from time s to time t, or the first "no" of case, plan, set and times. A region of an accepted plan is vouched for:
@@ -245,17 +234,6 @@ pub fn ledger(case: &[i64], plan: &[i64], set: i64, s: i64, t: i64) -> Ledger
     ensures told { ledger_told result ≡ ledger_of case.now plan.now set s t }
     ensures balanced { Vouched case.now plan.now set s t result }
 {
-    let v = judge(case, plan);
-    match v {
-        Verdict::Accepted(_) => region_ledger(case, plan, set, s, t),
-        Verdict::Refused {
-            number,
-            step,
-            place,
-        } => Ledger::Refused {
-            number: number,
-            step: step,
-            place: place,
-        },
-    }
+    judge(case, plan)?;
+    region_ledger(case, plan, set, s, t)
 }

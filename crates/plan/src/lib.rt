@@ -1,7 +1,8 @@
 // The upper layer: a plan judged against its case, rules 20 to 33, the six totals, and the ledger of a region.
 #![tactic(auto)]
 
-pub mod bools; // bools.rt: two tests as one
+mod arrays; // arrays.rt: arrays that are filled from the front
+pub mod sums; // sums.rt: a sum over indices
 pub mod accepted; // accepted.rt: nodes and arcs of an accepted case
 pub mod rows; // rows.rt: the rows of one step as records
 pub mod setting; // setting.rt: an arc's setting, read off kind and number
@@ -9,11 +10,11 @@ pub mod nodes; // nodes.rt: 21 to 23
 pub mod flows; // flows.rt: 24 and 25
 pub mod machines; // machines.rt: sums over the machines of a set
 pub mod pressures; // pressures.rt: 26 and 27
+pub mod step; // step.rt: one step of a plan, as the rules of arcs read it
 pub mod pipes; // pipes.rt: 28 and 29
 pub mod arcs; // arcs.rt: 24 to 29 of every arc
 pub mod passes; // passes.rt: what 30 to 32 ask of the arcs, for all stations in one pass
 pub mod stations; // stations.rt: 30 to 32
-pub mod stepped; // stepped.rt: what a step's judge finds
 pub mod balance; // balance.rt: 33
 pub mod previous; // previous.rt: what is carried from step to step
 pub mod totals; // totals.rt: the six totals

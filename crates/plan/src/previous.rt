@@ -9,13 +9,15 @@ ghost use Rattle.plan.specs.law.PlanRecords.{pressure_in, active_in, direction_i
 ghost use Rattle.plan.specs.law.BeforeStep.{start_pressure, start_direction, start_state};
 ghost use Rattle.plan.specs.inside.PreviousHolds.{Carried};
 
+use super::arrays::fill;
 use super::rows::{arc_row, choice_of, pressure};
 use case::extents::{ARCS, NODES, STATIONS};
 use case::members::active;
 use case::read::{node, station};
 use case::records::Layout;
-use numbers::compare::{at_most, index};
+use numbers::compare::index;
 
+// Document 01 names the form: "struct with arrays of previous pressures, activities, directions and states, carried by value from step to step".
 #[derive(Clone, Copy)]
 pub struct Previous {
     pub pressures: [i64; NODES],
@@ -29,12 +31,7 @@ pub(crate) fn start_pressures(case: &[i64], nodes: usize) -> [i64; NODES]
     ensures { Holds (pos 0) result (start_pressure case.now) nodes }
 {
     let mut pressures = [0i64; NODES];
-    let mut v: usize = 0;
-    while v < nodes {
-        let p0 = node(case, v, 0).p0;
-        pressures[v] = p0;
-        v += 1;
-    }
+    fill(&mut pressures[..nodes], |v| node(case, v, 0).p0);
     pressures
 }
 
@@ -43,11 +40,7 @@ fn start_active(case: &[i64], arcs: usize) -> [bool; ARCS]
     ensures { Holds false result (active_at_start case.now) arcs }
 {
     let mut on = [false; ARCS];
-    let mut e: usize = 0;
-    while e < arcs {
-        on[e] = active(case, e);
-        e += 1;
-    }
+    fill(&mut on[..arcs], |e| active(case, e));
     on
 }
 
@@ -56,12 +49,9 @@ fn start_directions(case: &[i64], layout: Layout) -> [usize; STATIONS]
     ensures { Holds 0 result (start_direction case.now) (stations_of case.now) }
 {
     let mut directions = [0usize; STATIONS];
-    let stations = layout.stations;
-    let mut s: usize = 0;
-    while s < stations {
-        directions[s] = station(case, layout.offsets[s]).direction;
-        s += 1;
-    }
+    fill(&mut directions[..layout.stations], |s| {
+        station(case, layout.offsets[s]).direction
+    });
     directions
 }
 
@@ -70,12 +60,9 @@ fn start_states(case: &[i64], layout: Layout) -> [usize; STATIONS]
     ensures { Holds 0 result (start_state case.now) (stations_of case.now) }
 {
     let mut states = [0usize; STATIONS];
-    let stations = layout.stations;
-    let mut s: usize = 0;
-    while s < stations {
-        states[s] = station(case, layout.offsets[s]).state;
-        s += 1;
-    }
+    fill(&mut states[..layout.stations], |s| {
+        station(case, layout.offsets[s]).state
+    });
     states
 }
 
@@ -85,15 +72,11 @@ pub(crate) fn start(case: &[i64], layout: Layout) -> Previous
     ensures { Carried case.now result (start_pressure case.now) (active_at_start case.now)
         (start_direction case.now) (start_state case.now) }
 {
-    let pressures = start_pressures(case, layout.nodes);
-    let active = start_active(case, layout.arcs);
-    let directions = start_directions(case, layout);
-    let states = start_states(case, layout);
     Previous {
-        pressures: pressures,
-        active: active,
-        directions: directions,
-        states: states,
+        pressures: start_pressures(case, layout.nodes),
+        active: start_active(case, layout.arcs),
+        directions: start_directions(case, layout),
+        states: start_states(case, layout),
     }
 }
 
@@ -102,11 +85,7 @@ pub(crate) fn row_pressures(old: [i64; NODES], rows: &[i64], nodes: usize) -> [i
     ensures { Holds (pos 0) result (pressure_in rows.now) nodes }
 {
     let mut pressures = old;
-    let mut v: usize = 0;
-    while v < nodes {
-        pressures[v] = pressure(rows, v);
-        v += 1;
-    }
+    fill(&mut pressures[..nodes], |v| pressure(rows, v));
     pressures
 }
 
@@ -115,11 +94,7 @@ fn row_active(old: [bool; ARCS], case: &[i64], rows: &[i64], arcs: usize) -> [bo
     ensures { Holds false result (active_in case.now rows.now) arcs }
 {
     let mut on = old;
-    let mut e: usize = 0;
-    while e < arcs {
-        on[e] = at_most(1, arc_row(case, rows, e).setting);
-        e += 1;
-    }
+    fill(&mut on[..arcs], |e| 1 <= arc_row(case, rows, e).setting);
     on
 }
 
@@ -133,11 +108,9 @@ fn row_directions(
     ensures { Holds 0 result (direction_in case.now rows.now) stations }
 {
     let mut directions = old;
-    let mut s: usize = 0;
-    while s < stations {
-        directions[s] = index(choice_of(case, rows, s).direction);
-        s += 1;
-    }
+    fill(&mut directions[..stations], |s| {
+        index(choice_of(case, rows, s).direction)
+    });
     directions
 }
 
@@ -151,11 +124,9 @@ fn row_states(
     ensures { Holds 0 result (state_in case.now rows.now) stations }
 {
     let mut states = old;
-    let mut s: usize = 0;
-    while s < stations {
-        states[s] = index(choice_of(case, rows, s).state);
-        s += 1;
-    }
+    fill(&mut states[..stations], |s| {
+        index(choice_of(case, rows, s).state)
+    });
     states
 }
 
@@ -165,18 +136,10 @@ pub(crate) fn after(previous: Previous, case: &[i64], rows: &[i64], layout: Layo
     ensures { Carried case.now result (pressure_in rows.now) (active_in case.now rows.now)
         (direction_in case.now rows.now) (state_in case.now rows.now) }
 {
-    let old_pressures = previous.pressures;
-    let old_active = previous.active;
-    let old_directions = previous.directions;
-    let old_states = previous.states;
-    let pressures = row_pressures(old_pressures, rows, layout.nodes);
-    let active = row_active(old_active, case, rows, layout.arcs);
-    let directions = row_directions(old_directions, case, rows, layout.stations);
-    let states = row_states(old_states, case, rows, layout.stations);
     Previous {
-        pressures: pressures,
-        active: active,
-        directions: directions,
-        states: states,
+        pressures: row_pressures(previous.pressures, rows, layout.nodes),
+        active: row_active(previous.active, case, rows, layout.arcs),
+        directions: row_directions(previous.directions, case, rows, layout.stations),
+        states: row_states(previous.states, case, rows, layout.stations),
     }
 }

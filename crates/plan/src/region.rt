@@ -1,9 +1,7 @@
 // A region is a set of nodes: its inner pipes, its edge, and what one step brings in and leaves over.
-ghost use Rattle.std.specs.Prelude.{◌≡◌, ◌+◌, ◌<◌, ◌≤◌};
+ghost use Rattle.std.specs.Prelude.{◌≡◌, ◌<◌, ◌≤◌};
 ghost use Rattle.numbers.specs.inside.SignedBounds.{Bounded};
-ghost use Rattle.numbers.specs.law.Sums.{only_n};
 ghost use Rattle.case.specs.law.Extents.{node_capacity};
-ghost use Rattle.plan.specs.inside.SumSizes.{most_residual};
 ghost use Rattle.case.specs.law.Layout.{number_at, nodes_of, arcs_of};
 ghost use Rattle.plan.specs.inside.Sizes.{NodesSized};
 ghost use Rattle.plan.specs.inside.Preconditions.{AcceptedCase, AtBalance};
@@ -14,18 +12,20 @@ ghost use Rattle.plan.specs.inside.RegionPreconditions.{RegionPressures, RegionF
 
 use super::accepted::arc;
 use super::balance::{end_flows, net_flows, node_residual};
-use super::machines::Sum;
-use super::pipes::{duration, pipe_residual};
+use super::pipes::duration;
 use super::previous::row_pressures;
 use super::rows::node_row;
+use super::step::Step;
+use super::sums::{sum, sum_n};
 use super::totals::pipe_gas;
 use case::extents::NODES;
 
 // The region as an array has a bool for each node. No node past its end is inside.
+#[tactic(auto, unfolding(crate::specs::inside::RegionSet::inside_of))]
 fn is_inside(inside: &[bool], v: usize) -> bool
     ensures { result ≡ inside_of inside.now v }
 {
-    if v < inside.len() { inside[v] } else { false }
+    inside.get(v).copied().unwrap_or(false)
 }
 
 // Is the arc a pipe with both ends in the region?
@@ -34,34 +34,19 @@ pub(crate) fn inner_pipe(case: &[i64], inside: &[bool], e: usize) -> bool
     ensures { result ≡ inner_pipe case.now (inside_of inside.now) e }
 {
     let c = arc(case, e);
-    if c.kind == 2 {
-        if is_inside(inside, c.from) {
-            return is_inside(inside, c.to);
-        }
-    }
-    false
+    c.kind == 2 && is_inside(inside, c.from) && is_inside(inside, c.to)
 }
 
-fn one_if(yes: bool) -> usize
-    ensures { result ≡ only_n yes 1 }
-{
-    if yes { 1 } else { 0 }
-}
-
+#[tactic(auto, using(crate::proofs::PartSizes::parts), unfolding(crate::specs::law::Region::inner_pipes, numbers::specs::law::Sums::count))]
 pub(crate) fn inner_pipes(case: &[i64], inside: &[bool], arcs: usize) -> usize
     requires { (AcceptedCase case.now) × (arcs ≡ arcs_of case.now) }
     ensures { result ≡ inner_pipes case.now (inside_of inside.now) }
 {
-    let mut n: usize = 0;
-    let mut e: usize = 0;
-    while e < arcs {
-        n += one_if(inner_pipe(case, inside, e));
-        e += 1;
-    }
-    n
+    sum_n(arcs, |e| usize::from(inner_pipe(case, inside, e)))
 }
 
 // An inner pipe's gas. That of a pipe of the edge is not counted.
+#[tactic(auto, unfolding(crate::specs::law::Region::inner_gas, crate::specs::law::Totals::gas_part))]
 fn inner_gas(case: &[i64], inside: &[bool], pressures: &[i64], e: usize) -> i64
     requires { (RegionPressures case.now pressures.now) × (e < arcs_of case.now) }
     ensures { result ≡ inner_gas case.now (inside_of inside.now) (number_at pressures.now) e }
@@ -73,17 +58,12 @@ fn inner_gas(case: &[i64], inside: &[bool], pressures: &[i64], e: usize) -> i64
     }
 }
 
+#[tactic(auto, using(crate::proofs::PartSizes::parts), unfolding(crate::specs::law::Region::region_gas))]
 pub(crate) fn region_gas(case: &[i64], inside: &[bool], pressures: &[i64], arcs: usize) -> i64
     requires { (RegionPressures case.now pressures.now) × (arcs ≡ arcs_of case.now) }
     ensures { result ≡ region_gas case.now (inside_of inside.now) (number_at pressures.now) }
 {
-    let mut sum = Sum { value: 0 };
-    let mut e: usize = 0;
-    while e < arcs {
-        sum.value = sum.value + inner_gas(case, inside, pressures, e);
-        e += 1;
-    }
-    sum.value
+    sum(arcs, |e| inner_gas(case, inside, pressures, e))
 }
 
 // What flows in through an arc, by whether it begins and ends inside.
@@ -91,13 +71,14 @@ fn inward(begins: bool, ends: bool, from: i64, to: i64) -> i64
     requires { Bounded from 20000000 }
     ensures { result ≡ inward begins ends from to }
 {
-    if begins {
-        if ends { 0 } else { 0 - from }
-    } else {
-        if ends { to } else { 0 }
+    match (begins, ends) {
+        (true, false) => -from,
+        (false, true) => to,
+        _ => 0,
     }
 }
 
+#[tactic(auto, unfolding(crate::specs::law::Region::edge_flow))]
 fn edge_flow(case: &[i64], inside: &[bool], rows: &[i64], e: usize) -> i64
     requires { (RegionFlows case.now rows.now) × (e < arcs_of case.now) }
     ensures { result ≡ edge_flow case.now (inside_of inside.now) rows.now e }
@@ -109,20 +90,16 @@ fn edge_flow(case: &[i64], inside: &[bool], rows: &[i64], e: usize) -> i64
     inward(begins, ends, flow.from, flow.to)
 }
 
+#[tactic(auto, using(crate::proofs::PartSizes::parts), unfolding(crate::specs::law::Region::edge_flows))]
 fn edge_flows(case: &[i64], inside: &[bool], rows: &[i64], arcs: usize) -> i64
     requires { (RegionFlows case.now rows.now) × (arcs ≡ arcs_of case.now) }
     ensures { result ≡ edge_flows case.now (inside_of inside.now) rows.now }
 {
-    let mut sum = Sum { value: 0 };
-    let mut e: usize = 0;
-    while e < arcs {
-        sum.value = sum.value + edge_flow(case, inside, rows, e);
-        e += 1;
-    }
-    sum.value
+    sum(arcs, |e| edge_flow(case, inside, rows, e))
 }
 
 // d at a node, if it is inside.
+#[tactic(auto, unfolding(crate::specs::law::Region::region_supply))]
 fn supply(inside: &[bool], rows: &[i64], v: usize) -> i64
     requires { v < node_capacity }
     ensures { result ≡ region_supply (inside_of inside.now) rows.now v }
@@ -134,17 +111,12 @@ fn supply(inside: &[bool], rows: &[i64], v: usize) -> i64
     }
 }
 
+#[tactic(auto, using(crate::proofs::PartSizes::parts), unfolding(crate::specs::law::Region::supplies_in))]
 fn supplies(case: &[i64], inside: &[bool], rows: &[i64], nodes: usize) -> i64
     requires { (nodes ≡ nodes_of case.now) × (nodes ≤ node_capacity) × (NodesSized case.now rows.now) }
     ensures { result ≡ supplies_in case.now (inside_of inside.now) rows.now }
 {
-    let mut sum = Sum { value: 0 };
-    let mut v: usize = 0;
-    while v < nodes {
-        sum.value = sum.value + supply(inside, rows, v);
-        v += 1;
-    }
-    sum.value
+    sum(nodes, |v| supply(inside, rows, v))
 }
 
 fn brought_in(
@@ -165,6 +137,7 @@ fn brought_in(
 }
 
 // The left side of 33 at a node with the net flow `net`, if it is inside.
+#[tactic(auto, unfolding(crate::specs::law::RegionResidual::own_node))]
 fn own_node(case: &[i64], inside: &[bool], rows: &[i64], i: usize, v: usize, net: i64) -> usize
     requires { AtBalance case.now rows.now i v net }
     ensures { result ≡ own_node case.now (inside_of inside.now) rows.now i v }
@@ -176,6 +149,7 @@ fn own_node(case: &[i64], inside: &[bool], rows: &[i64], i: usize, v: usize, net
     }
 }
 
+#[tactic(auto, using(crate::proofs::PartSizes::parts), unfolding(crate::specs::law::RegionResidual::own_nodes))]
 fn own_nodes(
     case: &[i64],
     inside: &[bool],
@@ -189,27 +163,24 @@ fn own_nodes(
     ensures { result ≡ own_nodes case.now (inside_of inside.now) rows.now i }
 {
     let net = net_flows(case, rows, arcs);
-    let mut sum: usize = 0;
-    let mut v: usize = 0;
-    while v < nodes {
-        sum += own_node(case, inside, rows, i, v, net[v]);
-        v += 1;
-    }
-    sum
+    sum_n(nodes, |v| own_node(case, inside, rows, i, v, net[v]))
 }
 
 // The left side of 28 at an inner pipe.
+#[tactic(auto, unfolding(crate::specs::law::RegionResidual::own_pipe))]
 fn own_pipe(case: &[i64], inside: &[bool], old: &[i64], rows: &[i64], i: usize, e: usize) -> usize
     requires { (RegionStep case.now old.now rows.now i) × (e < arcs_of case.now) }
     ensures { result ≡ own_pipe case.now (inside_of inside.now) (number_at old.now) rows.now i e }
 {
     if inner_pipe(case, inside, e) {
-        pipe_residual(case, old, rows, i, e)
+        let step = Step { case, old, rows, i };
+        step.pipe_residual(e)
     } else {
         0
     }
 }
 
+#[tactic(auto, using(crate::proofs::PartSizes::parts), unfolding(crate::specs::law::RegionResidual::own_pipes))]
 fn own_pipes(
     case: &[i64],
     inside: &[bool],
@@ -221,21 +192,7 @@ fn own_pipes(
     requires { (arcs ≡ arcs_of case.now) × (RegionStep case.now old.now rows.now i) }
     ensures { result ≡ own_pipes case.now (inside_of inside.now) (number_at old.now) rows.now i }
 {
-    let mut sum: usize = 0;
-    let mut e: usize = 0;
-    while e < arcs {
-        sum += own_pipe(case, inside, old, rows, i, e);
-        e += 1;
-    }
-    sum
-}
-
-// The left sides of both rules are sizes and add up: nothing is netted by sign.
-fn together(nodes: usize, pipes: usize) -> usize
-    requires { nodes + pipes ≤ most_residual }
-    ensures { result ≡ nodes + pipes }
-{
-    nodes + pipes
+    sum_n(arcs, |e| own_pipe(case, inside, old, rows, i, e))
 }
 
 // What is carried from step to step: the pressures, the gas brought in and the residual so far.
@@ -263,12 +220,11 @@ pub(crate) fn with_step(
     let brought = brought_in(case, inside, &old, rows, nodes, arcs, i);
     let at_nodes = own_nodes(case, inside, &old, rows, nodes, arcs, i);
     let at_pipes = own_pipes(case, inside, &old, rows, arcs, i);
-    let left = together(at_nodes, at_pipes);
     let kept = g.pressures;
     let next = row_pressures(kept, rows, nodes);
     Gathered {
         pressures: next,
         brought: g.brought + brought,
-        residual: g.residual + left,
+        residual: g.residual + (at_nodes + at_pipes),
     }
 }

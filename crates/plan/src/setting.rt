@@ -1,8 +1,9 @@
-// An arc's setting, read off the arc's kind and the plan's number.
+// An arc's setting, read off the arc's kind and the plan's number. Document 01 names the form: "arc setting enum whose active case holds direction and
+// mode enums".
 ghost use Rattle.std.specs.Prelude.{◌≡◌};
 ghost use Rattle.plan.specs.law.Setting.{directed, combined_of, valve_of, active_of, setting_of};
 
-use numbers::compare::{at_most, index};
+use numbers::compare::index;
 
 #[derive(Clone, Copy)]
 pub enum Way {
@@ -25,22 +26,24 @@ pub enum Setting {
     Active { way: Way, mode: Mode },
 }
 
+#[tactic(auto, unfolding(crate::specs::law::Setting::directed))]
 fn directed(mode: Mode, n: usize) -> Setting
     ensures { result ≡ directed mode n }
 {
     match n {
         1 => Setting::Active {
             way: Way::Forward,
-            mode: mode,
+            mode,
         },
         2 => Setting::Active {
             way: Way::Backward,
-            mode: mode,
+            mode,
         },
         _ => Setting::Unknown,
     }
 }
 
+#[tactic(auto, unfolding(crate::specs::law::Setting::combined_of))]
 fn combined(n: usize) -> Setting
     ensures { result ≡ combined_of n }
 {
@@ -51,6 +54,7 @@ fn combined(n: usize) -> Setting
     }
 }
 
+#[tactic(auto, unfolding(crate::specs::law::Setting::valve_of))]
 fn valve(n: usize) -> Setting
     ensures { result ≡ valve_of n }
 {
@@ -65,6 +69,7 @@ fn valve(n: usize) -> Setting
 }
 
 // A number above 0, by the kind.
+#[tactic(auto, unfolding(crate::specs::law::Setting::active_of))]
 fn active(kind: usize, n: usize) -> Setting
     ensures { result ≡ active_of kind n }
 {
@@ -78,10 +83,11 @@ fn active(kind: usize, n: usize) -> Setting
     }
 }
 
+#[tactic(auto, unfolding(crate::specs::law::Setting::setting_of))]
 pub(crate) fn setting_of(kind: usize, number: i64) -> Setting
     ensures { result ≡ setting_of kind number }
 {
-    if at_most(0, number) {
+    if 0 <= number {
         let n = index(number);
         if n == 0 {
             Setting::Off

@@ -1,13 +1,6 @@
 // The verdict on a plan.
 use super::totals::Totals;
+use numbers::answer::No;
 
-// Accepted with the six totals, or refused with the number, the step and the place of the first "no".
-#[derive(Clone, Copy)]
-pub enum Verdict {
-    Accepted(Totals),
-    Refused {
-        number: usize,
-        step: usize,
-        place: usize,
-    },
-}
+// Accepted with the six totals, or refused with the first "no".
+pub type Verdict = Result<Totals, No>;

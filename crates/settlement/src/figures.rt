@@ -1,4 +1,5 @@
 // What a settlement answers.
+use numbers::answer::No;
 
 // The settled total in grams, and how many rows were settled in each way, a matched pair as one.
 #[derive(Clone, Copy)]
@@ -10,12 +11,5 @@ pub struct Figures {
     pub receiver: usize, // only in the receiver's record
 }
 
-#[derive(Clone, Copy)]
-pub enum Settlement {
-    Settled(Figures),
-    Refused {
-        number: usize,
-        step: usize,
-        place: usize,
-    },
-}
+// The figures, or the first "no".
+pub type Settlement = Result<Figures, No>;

@@ -9,7 +9,8 @@ use gasplan::meters::gasplan_settle;
 use harness::Judge;
 use inputs::Rng;
 use inputs::damage::any_list;
-use numbers::compare::{at, index};
+use numbers::answer::{ask, or_else};
+use numbers::compare::{at, at_most, index, same};
 use numbers::lists::copy;
 
 use crate::edited::Edited;
@@ -73,8 +74,8 @@ fn printed(case: Option<&[u8]>, plan: Option<&[u8]>) -> String {
 }
 
 /// The functions that have a promise for what no call of the library hands to them or takes from them: a place past a list's end, a
-/// negative number that is to be an index, numbers that are copied behind others or past the end, and a node's bounds and demand, of
-/// which the plan's judge has a reader of its own.
+/// negative number that is to be an index, two answers of which the first no is asked, numbers that are copied behind others or past
+/// the end, and a node's bounds and demand, of which the plan's judge has a reader of its own.
 pub fn by_themselves(edited: &Edited, seed: u64) {
     let list = any_list(&mut Rng::new(seed), 6);
     for i in 0..list.len() + 2 {
@@ -84,6 +85,17 @@ pub fn by_themselves(edited: &Edited, seed: u64) {
     for &x in &list {
         let index_of = edited.named("numbers::compare::index");
         index_of.held(|| index(x), |a, b| format!("gives {a}, for {b}"));
+    }
+    for (a, b) in [(21, 22), (21, 21), (22, 21)] {
+        let at_most_of = edited.named("numbers::compare::at_most");
+        at_most_of.held(|| at_most(a, b), |a, b| format!("gives {a}, for {b}"));
+        let same_of = edited.named("numbers::compare::same");
+        same_of.held(|| same(a, b), |a, b| format!("gives {a}, for {b}"));
+    }
+    for (a, b) in [(21, 22), (21, 21)] {
+        let first = edited.named("numbers::answer::or_else");
+        let call = || or_else(ask(a == b, a, 1, 0), ask(false, b, 2, 0));
+        first.held(call, |a, b| format!("gives {a:?}, for {b:?}"));
     }
     for place in 0..list.len() + 2 {
         let copied = edited.named("numbers::lists::copy");

@@ -1,12 +1,11 @@
 -- A case is accepted exactly if the facts of `CaseRules` hold: `sound` and `complete`.
 -- Assumes nothing.
-use Rattle.std.specs.Prelude.{◌≡◌, List, [], ◌↔◌, ℕ, ◌≤◌, ◌<◌, ℤ, length}
+use Rattle.std.specs.Prelude.{◌≡◌, List, [], ◌↔◌, ℕ, ◌≤◌, ◌<◌, ℤ, length, Ok}
 use Rattle.std.proofs.Common.{sym, le_antisymm, le_of_eq}
 use Rattle.std.proofs.Math.Path.{ap}
 use Rattle.numbers.specs.law.Told.{gives}
 use Rattle.numbers.specs.law.Question.{first_no, told}
 use Rattle.numbers.specs.inside.QuestionLaws.{told_same}
-use Rattle.numbers.specs.declared.answer.Answer.TheVariants.{Yes}
 use Rattle.case.specs.law.Layout.{stations_of, case_end}
 use Rattle.case.specs.law.Judged.{list_questions, rule_questions, case_questions, judged_case}
 use Rattle.case.specs.inside.Exactly.{append_iff}
@@ -18,11 +17,11 @@ use Rattle.case.specs.claims.Says.{Says}
 
 module _ (case : List ℤ) where
   -- 10 to 12, then 13 to 17 of a case that passes them
-  asked : first_no (case_questions case) ≡ Yes ↔ ((case_end case ≤ length case) × ListFacts case) × RuleFacts case
+  asked : first_no (case_questions case) ≡ Ok tt ↔ ((case_end case ≤ length case) × ListFacts case) × RuleFacts case
   unfolding case_questions
   asked = append_iff (list_questions case) (rule_questions case) (list_read case) (λ l. rules_iff case l.1)
 
-  pub accepted_rules : first_no (case_questions case) ≡ Yes → CaseRules case
+  pub accepted_rules : first_no (case_questions case) ≡ Ok tt → CaseRules case
   accepted_rules y =
       let l = (asked.0 y).0.1 in
       let r = (asked.0 y).1 in
@@ -46,7 +45,7 @@ module _ (case : List ℤ) where
         rule17_arcs = λ s e p. (r.1 s p).1 e;
       }
 
-  pub rules_accepted : CaseRules case → first_no (case_questions case) ≡ Yes
+  pub rules_accepted : CaseRules case → first_no (case_questions case) ≡ Ok tt
   rules_accepted r = asked.1 ((le_of_eq (sym r.ends), list), ruled)
     where
       station : (s : ℕ) → s < stations_of case → StationFacts case s
@@ -63,7 +62,7 @@ module _ (case : List ℤ) where
 
   pub sound : judged_case case ≡ gives [] → CaseRules case
   unfolding judged_case
-  sound e = accepted_rules (told_same (first_no (case_questions case)) Yes e)
+  sound e = accepted_rules (told_same (first_no (case_questions case)) (Ok tt) e)
 
   pub complete : CaseRules case → judged_case case ≡ gives []
   unfolding judged_case

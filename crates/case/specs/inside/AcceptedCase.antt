@@ -1,17 +1,15 @@
 -- The laws for the layer above. An accepted case has its facts (`rules`, by `claims/Acceptance.antt`) and its rows are there; some facts are said as the judge
 -- of a plan uses them.
 -- Assumes nothing.
-use Rattle.std.specs.Prelude.{◌≡◌, true, List, ℕ, ◌+◌, ◌<◌, ◌≤◌, ℤ, pos, ◌-ℤ◌, length}
+use Rattle.std.specs.Prelude.{◌≡◌, true, List, ℕ, ◌+◌, ◌<◌, ◌≤◌, ℤ, pos, ◌-ℤ◌, length, Ok}
 use Rattle.std.proofs.Common.{sym, ◌∙◌, arith, leb-true}
 use Rattle.numbers.specs.law.Signed.{pos_part}
 use Rattle.numbers.specs.inside.SignedParts.{ints, added, taken, size}
 use Rattle.numbers.specs.inside.SignedBounds.{Bounded}
 use Rattle.numbers.specs.law.Sets.{subset_of}
 use Rattle.numbers.specs.law.Sums.{count}
-use Rattle.numbers.specs.law.Question.{first_no, told}
+use Rattle.numbers.specs.law.Question.{first_no, told, Answer}
 use Rattle.numbers.specs.inside.QuestionLaws.{told_same}
-use Rattle.numbers.specs.declared.answer.Answer.{Answer}
-use Rattle.numbers.specs.declared.answer.Answer.TheVariants.{Yes}
 use Rattle.case.specs.law.Layout.{nodes_of, arcs_of, stations_of, steps_of, node_width, demand_in, demand_at, arc_at}
 use Rattle.case.specs.law.Records.{time_of, time_before, artificial_of, station_of}
 use Rattle.case.specs.law.Field.{last_of}
@@ -34,7 +32,7 @@ use Rattle.case.specs.claims.CaseRules.{CaseRules}
 use Rattle.case.specs.claims.Acceptance.{accepted_rules}
 
 abbrev pub Accepted : List ℤ → Type 0
-Accepted case = first_no (case_questions case) ≡ Yes
+Accepted case = first_no (case_questions case) ≡ Ok tt
 
 -- by the promise of `judge_case`
 module _ (case : List ℤ) where
@@ -42,7 +40,7 @@ module _ (case : List ℤ) where
   unfolding judged_case
   judged {r} e = told_same r (first_no (case_questions case)) e
 
-  pub judged_yes : {r : Answer} → told r ≡ judged_case case → r ≡ Yes → Accepted case
+  pub judged_yes : {r : Answer} → told r ≡ judged_case case → r ≡ Ok tt → Accepted case
   judged_yes e y = sym (judged e) ∙ y
 
 -- ---- a range, said of a natural
@@ -63,7 +61,7 @@ module _ (case : List ℤ) (e : Accepted case) where
   rules = accepted_rules case e
 
   -- 10 to 12
-  pub list_yes : first_no (list_questions case) ≡ Yes
+  pub list_yes : first_no (list_questions case) ≡ Ok tt
   unfolding case_questions
   list_yes = first_yes (list_questions case) (rule_questions case) e
 

@@ -1,7 +1,7 @@
 -- 10 to 12, both ways: no field of a row is refused exactly where the row is there and its facts of `CaseRules` hold; and so of the whole list (`list_read`).
 -- `search` goes through the fields of a row that is spelled out; only an arc's kind, and a range that goes by the kind, needs a case.
 -- Assumes nothing.
-use Rattle.std.specs.Prelude.{◌≡◌, refl, Bool, true, false, cond, List, ◌↔◌, eqb, ℤ, ◌+ℤ◌, length}
+use Rattle.std.specs.Prelude.{◌≡◌, refl, Bool, true, false, cond, List, ◌↔◌, eqb, ℤ, ◌+ℤ◌, length, Ok}
 use Prim.Native.Nat.{ℕ, zero, suc, ◌+◌, ◌<◌, ◌≤◌}
 use Rattle.std.proofs.Math.Nat.{add_assoc}
 use Rattle.std.proofs.Common.{le_refl}
@@ -12,7 +12,6 @@ use Rattle.numbers.specs.inside.SignedParts.{ints}
 use Rattle.numbers.specs.inside.QuestionLaws.{all_yes, none_no}
 use Rattle.numbers.specs.law.Question.{first_no}
 use Rattle.numbers.specs.law.Items.{over}
-use Rattle.numbers.specs.declared.answer.Answer.TheVariants.{Yes}
 use Rattle.case.specs.law.Layout.{number_at, nodes_of, arcs_of, stations_of, steps_of, time_at, node_at, arc_at, direction_count, state_count}
 use Rattle.case.specs.law.Layout.{direction_width, machine_width, machine_count, direction_at, state_at, machine_at, station_end, station_at, case_end}
 use Rattle.case.specs.law.Extents.{most_nodes, most_arcs}
@@ -231,7 +230,7 @@ module _ (case : List ℤ) where
       (over_read case (station_at case) (station_fields case) (stations_of case) station_read next t) (λ t r. left_read t)))))
 
   -- what 16 leans on: node sets have only items that a set has room for
-  pub list_ranged : first_no (list_questions case) ≡ Yes → StationsRanged case
+  pub list_ranged : first_no (list_questions case) ≡ Ok tt → StationsRanged case
   list_ranged y = record {
     each = λ s p. record { each = λ f q. let d = ((list_read.0 y).1.1.1.1.1.0 s p).1.0 f q in record { entry = d.entry; exit = d.exit } };
   }

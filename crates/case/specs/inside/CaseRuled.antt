@@ -1,7 +1,7 @@
 -- 13 to 17, both ways: none is answered no exactly where its facts of `CaseRules` hold. Sets go by their items (`SaysLaws`), and an item of a set of
 -- a station's arcs is one of them. That node sets have only items that a set has room for, which 16 leans on, is known from 11.
 -- Assumes nothing.
-use Rattle.std.specs.Prelude.{◌≡◌, Bool, List, ◌↔◌, ℕ, ◌<◌, ◌≤◌, ℤ, pos}
+use Rattle.std.specs.Prelude.{◌≡◌, Bool, List, ◌↔◌, ℕ, ◌<◌, ◌≤◌, ℤ, pos, Ok}
 use Rattle.std.proofs.Math.Bool.{true}
 use Rattle.std.proofs.Common.{⊎_elim}
 use native.Mathlib.Omega.{arith}
@@ -9,7 +9,6 @@ use borrow.Author.Tests.{leb-true, eqb-false, ne_eqb, not-true}
 use Rattle.numbers.specs.inside.SignedParts.{ints, size, taken}
 use Rattle.numbers.specs.law.Question.{first_no}
 use Rattle.numbers.specs.law.Sets.{member_of}
-use Rattle.numbers.specs.declared.answer.Answer.TheVariants.{Yes}
 use Rattle.case.specs.law.Extents.{set_room}
 use Rattle.case.specs.law.Layout.{nodes_of, arcs_of, stations_of, station_at}
 use Rattle.case.specs.law.Records.{arc_of, artificial_of, station_of, direction_of, state_of}
@@ -75,11 +74,11 @@ module _ (case : List ℤ) (l : ListFacts case) where
 
   -- ---- 13 to 15
 
-  ends_iff : (e : ℕ) → first_no (arc_ends case e) ≡ Yes ↔ ArcRuled case e
+  ends_iff : (e : ℕ) → first_no (arc_ends case e) ≡ Ok tt ↔ ArcRuled case e
   unfolding arc_ends
   ends_iff e = asks_iff 13 e (record { fact = λ h. eqb-false _ _ (not-true _ h); passed = λ f. rw (ne_eqb _ _ f) })
 
-  one_station_iff : (v : ℕ) → first_no (one_station case v) ≡ Yes ↔ NodeRuled case v
+  one_station_iff : (v : ℕ) → first_no (one_station case v) ≡ Ok tt ↔ NodeRuled case v
   unfolding one_station
   one_station_iff v =
       asks_iff 14 v (means (one_says (in_station case v) (stations_of case))
@@ -164,7 +163,7 @@ module _ (case : List ℤ) (l : ListFacts case) where
 
   -- ---- all of them
 
-  pub rules_iff : first_no (rule_questions case) ≡ Yes ↔ RuleFacts case
+  pub rules_iff : first_no (rule_questions case) ≡ Ok tt ↔ RuleFacts case
   unfolding rule_questions early_rules all_arc_ends all_one_station all_station_sizes station_size all_direction_sets direction_sets all_state_sets state_sets
   rules_iff =
       append_iff (early_rules case) _

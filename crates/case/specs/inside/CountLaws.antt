@@ -34,11 +34,6 @@ module _ (w : ℕ → Bool) where
   unfolding count sum_n
   count_no i e = let z : count i w + 0 ≡ count i w = omega arith in rw (add-one i, e, z)
 
-  pub count_le : (i : ℕ) → count i w ≤ i
-  unfolding count sum_n
-  count_le zero = omega arith
-  count_le (suc i) = omega (arith, count_le i, only_le (w i))
-
   pub count_grows : (i d : ℕ) → count i w ≤ count (i + d) w
   unfolding count sum_n
   count_grows i zero = let z : i + 0 ≡ i = omega arith in rw z (omega arith)
@@ -51,27 +46,6 @@ count_same f g (suc n) h =
     let e = count_same f g n (λ i p. h i (omega arith)) in
     let d = h n (omega arith) in
     rw (e, d)
-
--- the invariant of a loop that counts: k of the first i, of n
-pub record Tally (w : ℕ → Bool) (k i n : ℕ) : Type 0 where
-  pub upto : i ≤ n
-  pub is : k ≡ count i w
-
-pub tally : {w : ℕ → Bool} {n : ℕ} → Tally w 0 0 n
-tally {w} = record { upto = omega arith; is = sym (count_none w) }
-
-module _ {w : ℕ → Bool} {k i n : ℕ} (t : Tally w k i n) where
-  pub tally_yes : {next : ℕ} → i < n → next ≡ k + 1 → w i ≡ true → Tally w next (i + 1) n
-  tally_yes p e h = record { upto = omega arith; is = omega (arith, e, t.is, count_yes w i h) }
-
-  pub tally_no : {next : ℕ} → i < n → next ≡ k → w i ≡ false → Tally w next (i + 1) n
-  tally_no p e h = record { upto = omega arith; is = omega (arith, e, t.is, count_no w i h) }
-
-  pub tally_le : k ≤ i
-  tally_le = omega (arith, t.is, count_le w i)
-
-  pub tally_end : n ≤ i → k ≡ count n w
-  tally_end p = let e : i ≡ n = omega (arith, t.upto) in rw e at t.is
 
 -- ---- a station's arcs
 
@@ -147,15 +121,6 @@ module _ (case : List ℤ) (w : ℕ → Bool) where
   unfolding ends_of
   ends_no e h = rw (add-one e, h)
 
-  pub ends_lt : (e : ℕ) → ends_of case w e < 2 ^ set_room
-  unfolding ends_of
-  ends_lt zero = omega arith
-  ends_lt (suc e) = go (ends_lt e) (w e) refl
-    where
-      go : ends_of case w e < 2 ^ set_room → (b : Bool) → w e ≡ b → ends_of case w (suc e) < 2 ^ set_room
-      go k true p = rw p (node_lt _ _ (node_lt _ _ k))
-      go k false p = rw p k
-
 -- ---- every of the first n items
 
 pub every_at : (n : ℕ) (w : ℕ → Bool) → every n w ≡ true → (i : ℕ) → i < n → w i ≡ true
@@ -182,21 +147,3 @@ every_not (suc n) w i p e = go (λ q. every_not n w i q e) (ltb i n) refl
 -- a loop that has found another that is so
 pub every_more : (i : ℕ) (w : ℕ → Bool) → every i w ≡ true → w i ≡ true → every (i + 1) w ≡ true
 every_more i w e h = rw (add-one i, e, h)
-
--- the invariant of such a loop, and what it tells once it stops
-pub record Keeping (w : ℕ → Bool) (i n : ℕ) : Type 0 where
-  pub upto : i ≤ n
-  pub so_far : every i w ≡ true
-
-pub keeping : {w : ℕ → Bool} {n : ℕ} → Keeping w 0 n
-keeping = record { upto = omega arith; so_far = refl }
-
-module _ {w : ℕ → Bool} {i n : ℕ} (k : Keeping w i n) where
-  pub keep_on : {one : Bool} → i < n → one ≡ w i → one ≡ true → Keeping w (i + 1) n
-  keep_on p e y = record { upto = omega arith; so_far = every_more i w k.so_far (sym e ∙ y) }
-
-  pub keep_no : {one : Bool} → i < n → one ≡ w i → one ≡ false → false ≡ every n w
-  keep_no p e y = sym (every_not n w i p (sym e ∙ y))
-
-  pub keep_end : n ≤ i → true ≡ every n w
-  keep_end p = let e : i ≡ n = omega (arith, k.upto) in sym (rw e at k.so_far)

@@ -1,13 +1,10 @@
 -- What the counts are known to be once their questions have let them pass.
 -- Assumes nothing.
-use Rattle.std.specs.Prelude.{◌≡◌, List, ◌++◌, ℕ, ◌+◌, ◌<◌, ◌≤◌, ℤ, pos}
+use Rattle.std.specs.Prelude.{◌≡◌, List, ◌++◌, ℕ, ◌+◌, ◌<◌, ◌≤◌, ℤ, pos, Ok}
 use native.Mathlib.Omega.{arith}
 use Rattle.std.proofs.Math.Nat.{le_trans}
-use borrow.Author.Tests.{leb-true}
 use Rattle.numbers.specs.law.Question.{first_no}
 use Rattle.numbers.specs.law.Items.{over}
-use Rattle.numbers.specs.inside.QuestionLaws.{all_yes}
-use Rattle.numbers.specs.declared.answer.Answer.TheVariants.{Yes}
 use Rattle.case.specs.law.Extents.{last_edition, most_nodes, most_arcs, machine_extent}
 use Rattle.case.specs.law.Layout.{stations_of, station_at, direction_count, state_count, machine_count, machine_width, machine_at}
 use Rattle.case.specs.law.HeadFields.{count_fields, tolerance_fields, head_fields}
@@ -17,18 +14,15 @@ use Rattle.case.specs.law.ArcFields.{all_arc_fields}
 use Rattle.case.specs.law.StationFields.{station_head, part_fields, row_fields, station_fields, all_station_fields}
 use Rattle.case.specs.law.StationFields.{direction_fields, state_fields, machine_fields}
 use Rattle.case.specs.law.Leftover.{leftover}
-use Rattle.case.specs.law.ArcEnds.{all_arc_ends}
-use Rattle.case.specs.law.OneStation.{all_one_station}
-use Rattle.case.specs.law.StationSize.{station_size, all_station_sizes}
-use Rattle.case.specs.law.Judged.{row_questions, list_questions, early_rules}
+use Rattle.case.specs.law.Judged.{row_questions, list_questions}
 use Rattle.case.specs.inside.FieldLaws.{first_yes, second_yes, item_yes, field_yes, field_then, count_most, count_least}
 use Rattle.case.specs.inside.Places.{nodes_fit, arcs_fit}
-use Rattle.case.specs.inside.Counts.{Counted, StationCounted, StationsCounted, MachinesNarrow, StationsNarrow, Sized}
+use Rattle.case.specs.inside.Counts.{Counted, StationCounted, StationsCounted, MachinesNarrow, StationsNarrow}
 
 module _ (case : List ℤ) where
   -- ---- the head
 
-  pub head_counted : first_no (head_fields case) ≡ Yes → Counted case
+  pub head_counted : first_no (head_fields case) ≡ Ok tt → Counted case
   unfolding head_fields count_fields
   head_counted e =
       let r = field_then case 0 (pos 1) (pos last_edition) _ (first_yes (count_fields case) (tolerance_fields case) e) in
@@ -48,7 +42,7 @@ module _ (case : List ℤ) where
 
   -- ---- a station's first row
 
-  pub station_counted : (offset : ℕ) → first_no (station_head case offset) ≡ Yes → StationCounted case offset
+  pub station_counted : (offset : ℕ) → first_no (station_head case offset) ≡ Ok tt → StationCounted case offset
   unfolding station_head
   station_counted offset e =
       let f = field_then case offset (pos 1) (pos 8) _ e in
@@ -62,17 +56,17 @@ module _ (case : List ℤ) where
         machines = count_most m.0;
       }
 
-  pub row_counted : (offset : ℕ) → first_no (row_fields case offset) ≡ Yes → StationCounted case offset
+  pub row_counted : (offset : ℕ) → first_no (row_fields case offset) ≡ Ok tt → StationCounted case offset
   unfolding row_fields
   row_counted offset e = station_counted offset (first_yes (station_head case offset) (part_fields case offset) e)
 
   -- ---- a station's machines
 
-  pub machine_narrow : (offset m : ℕ) → first_no (machine_fields case offset m) ≡ Yes → machine_width case (machine_at case offset m) ≤ machine_extent
+  pub machine_narrow : (offset m : ℕ) → first_no (machine_fields case offset m) ≡ Ok tt → machine_width case (machine_at case offset m) ≤ machine_extent
   unfolding machine_width
   machine_narrow offset m e = omega arith
 
-  pub row_narrow : (offset : ℕ) → first_no (row_fields case offset) ≡ Yes → MachinesNarrow case offset
+  pub row_narrow : (offset : ℕ) → first_no (row_fields case offset) ≡ Ok tt → MachinesNarrow case offset
   unfolding row_fields part_fields
   row_narrow offset e =
       let d = second_yes (station_head case offset) (part_fields case offset) e in
@@ -82,32 +76,32 @@ module _ (case : List ℤ) where
 
   -- ---- the list's groups
 
-  module _ (e : first_no (list_questions case) ≡ Yes) where
+  module _ (e : first_no (list_questions case) ≡ Ok tt) where
     pub list_counted : Counted case
     unfolding list_questions
     list_counted = head_counted (first_yes (head_fields case) (row_questions case) e)
 
-    rows_yes : first_no (row_questions case) ≡ Yes
+    rows_yes : first_no (row_questions case) ≡ Ok tt
     unfolding list_questions
     rows_yes = second_yes (head_fields case) (row_questions case) e
 
-    after_times : first_no (all_node_fields case ++ (all_arc_fields case ++ (all_station_fields case ++ leftover case))) ≡ Yes
+    after_times : first_no (all_node_fields case ++ (all_arc_fields case ++ (all_station_fields case ++ leftover case))) ≡ Ok tt
     unfolding row_questions
     after_times = second_yes (time_fields case) _ rows_yes
 
-    pub nodes_yes : first_no (all_node_fields case) ≡ Yes
+    pub nodes_yes : first_no (all_node_fields case) ≡ Ok tt
     nodes_yes = first_yes (all_node_fields case) _ after_times
 
-    pub arcs_yes : first_no (all_arc_fields case) ≡ Yes
+    pub arcs_yes : first_no (all_arc_fields case) ≡ Ok tt
     arcs_yes = first_yes (all_arc_fields case) _ (second_yes (all_node_fields case) _ after_times)
 
-    after_arcs : first_no (all_station_fields case ++ leftover case) ≡ Yes
+    after_arcs : first_no (all_station_fields case ++ leftover case) ≡ Ok tt
     after_arcs = second_yes (all_arc_fields case) _ (second_yes (all_node_fields case) _ after_times)
 
-    pub stations_yes : first_no (all_station_fields case) ≡ Yes
+    pub stations_yes : first_no (all_station_fields case) ≡ Ok tt
     stations_yes = first_yes (all_station_fields case) _ after_arcs
 
-    pub station_yes : (s : ℕ) → s < stations_of case → first_no (row_fields case (station_at case s)) ≡ Yes
+    pub station_yes : (s : ℕ) → s < stations_of case → first_no (row_fields case (station_at case s)) ≡ Ok tt
     unfolding all_station_fields station_fields
     station_yes s p = item_yes (station_fields case) (stations_of case) stations_yes s p
 
@@ -116,11 +110,3 @@ module _ (case : List ℤ) where
 
     pub list_narrow : StationsNarrow case
     list_narrow = record { each = λ s p. row_narrow (station_at case s) (station_yes s p) }
-
-  -- ---- 15
-
-  pub rules_sized : first_no (early_rules case) ≡ Yes → Sized case
-  unfolding early_rules all_station_sizes station_size
-  rules_sized e =
-      let y = first_yes (all_station_sizes case) _ (second_yes (all_one_station case) _ (second_yes (all_arc_ends case) _ e)) in
-      record { each = λ s p. leb-true _ _ (all_yes (station_size case s) (item_yes (station_size case) (stations_of case) y s p)).0 }

@@ -1,6 +1,6 @@
 -- Questions by what they say, both ways: no question of a list is answered no exactly where a fact holds. Such laws are put together as the questions are.
 -- Assumes nothing.
-use Rattle.std.specs.Prelude.{◌≡◌, refl, Bool, true, false, ◌&&◌, List, [], ◌∷◌, ◌++◌, ◌↔◌, ℕ, zero, suc, ◌+◌, ◌≤◌, ◌<◌, T, ltb, ℤ, length}
+use Rattle.std.specs.Prelude.{◌≡◌, refl, Bool, true, false, ◌&&◌, List, [], ◌∷◌, ◌++◌, ◌↔◌, ℕ, zero, suc, ◌+◌, ◌≤◌, ◌<◌, T, ltb, ℤ, length, Ok}
 use Rattle.std.proofs.Common.{add_assoc, add-zero, le_refl, le_trans, arith, ltb-true, ltb-false, lt-ltb, ltb→lt}
 use Rattle.std.specs.Int.Signed.{le_z}
 use Rattle.numbers.specs.inside.SignedParts.{ints}
@@ -9,7 +9,6 @@ use Rattle.numbers.specs.inside.QuestionLaws.{first_no_append, all_yes, none_no}
 use Rattle.numbers.specs.claims.AllYes.{AllYes}
 use Rattle.numbers.specs.law.Items.{over}
 use Rattle.numbers.specs.inside.ItemLaws.{over_all}
-use Rattle.numbers.specs.declared.answer.Answer.TheVariants.{Yes}
 use Rattle.case.specs.law.Field.{asks, field, fields, next_field}
 use Rattle.case.specs.law.Layout.{number_at}
 use Rattle.case.specs.claims.Says.{Says, Between}
@@ -18,18 +17,18 @@ use Rattle.case.specs.inside.FieldLaws.{first_yes, second_yes, zero_add, item_ye
 
 -- ---- questions
 
-pub asks_iff : (number place : ℕ) {b : Bool} {A : Type 0} → Says b A → first_no (asks number place b ∷ []) ≡ Yes ↔ A
+pub asks_iff : (number place : ℕ) {b : Bool} {A : Type 0} → Says b A → first_no (asks number place b ∷ []) ≡ Ok tt ↔ A
 asks_iff number place {b} h = (λ y. h.fact (all_yes (asks number place b ∷ []) y).0, λ a. rw (h.passed a))
 
 -- the facts of the first group are known when the second is asked
-pub append_iff : (X Y : List Question) {A B : Type 0} → (first_no X ≡ Yes ↔ A) → (A → first_no Y ≡ Yes ↔ B) → first_no (X ++ Y) ≡ Yes ↔ A × B
+pub append_iff : (X Y : List Question) {A B : Type 0} → (first_no X ≡ Ok tt ↔ A) → (A → first_no Y ≡ Ok tt ↔ B) → first_no (X ++ Y) ≡ Ok tt ↔ A × B
 append_iff X Y f g = (
   λ y. let a = f.0 (first_yes X Y y) in (a, (g a).0 (second_yes X Y y)),
   λ r. rw (first_no_append, f.1 r.0) ((g r.0).1 r.1),
 )
 
-pub over_iff : (f : ℕ → List Question) (n : ℕ) {A : ℕ → Type 0} → ((j : ℕ) → j < n → first_no (f j) ≡ Yes ↔ A j)
-    → first_no (over f 0 n) ≡ Yes ↔ ((j : ℕ) → j < n → A j)
+pub over_iff : (f : ℕ → List Question) (n : ℕ) {A : ℕ → Type 0} → ((j : ℕ) → j < n → first_no (f j) ≡ Ok tt ↔ A j)
+    → first_no (over f 0 n) ≡ Ok tt ↔ ((j : ℕ) → j < n → A j)
 over_iff f n h = (λ y j p. (h j p).0 (item_yes f n y j p), λ r. over_all f 0 n (λ j p. rw (zero_add j) ((h j p).1 (r j p))))
 
 -- ---- items of which each begins where the one before it ends: j at `at j`, its end is `end j`
@@ -82,7 +81,7 @@ pub ruleset flat = (add_assoc, add-zero)
 
 -- what no "no" to fields up to the index `end` says: they are there, and their facts hold
 abbrev pub Read : List ℤ → List Question → ℕ → Type 0 → Type 0
-Read case qs end Facts = first_no qs ≡ Yes ↔ (end ≤ length case) × Facts
+Read case qs end Facts = first_no qs ≡ Ok tt ↔ (end ≤ length case) × Facts
 
 module _ (case : List ℤ) where
   pub all_read : (qs : List Question) {end : ℕ} {Facts : Type 0} → (AllYes qs ↔ (end ≤ length case) × Facts) → Read case qs end Facts

@@ -1,6 +1,6 @@
 -- What a field is known to be once 10 and 11 have let it pass: no "no" of a list is no "no" of any part of it.
 -- Assumes nothing.
-use Rattle.std.specs.Prelude.{◌≡◌, true, List, ◌++◌, ℕ, ◌<◌, ◌≤◌, ℤ, pos, length}
+use Rattle.std.specs.Prelude.{◌≡◌, true, List, ◌++◌, ℕ, ◌<◌, ◌≤◌, ℤ, pos, length, Ok}
 use Rattle.std.proofs.Common.{ltb-true}
 use Rattle.std.specs.Int.Signed.{le_z}
 use Rattle.numbers.specs.inside.SignedParts.{ints, size}
@@ -8,7 +8,6 @@ use Rattle.numbers.specs.law.Question.{Question, first_no}
 use Rattle.numbers.specs.inside.QuestionLaws.{all_yes}
 pub use Rattle.numbers.specs.inside.QuestionLaws.{and_first, and_second, first_yes, second_yes}
 pub use Rattle.numbers.specs.inside.ItemLaws.{zero_add, item_yes}
-use Rattle.numbers.specs.declared.answer.Answer.TheVariants.{Yes}
 use Rattle.case.specs.law.Layout.{number_at, count_at}
 use Rattle.case.specs.law.Field.{field}
 
@@ -17,7 +16,7 @@ pub record InRange (case : List ℤ) (i : ℕ) (low high : ℤ) : Type 0 where
   pub least : le_z low (number_at case i) ≡ true
   pub most : le_z (number_at case i) high ≡ true
 
-pub field_yes : (case : List ℤ) (i : ℕ) (low high : ℤ) → first_no (field case i low high) ≡ Yes → InRange case i low high
+pub field_yes : (case : List ℤ) (i : ℕ) (low high : ℤ) → first_no (field case i low high) ≡ Ok tt → InRange case i low high
 unfolding field
 field_yes case i low high e =
     let a = all_yes (field case i low high) e in
@@ -28,8 +27,8 @@ field_yes case i low high e =
     }
 
 -- a field before other questions: what is known of it, and that none of the others is answered no
-pub field_then : (case : List ℤ) (i : ℕ) (low high : ℤ) (Y : List Question) → first_no (field case i low high ++ Y) ≡ Yes
-    → InRange case i low high × (first_no Y ≡ Yes)
+pub field_then : (case : List ℤ) (i : ℕ) (low high : ℤ) (Y : List Question) → first_no (field case i low high ++ Y) ≡ Ok tt
+    → InRange case i low high × (first_no Y ≡ Ok tt)
 field_then case i low high Y e = (field_yes case i low high (first_yes (field case i low high) Y e), second_yes (field case i low high) Y e)
 
 -- a count from m to n

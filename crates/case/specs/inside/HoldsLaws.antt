@@ -1,7 +1,9 @@
 -- Arrays that hold the first values of something, and nothing past them: a store changes one place and leaves the others.
 -- Assumes nothing.
-use Rattle.std.specs.Prelude.{◌≡◌, refl, List, ℕ, zero, suc, ◌+◌, ◌<◌, ◌≤◌, length, get_or, set, replicate}
+use Rattle.std.specs.Prelude.{◌≡◌, refl, List, ℕ, zero, suc, ◌+◌, ◌-◌, ◌<◌, ◌≤◌, ◌++◌, length, get_or, set, drop, replicate}
 use Rattle.std.proofs.Common.{◌∙◌, arith, below_more, get_or-set_same, get_or-set_other}
+use Rattle.std.proofs.Math.ListN.{get_or-append}
+use Rattle.std.proofs.lemmas.List.{get_or-append_right, get_or-drop}
 use Rattle.case.specs.law.LayoutOf.{Holds, Clear}
 
 pub holds_none : {A : Type 0} {d : A} {xs : List A} {f : ℕ → A} → Holds d xs f 0
@@ -28,3 +30,18 @@ clear_new {A} {d} k n = record { each = λ i p. go k i }
 
 pub clear_more : {A : Type 0} {d : A} {xs : List A} {i : ℕ} → Clear d xs i → (v : A) → Clear d (set xs i v) (i + 1)
 clear_more {A} {d} {xs} {i} h v = record { each = λ k p. get_or-set_other xs i k v d (λ (q : k ≡ i). omega arith) ∙ h.each k (omega arith) }
+
+-- of an array of k places whose first n were filled: what is in front, and nothing behind
+pub holds_front : {A : Type 0} {d : A} (k n : ℕ) (xs : List A) {f : ℕ → A} → length xs ≡ n → Holds d xs f n
+    → Holds d (xs ++ drop n (replicate k d)) f n
+holds_front {A} {d} k n xs {f} e h = record {
+  each = λ i p. let q : i < length xs = omega arith in get_or-append xs (drop n (replicate k d)) d i q ∙ h.each i p;
+}
+
+pub clear_back : {A : Type 0} {d : A} (k n : ℕ) (xs : List A) → length xs ≡ n → Clear d (xs ++ drop n (replicate k d)) n
+clear_back {A} {d} k n xs e = record {
+  each = λ i p.
+      get_or-append_right xs (drop n (replicate k d)) n i d e p
+      ∙ get_or-drop n (replicate k d) (i - n) d
+      ∙ (clear_new {d = d} k 0).each (n + (i - n)) (omega arith);
+}

@@ -33,10 +33,6 @@ module _ (case : List ℤ) where
   unfolding node_width
   node_width_lem h = omega arith
 
-  pub some_width : 1 ≤ node_width case
-  unfolding node_width
-  some_width = omega arith
-
   pub same_bounds : (i : ℕ) → bounds_in case i ≡ bounds_in case 0
   unfolding bounds_in
   same_bounds i = refl
@@ -49,14 +45,6 @@ module _ (case : List ℤ) where
   pub direction_width_lem : direction_width case ≤ direction_extent
   unfolding direction_width
   direction_width_lem = omega arith
-
-  pub some_direction : 1 ≤ direction_width case
-  unfolding direction_width
-  some_direction = omega arith
-
-  pub some_machine : (offset : ℕ) → 1 ≤ machine_width case offset
-  unfolding machine_width
-  some_machine offset = omega arith
 
   -- ---- each row begins where the one before it ends
 

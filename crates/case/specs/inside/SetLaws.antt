@@ -200,6 +200,7 @@ node_set {set} r = omega (ints, r.most, size set)
 
 module _ (fence : ℕ → Bool) (set : ℤ) where
   pub only_at : pos_part set < 2 ^ set_room → only_fence fence set ≡ true → (v : ℕ) → member_of set v ≡ true → fence v ≡ true
+  unfolding only_fence
   only_at h e v m = go (ltb v set_room) refl
     where
       go : (b : Bool) → ltb v set_room ≡ b → fence v ≡ true
@@ -207,6 +208,7 @@ module _ (fence : ℕ → Bool) (set : ℤ) where
       go false l = let f : ⊥ = omega (arith, bit_high set_room (pos_part set) v h (ltb-false v set_room l), eqb-true (bit (pos_part set) v) 1 m) in absurd f
 
   pub at_only : ((v : ℕ) → member_of set v ≡ true → fence v ≡ true) → only_fence fence set ≡ true
+  unfolding only_fence
   at_only f = at_every set_room (λ i. not (member_of set i) || fence i) (λ i p. go i (member_of set i) refl)
     where
       go : (i : ℕ) (b : Bool) → member_of set i ≡ b → (not (member_of set i) || fence i) ≡ true
@@ -218,6 +220,7 @@ module _ (fence : ℕ → Bool) (set : ℤ) where
 
 -- by its members, or within both of the sets of which a fence node is in both
 pub only_both : (inside plain set : ℤ) → pos_part set < 2 ^ set_room → (subset_of set inside && subset_of set plain) ≡ only_fence (in_both inside plain) set
+unfolding in_both
 only_both inside plain set h =
     either (subset_of set inside && subset_of set plain) (only_fence (in_both inside plain) set)
     (λ e. at_only (in_both inside plain) set (λ v m. both _ _

@@ -1,6 +1,6 @@
 -- Every refusal of a case has a small number, step and place: a place is a field's index, an arc, a node or a station, and rows begin early.
 -- Assumes nothing.
-use Rattle.std.specs.Prelude.{◌≡◌, Bool, List, ◌++◌, eqb, leb, ℤ, pos}
+use Rattle.std.specs.Prelude.{◌≡◌, Bool, List, ◌++◌, eqb, leb, ℤ, pos, Ok}
 use Rattle.std.proofs.Math.Bool.{true, false, cond}
 use Prim.Native.Nat.{ℕ, zero, suc, ◌+◌, ◌*◌, ◌≤◌, ◌<◌}
 use native.Mathlib.Omega.{arith}
@@ -8,7 +8,6 @@ use borrow.Author.Rules.{rules}
 use Rattle.numbers.specs.law.Question.{first_no}
 use Rattle.numbers.specs.law.Items.{over}
 use Rattle.numbers.specs.inside.SmallRefusals.{Small, AllSmall, small_append, small_over, all_small, all_append, all_over}
-use Rattle.numbers.specs.declared.answer.Answer.TheVariants.{Yes}
 use Rattle.case.specs.law.Layout.{nodes_of, arcs_of, stations_of, steps_of, node_at, arc_at, station_at}
 use Rattle.case.specs.law.Layout.{count_at, bounds_in, direction_count, state_count, machine_count}
 use Rattle.case.specs.law.Extents.{station_extent, arcs_extent, stations_extent, case_extent}
@@ -79,7 +78,7 @@ module _ (case : List ℤ) where
         let e = state_early case offset d (0 + z) (omega (arith, l, d.states)) in search rules)
 
     -- a machine's row, where those before it have no "no"
-    machine_small : (m : ℕ) → m < machine_count case offset → ((j : ℕ) → j < m → first_no (machine_fields case offset j) ≡ Yes)
+    machine_small : (m : ℕ) → m < machine_count case offset → ((j : ℕ) → j < m → first_no (machine_fields case offset j) ≡ Ok tt)
         → Small limit (first_no (machine_fields case offset m))
     unfolding machine_fields field
     machine_small m l before =
@@ -122,7 +121,7 @@ module _ (case : List ℤ) where
         all_append limit (end_fields case (arc_at case (0 + e))) _ (ends_small _ (omega arith)) (kind_small _ (omega arith)))
 
     -- where the stations before s have no "no"
-    station_early : (s : ℕ) → ((m : ℕ) → m < s → first_no (row_fields case (station_at case m)) ≡ Yes)
+    station_early : (s : ℕ) → ((m : ℕ) → m < s → first_no (row_fields case (station_at case m)) ≡ Ok tt)
         → station_at case s ≤ stations_extent + s * station_extent
     unfolding station_at
     station_early zero h = omega (arith, arc_early case c (arcs_of case) c.arcs)
@@ -132,7 +131,7 @@ module _ (case : List ℤ) where
         omega (arith, end_most case offset (row_counted case offset y) (row_narrow case offset y), station_early s (λ m l. h m (omega arith)))
 
     -- a station's rows, where those before it have no "no"
-    station_small : (s : ℕ) → s < stations_of case → ((m : ℕ) → m < s → first_no (station_fields case m) ≡ Yes)
+    station_small : (s : ℕ) → s < stations_of case → ((m : ℕ) → m < s → first_no (station_fields case m) ≡ Ok tt)
         → Small limit (first_no (station_fields case s))
     unfolding station_fields row_fields station_head field
     station_small s h before =
@@ -147,7 +146,7 @@ module _ (case : List ℤ) where
     stations_small = small_over limit (station_fields case) 0 (stations_of case) (λ s l before.
         rw (zero_add s) (station_small s l (λ m k. rw (zero_add m) at (before m k))))
 
-    leftover_small : first_no (all_station_fields case) ≡ Yes → Small limit (first_no (leftover case))
+    leftover_small : first_no (all_station_fields case) ≡ Ok tt → Small limit (first_no (leftover case))
     unfolding all_station_fields station_fields leftover
     leftover_small e =
         let r = station_early (stations_of case) (item_yes (station_fields case) (stations_of case) e) in

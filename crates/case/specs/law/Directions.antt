@@ -13,7 +13,7 @@ use Rattle.case.specs.law.StationNodes.{fence_node}
 use Rattle.case.specs.law.Field.{asks}
 
 -- Each node of the set is a fence node, where `fence` says which nodes are. By 11 a node set has the range 0..2^60-1, so its items are among the first 60.
-abbrev pub only_fence : (ℕ → Bool) → ℤ → Bool
+unfoldable pub only_fence : (ℕ → Bool) → ℤ → Bool
 only_fence fence set = every set_room (λ v. not (member_of set v) || fence v)
 
 -- a direction's two sets share no node and hold only fence nodes

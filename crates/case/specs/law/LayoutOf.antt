@@ -1,12 +1,11 @@
 -- What the layout of a case holds.
 -- What the judge of a case gives: the answer, and the layout, which is one of zeros where 10 to 12 refuse the list.
 -- Assumes nothing.
-use Rattle.std.specs.Prelude.{◌≡◌, List, ℕ, ◌<◌, ◌≤◌, ℤ, pos, get_or, replicate}
+use Rattle.std.specs.Prelude.{◌≡◌, List, ℕ, ◌<◌, ◌≤◌, ℤ, pos, get_or, replicate, Ok, Err}
 use Rattle.case.specs.declared.records.Layout.{Layout}
 use Rattle.case.specs.law.Layout.{nodes_of, arcs_of, stations_of, steps_of, station_at}
 use Rattle.case.specs.law.StationNodes.{station_nodes, plain_nodes}
-use Rattle.numbers.specs.law.Question.{first_no, told}
-use Rattle.numbers.specs.declared.answer.Answer.TheVariants.{Yes, No}
+use Rattle.numbers.specs.law.Question.{first_no, told, no_at}
 use Rattle.case.specs.declared.records.Laying.{Laying}
 use Rattle.case.specs.law.Judged.{list_questions, judged_case}
 
@@ -46,5 +45,5 @@ no_layout = record {
 
 pub record LayingOf (case : List ℤ) (l : Laying) : Type 0 where
   pub told_is : told l.answer ≡ judged_case case
-  pub passed : first_no (list_questions case) ≡ Yes → LayoutOf case l.layout
-  pub refused : (number step place : ℕ) → first_no (list_questions case) ≡ No number step place → l.layout ≡ no_layout
+  pub passed : first_no (list_questions case) ≡ Ok tt → LayoutOf case l.layout
+  pub refused : (number step place : ℕ) → first_no (list_questions case) ≡ Err (no_at number step place) → l.layout ≡ no_layout

@@ -1,6 +1,6 @@
 -- It is one line, and it begins with `accepted` exactly where both files are within their limits and are read to their ends, and every rule holds.
 -- Assumes nothing.
-use Rattle.std.specs.Prelude.{◌≡◌, Bool, true, false, cond, List, [], ◌∷◌, ◌++◌, ℕ, eqb, ℤ, pos, length, replicate, get_or, take}
+use Rattle.std.specs.Prelude.{◌≡◌, Bool, true, false, cond, List, [], ◌∷◌, ◌++◌, ℕ, eqb, ℤ, pos, length, replicate, get_or, take, Ok}
 use Rattle.std.proofs.Math.Path.{refl, subst}
 use Rattle.std.proofs.Common.{ap, sym, ◌∙◌, append_assoc, rules, arith, eqb-true}
 use Rattle.std.proofs.Math.ListN.{length-replicate}
@@ -8,7 +8,6 @@ use Rattle.numbers.specs.law.Told.{Told}
 use Rattle.plan.specs.law.Totals.{totals_of}
 use Rattle.plan.specs.law.Judged.{verdict_told}
 use Rattle.plan.specs.claims.BytesAccepted.{numbers_in, BytesAccepted, bytes_zero, accepted_bytes}
-use Rattle.plan.specs.declared.verdict.Verdict.TheVariants.{Accepted}
 use Rattle.line.specs.law.Line.{accepted, refused, spaced, sentence_of, line_of}
 use Rattle.line.specs.inside.LineLaws.{AllAbove, above_append, spaced_above}
 use Rattle.line.specs.law.Files.{case_numbers, plan_numbers, within_limits, too_long, files_told, files_line}
@@ -80,7 +79,7 @@ module _ (case plan : List ℕ) where
 
   -- and then the six totals come after the word
   pub accepted_says : FilesAccepted case plan
-      → files_line case plan ≡ line_of (verdict_told (Accepted (totals_of (numbers_in case case_numbers) (numbers_in plan plan_numbers))))
+      → files_line case plan ≡ line_of (verdict_told (Ok (totals_of (numbers_in case case_numbers) (numbers_in plan plan_numbers))))
   unfolding files_line zeros
   accepted_says a =
       let c = length-replicate case_numbers (pos 0) in

@@ -1,12 +1,10 @@
 -- Lines as table T and the examples have them, and their room.
 -- Assumes nothing.
-use Rattle.std.specs.Prelude.{◌≡◌, refl, List, [], ◌∷◌, ◌++◌, ℕ, suc, ◌*◌, ◌^◌, ◌≤◌, ◌<◌, ℤ, pos, negsuc, length}
+use Rattle.std.specs.Prelude.{◌≡◌, refl, List, [], ◌∷◌, ◌++◌, ℕ, suc, ◌*◌, ◌^◌, ◌≤◌, ◌<◌, ℤ, pos, negsuc, length, Ok, Err}
 use Rattle.std.proofs.Common.{ap, ◌∙◌, arith, length-append}
 use Rattle.std.specs.Int.Signed.{mag}
-use Rattle.plan.specs.law.Judged.{verdict_told, judge_of}
+use Rattle.plan.specs.law.Judged.{Verdict, verdict_told, judge_of}
 use Rattle.plan.specs.claims.TableT.{RowHolds, AllHold, case_c, plan_p, rows, table}
-use Rattle.plan.specs.declared.verdict.Verdict.{Verdict}
-use Rattle.plan.specs.declared.verdict.Verdict.TheVariants.{Accepted, Refused}
 use Rattle.line.specs.law.Decimal.{decimal, signed}
 use Rattle.line.specs.law.Line.{accepted, refused, spaced, sentence_of, line_of, line_bytes}
 use Rattle.line.specs.inside.LineLaws.{refusal_line}
@@ -54,9 +52,9 @@ sentence_few word list a h k =
 
 -- the numbers of a verdict are of 64 bits, and a refusal's number is not 0
 abbrev pub Fits : Verdict → Type 0
-Fits (Accepted t) = AllFit (t.pressure ∷ t.demand ∷ pos t.switching ∷ pos t.residual ∷ t.opening ∷ t.closing ∷ [])
-Fits (Refused number step place) = (1 ≤ number) × AllFit (pos number ∷ pos step ∷ pos place ∷ [])
+Fits (Ok t) = AllFit (t.pressure ∷ t.demand ∷ pos t.switching ∷ pos t.residual ∷ t.opening ∷ t.closing ∷ [])
+Fits (Err n) = (1 ≤ n.number) × AllFit (pos n.number ∷ pos n.step ∷ pos n.place ∷ [])
 
 pub line_fits : (v : Verdict) → Fits v → length (line_of (verdict_told v)) ≤ line_bytes
-line_fits (Accepted t) a = sentence_few accepted _ a (omega arith) (omega arith)
-line_fits (Refused number step place) a = rw (refusal_line number step place a.0) (sentence_few refused _ a.1 (omega arith) (omega arith))
+line_fits (Ok t) a = sentence_few accepted _ a (omega arith) (omega arith)
+line_fits (Err n) a = rw (refusal_line n.number n.step n.place a.0) (sentence_few refused _ a.1 (omega arith) (omega arith))

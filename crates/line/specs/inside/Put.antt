@@ -47,8 +47,8 @@ put_front text old h e d = record {
 }
 
 -- what stands at the front then
-pub put_overlay : {old new text : List ℕ} {next : ℕ} → Put old new 0 text next → (next ≡ length text) × (new ≡ overlay text old)
-put_overlay {old} {text = text} p = (p.after ∙ omega arith, p.line ∙ overlay_sets text old (omega (arith, p.after, p.room)))
+pub put_overlay : {old new text : List ℕ} {next : ℕ} → Put old new 0 text next → new ≡ overlay text old
+put_overlay {old} {text = text} p = p.line ∙ overlay_sets text old (omega (arith, p.after, p.room))
 
 -- what is put is counted
 pub put_counts : {old new text : List ℕ} {at next : ℕ} → Put old new at text next → Counts next new

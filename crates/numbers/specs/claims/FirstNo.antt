@@ -1,11 +1,10 @@
 -- "The number stands for "no". The first "no" ends the judging."
 -- Assumes nothing.
-use Rattle.std.specs.Prelude.{◌≡◌, refl, Bool, true, false, List, [], ◌∷◌, ◌++◌, ℕ}
+use Rattle.std.specs.Prelude.{◌≡◌, refl, Bool, true, false, List, [], ◌∷◌, ◌++◌, ℕ, Ok, Err}
 use Rattle.std.proofs.Common.{ap, arith}
-use Rattle.numbers.specs.declared.answer.Answer.TheVariants.{Yes, No}
-use Rattle.numbers.specs.law.Question.{Question, answer, or_else, first_no}
+use Rattle.numbers.specs.law.Question.{Question, Answer, no_at, answer, or_else, first_no}
 use Rattle.numbers.specs.claims.AllYes.{AllYes}
-use Rattle.numbers.specs.inside.QuestionLaws.{all_yes, none_no, first_no_append}
+use Rattle.numbers.specs.inside.QuestionLaws.{no_in, all_yes, none_no, first_no_append}
 
 -- One question of the list is answered "no", and has this number, step and place; every question before it is answered "yes".
 pub record FirstNo (questions : List Question) (number step place : ℕ) : Type 0 where
@@ -34,12 +33,12 @@ one_before q y f = record {
 }
 
 -- A refusal is that of the first "no" ..
-pub refusal_first : (qs : List Question) (n s p : ℕ) → first_no qs ≡ No n s p → FirstNo qs n s p
+pub refusal_first : (qs : List Question) (n s p : ℕ) → first_no qs ≡ Err (no_at n s p) → FirstNo qs n s p
 refusal_first [] n s p e = let z : ◌≡◌ {A = ℕ} 0 1 = cc in let f : ⊥ = omega arith in absurd f
 refusal_first (q ∷ qs) n s p e = go q.yes refl e (refusal_first qs n s p)
   where
-    go : (y : Bool) → q.yes ≡ y → or_else (answer y q.number q.step q.place) (first_no qs) ≡ No n s p
-        → (first_no qs ≡ No n s p → FirstNo qs n s p) → FirstNo (q ∷ qs) n s p
+    go : (y : Bool) → q.yes ≡ y → or_else (answer y q.number q.step q.place) (first_no qs) ≡ Err (no_at n s p)
+        → (first_no qs ≡ Err (no_at n s p) → FirstNo qs n s p) → FirstNo (q ∷ qs) n s p
     go true y e later = one_before q y (later e)
     go false y e later = record {
       before = [];
@@ -48,18 +47,18 @@ refusal_first (q ∷ qs) n s p e = go q.yes refl e (refusal_first qs n s p)
       in_order = refl;
       all_before = tt;
       no = y;
-      its_number = cc;
-      its_step = cc;
-      its_place = cc;
+      its_number = ap (λ (a : Answer). (no_in a).number) e;
+      its_step = ap (λ (a : Answer). (no_in a).step) e;
+      its_place = ap (λ (a : Answer). (no_in a).place) e;
     }
 
 -- .. and the first "no" is the refusal; there is none exactly where every question is answered "yes".
-pub first_refusal : (qs : List Question) (n s p : ℕ) → FirstNo qs n s p → first_no qs ≡ No n s p
+pub first_refusal : (qs : List Question) (n s p : ℕ) → FirstNo qs n s p → first_no qs ≡ Err (no_at n s p)
 first_refusal qs n s p f =
     rw (f.in_order, first_no_append f.before (f.asked ∷ f.after), none_no f.before f.all_before, f.no, f.its_number, f.its_step, f.its_place)
 
-pub none_refused_lem : (qs : List Question) → first_no qs ≡ Yes → AllYes qs
+pub none_refused_lem : (qs : List Question) → first_no qs ≡ Ok tt → AllYes qs
 none_refused_lem = all_yes
 
-pub all_answered : (qs : List Question) → AllYes qs → first_no qs ≡ Yes
+pub all_answered : (qs : List Question) → AllYes qs → first_no qs ≡ Ok tt
 all_answered = none_no

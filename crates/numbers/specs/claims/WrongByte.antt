@@ -9,7 +9,7 @@
 -- the way is not said: where 02 has become 82 and 00 follows, 00 is the byte at the place.
 -- Carried by a look at one number: it goes by the bytes up to its own end or its refusal, and never by those after.
 -- Assumes nothing.
-use Rattle.std.specs.Prelude.{◌≡◌, List, [], ◌∷◌, ◌++◌, ℤ, pos, length, take}
+use Rattle.std.specs.Prelude.{◌≡◌, List, [], ◌∷◌, ◌++◌, ℤ, pos, length, take, Ok, Err}
 use Rattle.std.proofs.Math.Path.{refl, ap, sym, subst}
 use Rattle.std.proofs.Common.{◌∙◌, append-nil, arith}
 use Prim.Native.Nat.{ℕ, suc, ◌+◌, ◌<◌}
@@ -17,9 +17,9 @@ use Rattle.numbers.specs.law.Told.{gives, overlay}
 use Rattle.numbers.specs.law.Reading.{Read, Ending, all, no, read_of, read_told}
 use Rattle.numbers.specs.inside.ReadingBounds.{read_no}
 use Rattle.numbers.specs.inside.ReadingCuts.{Cut, read_cut}
-use Rattle.numbers.specs.claims.CallsRoundTrip.{ReadCall, reading_count, reading_refused}
-use Rattle.numbers.specs.declared.reader.Reading.{Reading}
-use Rattle.numbers.specs.declared.reader.Reading.TheVariants as reading
+use Rattle.numbers.specs.law.CodecTold.{Count}
+use Rattle.numbers.specs.law.Question.{no_at}
+use Rattle.numbers.specs.claims.CallsRoundTrip.{ReadCall, count_answered, refusal_answered}
 
 module _ (bytes : List ℕ) (room : ℕ) {p : ℕ} where
   cut_at : {n : ℕ} → (read_of bytes room).ended ≡ no n p → Cut room 0 bytes (read_of bytes room).stored (no n p)
@@ -86,34 +86,34 @@ module _ (bytes : List ℕ) (room : ℕ) {p : ℕ} where
 
 module _ {bytes : List ℕ} {list left : List ℤ} {p : ℕ} where
   -- 1: the place is the length of the data.
-  pub read_end_place : ReadCall bytes list (reading.Refused 1 p) left → p ≡ length bytes
+  pub read_end_place : ReadCall bytes list (Err (no_at 1 0 p)) left → p ≡ length bytes
   read_end_place r = end_place bytes (length list) (read_no bytes (length list) r.answered)
 
   -- 2: a call on the bytes before the place, with the same lent list, answers 1 at that place and leaves the same in the list.
-  pub read_before_bad : {answer : Reading} {back : List ℤ} → ReadCall bytes list (reading.Refused 2 p) left → ReadCall (take p bytes) list answer back
-      → (answer ≡ reading.Refused 1 p) × (back ≡ left)
+  pub read_before_bad : {answer : Count} {back : List ℤ} → ReadCall bytes list (Err (no_at 2 0 p)) left → ReadCall (take p bytes) list answer back
+      → (answer ≡ Err (no_at 1 0 p)) × (back ≡ left)
   unfolding read_told
   read_before_bad {answer} r again =
       let e = read_no bytes (length list) r.answered in
       let b = before_bad bytes (length list) e in
-      (reading_refused answer 1 p (again.answered ∙ ap read_told b), again.lent ∙ ap (λ (x : Read). overlay x.stored list) b ∙ sym r.lent)
+      (refusal_answered answer 1 p (again.answered ∙ ap read_told b), again.lent ∙ ap (λ (x : Read). overlay x.stored list) b ∙ sym r.lent)
 
   -- 2: a call on any bytes that are the same up to the place and at it, with the same lent list, answers 2 at that place and leaves the same in the list.
-  pub read_bad_for_good : (rest : List ℕ) {answer : Reading} {back : List ℤ} → ReadCall bytes list (reading.Refused 2 p) left
-      → ReadCall (take (p + 1) bytes ++ rest) list answer back → (answer ≡ reading.Refused 2 p) × (back ≡ left)
+  pub read_bad_for_good : (rest : List ℕ) {answer : Count} {back : List ℤ} → ReadCall bytes list (Err (no_at 2 0 p)) left
+      → ReadCall (take (p + 1) bytes ++ rest) list answer back → (answer ≡ Err (no_at 2 0 p)) × (back ≡ left)
   read_bad_for_good rest {answer} r again =
       let b = bad_for_good bytes (length list) (read_no bytes (length list) r.answered) rest in (
-        reading_refused answer 2 p (again.answered ∙ ap read_told b ∙ sym r.answered),
+        refusal_answered answer 2 p (again.answered ∙ ap read_told b ∙ sym r.answered),
         again.lent ∙ ap (λ (x : Read). overlay x.stored list) b ∙ sym r.lent,
       )
 
   -- 3: a byte stands at the place, and a call on those before it, with the same lent list, gives the list's length as the count and leaves the same in it.
-  pub read_before_full : {answer : Reading} {back : List ℤ} → ReadCall bytes list (reading.Refused 3 p) left → ReadCall (take p bytes) list answer back
-      → (p < length bytes) × (answer ≡ reading.Count (length list)) × (back ≡ left)
+  pub read_before_full : {answer : Count} {back : List ℤ} → ReadCall bytes list (Err (no_at 3 0 p)) left → ReadCall (take p bytes) list answer back
+      → (p < length bytes) × (answer ≡ Ok (length list)) × (back ≡ left)
   unfolding read_told
   read_before_full {answer} r again =
       let f = full_place bytes (length list) (read_no bytes (length list) r.answered) in (
         f.0,
-        reading_count answer (length list) (again.answered ∙ ap read_told f.1 ∙ ap (λ (n : ℕ). gives (pos n ∷ [])) f.2),
+        count_answered answer (length list) (again.answered ∙ ap read_told f.1 ∙ ap (λ (n : ℕ). gives (pos n ∷ [])) f.2),
         again.lent ∙ ap (λ (x : Read). overlay x.stored list) f.1 ∙ sym r.lent,
       )

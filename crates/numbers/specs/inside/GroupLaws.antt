@@ -1,6 +1,6 @@
 -- Groups of seven bits, by whether the number is below 128; and what is told of a writing, by whether it fits.
 -- Assumes nothing.
-use Rattle.std.specs.Prelude.{◌≡◌, Bool, List, [], ◌∷◌, ℕ, zero, suc, ◌+◌, ◌/◌, ◌%◌, ◌≤◌, ◌<◌, ltb, ℤ, pos, get_or}
+use Rattle.std.specs.Prelude.{◌≡◌, Bool, List, [], ◌∷◌, ℕ, zero, suc, ◌+◌, ◌/◌, ◌%◌, ◌≤◌, ◌<◌, ltb, ℤ, pos, get_or, Option, Some, None}
 use Rattle.std.proofs.Math.Path.{refl, ap}
 use Rattle.std.proofs.Math.Bool.{true, false, cond}
 use native.Mathlib.Omega.{arith}
@@ -8,14 +8,12 @@ use borrow.Author.Tests.{lt-ltb, le-ltb, leb-true}
 use Rattle.std.proofs.Math.Dec.{leb}
 use Rattle.std.proofs.Math.IntN.{nat_abs}
 use Rattle.std.proofs.Math.ListN.{length}
-use Rattle.numbers.specs.declared.writer.Size.{Size}
-use Rattle.numbers.specs.declared.writer.Size.TheVariants.{Fits, Over}
 use Rattle.numbers.specs.law.Told.{Told, gives, refuses}
 use Rattle.numbers.specs.law.Groups.{groups_up_to, groups, encode, write_told}
 
 -- how many bytes a list takes, where they fit
-unfoldable pub size_of : List ℤ → ℕ → Size
-size_of list room = cond (leb (length (encode list)) room) (Fits (length (encode list))) Over
+unfoldable pub size_of : List ℤ → ℕ → Option ℕ
+size_of list room = cond (leb (length (encode list)) room) (Some (length (encode list))) None
 
 pub one_group : (more m : ℕ) → m < 128 → groups_up_to more m ≡ m ∷ []
 one_group zero m h = refl

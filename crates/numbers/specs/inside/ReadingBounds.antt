@@ -1,30 +1,29 @@
 -- Bounds of a reading: a number takes a byte at least, counts are within the room, places are bytes or their end, and the numbers of refusals are 1 to 3.
 -- Assumes nothing.
-use Rattle.std.specs.Prelude.{◌≡◌, Bool, true, false, cond, List, [], ◌∷◌, ℕ, zero, suc, ◌+◌, ◌-◌, ◌≤◌, ltb, leb, eqb, pos, get_or, drop}
+use Rattle.std.specs.Prelude.{◌≡◌, Bool, true, false, cond, List, [], ◌∷◌, ℕ, zero, suc, ◌+◌, ◌-◌, ◌≤◌, ltb, leb, eqb, pos, get_or, drop, Ok, Err}
 use Rattle.std.proofs.Math.Path.{ap, subst}
 use native.Mathlib.Omega.{arith}
 use Rattle.std.proofs.Math.IntN.{nat_abs}
 use Rattle.std.proofs.Math.ListN.{length}
 use Rattle.std.proofs.Common.{length-drop}
 use Rattle.numbers.specs.law.Told.{Told, gives, refuses}
-use Rattle.numbers.specs.law.Reading.{number_of, later_bytes, last_byte, in_front, Ending, all, no, after_number, read_from, read_of, end_told, read_told}
-use Rattle.numbers.specs.declared.reader.Number.{Number}
-use Rattle.numbers.specs.declared.reader.Number.TheVariants.{Whole, Refused}
+use Rattle.numbers.specs.law.Reading.{number_of, later_bytes, last_byte, in_front, Ending, all, no}
+use Rattle.numbers.specs.law.Reading.{after_number, read_from, read_of, end_told, read_told, NumberRead, whole, wrong}
 
 -- ---- a number takes at least one byte and no more than there are; its refusal is 1 or 2, with at least one asked for and at most one more than there are
 
-abbrev pub Within : ℕ → Number → Type 0
-Within n (Whole value used) = (1 ≤ used) × (used ≤ n)
-Within n (Refused number asked) = (number ≤ 2) × (asked ≤ suc n) × (1 ≤ number) × (1 ≤ asked)
+abbrev pub Within : ℕ → NumberRead → Type 0
+Within n (Ok one) = (1 ≤ one.used) × (one.used ≤ n)
+Within n (Err bad) = (bad.number ≤ 2) × (bad.asked ≤ suc n) × (1 ≤ bad.number) × (1 ≤ bad.asked)
 
-within_front : (group n : ℕ) (r : Number) → Within n r → Within (suc n) (in_front group r)
-within_front group n (Whole v u) w = (omega arith, omega (arith, w.1))
-within_front group n (Refused m k) w = (w.0, omega (arith, w.1), w.2, omega arith)
+within_front : (group n : ℕ) (r : NumberRead) → Within n r → Within (suc n) (in_front group r)
+within_front group n (Ok one) w = (omega arith, omega (arith, w.1))
+within_front group n (Err bad) w = (w.0, omega (arith, w.1), w.2, omega arith)
 
 within_last : (b n : ℕ) → Within (suc n) (last_byte b)
 within_last b n = go (eqb b 0)
   where
-    go : (t : Bool) → Within (suc n) (cond t (Refused 2 1) (Whole b 1))
+    go : (t : Bool) → Within (suc n) (cond t (wrong 2 1) (whole b 1))
     go true = (omega arith, omega arith, omega arith, omega arith)
     go false = (omega arith, omega arith)
 
@@ -32,7 +31,7 @@ within_later : (more : ℕ) (bytes : List ℕ) → Within (length bytes) (later_
 within_later zero [] = (omega arith, omega arith, omega arith, omega arith)
 within_later zero (b ∷ bytes) = go (leb b 1)
   where
-    go : (t : Bool) → Within (suc (length bytes)) (cond t (last_byte b) (Refused 2 1))
+    go : (t : Bool) → Within (suc (length bytes)) (cond t (last_byte b) (wrong 2 1))
     go true = within_last b (length bytes)
     go false = (omega arith, omega arith, omega arith, omega arith)
 within_later (suc more) [] = (omega arith, omega arith, omega arith, omega arith)
@@ -48,14 +47,14 @@ unfolding number_of
 within_number [] = (omega arith, omega arith, omega arith, omega arith)
 within_number (b ∷ bytes) = go (ltb b 128)
   where
-    go : (t : Bool) → Within (suc (length bytes)) (cond t (Whole b 1) (in_front (b - 128) (later_bytes 8 bytes)))
+    go : (t : Bool) → Within (suc (length bytes)) (cond t (whole b 1) (in_front (b - 128) (later_bytes 8 bytes)))
     go true = (omega arith, omega arith)
     go false = within_front (b - 128) (length bytes) (later_bytes 8 bytes) (within_later 8 bytes)
 
-pub used_some : (bytes : List ℕ) {v u : ℕ} → number_of bytes ≡ Whole v u → (1 ≤ u) × (u ≤ length bytes)
+pub used_some : (bytes : List ℕ) {v u : ℕ} → number_of bytes ≡ whole v u → (1 ≤ u) × (u ≤ length bytes)
 used_some bytes e = subst (Within (length bytes)) e (within_number bytes)
 
-pub asked_some : (bytes : List ℕ) {n k : ℕ} → number_of bytes ≡ Refused n k → (1 ≤ k) × (k ≤ suc (length bytes))
+pub asked_some : (bytes : List ℕ) {n k : ℕ} → number_of bytes ≡ wrong n k → (1 ≤ k) × (k ≤ suc (length bytes))
 asked_some bytes e = let w = subst (Within (length bytes)) e (within_number bytes) in (w.3, w.1)
 
 -- ---- readings
@@ -72,10 +71,10 @@ module _ (end : ℕ) where
   read_placed (suc room) place [] h = tt
   read_placed (suc room) place (b ∷ bytes) h = go (λ p l. read_placed room p l) (number_of (b ∷ bytes)) (within_number (b ∷ bytes))
     where
-      go : ((p : ℕ) (l : List ℕ) → p + length l ≤ end → Placed end (read_from room p l).ended) → (r : Number) → Within (suc (length bytes)) r
+      go : ((p : ℕ) (l : List ℕ) → p + length l ≤ end → Placed end (read_from room p l).ended) → (r : NumberRead) → Within (suc (length bytes)) r
           → Placed end (after_number place r (λ used. read_from room (place + used) (drop used (b ∷ bytes)))).ended
-      go again (Whole v u) s = again (place + u) (drop u (b ∷ bytes)) (omega (arith, length-drop u (b ∷ bytes), s.1))
-      go again (Refused n k) s = (omega (arith, s.0), omega (arith, s.1, s.3), s.2)
+      go again (Ok one) s = again (place + one.used) (drop one.used (b ∷ bytes)) (omega (arith, length-drop one.used (b ∷ bytes), s.1))
+      go again (Err bad) s = (omega (arith, s.0), omega (arith, s.1, s.3), s.2)
 
 count_room : (room place : ℕ) (bytes : List ℕ) → length (read_from room place bytes).stored ≤ room
 count_room zero place [] = omega arith
@@ -83,10 +82,10 @@ count_room zero place (b ∷ bytes) = omega arith
 count_room (suc room) place [] = omega arith
 count_room (suc room) place (b ∷ bytes) = go (λ p l. count_room room p l) (number_of (b ∷ bytes))
   where
-    go : ((p : ℕ) (l : List ℕ) → length (read_from room p l).stored ≤ room) → (r : Number)
+    go : ((p : ℕ) (l : List ℕ) → length (read_from room p l).stored ≤ room) → (r : NumberRead)
         → length (after_number place r (λ used. read_from room (place + used) (drop used (b ∷ bytes)))).stored ≤ suc room
-    go again (Whole v u) = omega (arith, again (place + u) (drop u (b ∷ bytes)))
-    go again (Refused n k) = omega arith
+    go again (Ok one) = omega (arith, again (place + one.used) (drop one.used (b ∷ bytes)))
+    go again (Err bad) = omega arith
 
 -- ---- what is told of a reading
 
@@ -100,11 +99,11 @@ module _ (bytes : List ℕ) (room : ℕ) where
       go (no n p) e = let v = ap (λ (t : Told). length t.values) e in omega arith
 
   -- what is told tells how it ended
-  pub read_no : {n p : ℕ} → refuses n 0 p ≡ read_told (read_of bytes room) → (read_of bytes room).ended ≡ no n p
+  pub read_no : {n s p : ℕ} → refuses n s p ≡ read_told (read_of bytes room) → (read_of bytes room).ended ≡ no n p
   unfolding read_told
-  read_no {n} {p} e = go (read_of bytes room).ended e
+  read_no {n} {s} {p} e = go (read_of bytes room).ended e
     where
-      go : (d : Ending) → refuses n 0 p ≡ end_told d (length (read_of bytes room).stored) → d ≡ no n p
+      go : (d : Ending) → refuses n s p ≡ end_told d (length (read_of bytes room).stored) → d ≡ no n p
       go all e = let v = ap (λ (t : Told). length t.values) e in let f : ⊥ = omega arith in absurd f
       go (no m q) e =
           let a : n ≡ m = ap (λ (t : Told). t.number) e in

@@ -1,84 +1,83 @@
 -- Bytes that are cut short or followed by others: a reading goes by the bytes up to its place, and of those after it says nothing. Where they end inside a
 -- number, a byte 1 more ends that number; where a byte is wrong, those before it end inside a number; where the list is full, those before are read whole.
 -- Assumes nothing.
-use Rattle.std.specs.Prelude.{◌≡◌, refl, Bool, true, false, cond, List, [], ◌∷◌, ◌++◌, ℕ, zero, suc}
+use Rattle.std.specs.Prelude.{◌≡◌, refl, Bool, true, false, cond, List, [], ◌∷◌, ◌++◌, ℕ, zero, suc, Ok, Err}
 use Rattle.std.specs.Prelude.{◌+◌, ◌*◌, ◌-◌, ◌≤◌, ◌<◌, ltb, leb, eqb, ℤ, length, take, drop}
 use Rattle.std.proofs.Common.{ap, sym, subst, ◌∙◌, append_assoc, arith, length-append}
 use Rattle.std.proofs.Common.{length-drop, take-append-drop, drop_of_length-le, length-take-le, drop_at, take-add}
 use Rattle.numbers.specs.law.Mapping.{signed_of}
-use Rattle.numbers.specs.law.Reading.{number_of, later_bytes, last_byte, in_front, Read, Ending, all, no, with_first, after_number, read_from}
+use Rattle.numbers.specs.law.Reading.{number_of, later_bytes, last_byte, in_front, Read, Ending, all}
+use Rattle.numbers.specs.law.Reading.{no, with_first, after_number, read_from, NumberRead, whole, wrong}
 use Rattle.numbers.specs.inside.ReadingBounds.{Within, within_number, used_some}
 use Rattle.numbers.specs.inside.RoundTripLaws.{read_some}
-use Rattle.numbers.specs.declared.reader.Number.{Number}
-use Rattle.numbers.specs.declared.reader.Number.TheVariants.{Whole, Refused}
 
 -- ---- one number, as `read` reads it
 
 -- the bytes end inside it, and a byte 1 more ends it
-pub record NumberEnds (read : List ℕ → Number) (bytes : List ℕ) (asked : ℕ) : Type 0 where
+pub record NumberEnds (read : List ℕ → NumberRead) (bytes : List ℕ) (asked : ℕ) : Type 0 where
   pub upto : asked ≡ suc (length bytes)
   pub value : ℕ
-  pub mended : read (bytes ++ (1 ∷ [])) ≡ Whole value asked
+  pub mended : read (bytes ++ (1 ∷ [])) ≡ whole value asked
 
 -- the first `count` bytes end inside it, and the one after them, the last that was asked for, is wrong, whatever follows
-pub record NumberWrong (read : List ℕ → Number) (bytes : List ℕ) (least asked : ℕ) : Type 0 where
+pub record NumberWrong (read : List ℕ → NumberRead) (bytes : List ℕ) (least asked : ℕ) : Type 0 where
   pub count : ℕ
   pub asked_is : asked ≡ suc count
   pub some : least ≤ count
   pub inside : count < length bytes
-  pub before : read (take count bytes) ≡ Refused 1 asked
-  pub after : (rest : List ℕ) → read (take (suc count) bytes ++ rest) ≡ Refused 2 asked
+  pub before : read (take count bytes) ≡ wrong 1 asked
+  pub after : (rest : List ℕ) → read (take (suc count) bytes ++ rest) ≡ wrong 2 asked
 
-abbrev Local : (List ℕ → Number) → List ℕ → ℕ → Number → Type 0
-Local read bytes least (Whole value used) = (rest : List ℕ) → read (take used bytes ++ rest) ≡ Whole value used
-Local read bytes least (Refused number asked) = (number ≡ 1 → NumberEnds read bytes asked) × (number ≡ 2 → NumberWrong read bytes least asked)
+abbrev Local : (List ℕ → NumberRead) → List ℕ → ℕ → NumberRead → Type 0
+Local read bytes least (Ok one) = (rest : List ℕ) → read (take one.used bytes ++ rest) ≡ whole one.value one.used
+Local read bytes least (Err bad) = (bad.number ≡ 1 → NumberEnds read bytes bad.asked) × (bad.number ≡ 2 → NumberWrong read bytes least bad.asked)
 
 never_both {ℓ} : {X : Type ℓ} {n : ℕ} → n ≡ 1 → n ≡ 2 → X
 never_both e f = let z : ⊥ = omega arith in absurd z
 
 -- a byte that decides by itself
-abbrev One : Number → Type 0
-One (Whole value used) = used ≡ 1
-One (Refused number asked) = (number ≡ 2) × (asked ≡ 1)
+abbrev One : NumberRead → Type 0
+One (Ok one) = one.used ≡ 1
+One (Err bad) = (bad.number ≡ 2) × (bad.asked ≡ 1)
 
 one_last : (b : ℕ) → One (last_byte b)
 one_last b = go (eqb b 0)
   where
-    go : (t : Bool) → One (cond t (Refused 2 1) (Whole b 1))
+    go : (t : Bool) → One (cond t (wrong 2 1) (whole b 1))
     go true = (refl, refl)
     go false = refl
 
-one_tenth : (b : ℕ) → One (cond (leb b 1) (last_byte b) (Refused 2 1))
+one_tenth : (b : ℕ) → One (cond (leb b 1) (last_byte b) (wrong 2 1))
 one_tenth b = go (leb b 1)
   where
-    go : (t : Bool) → One (cond t (last_byte b) (Refused 2 1))
+    go : (t : Bool) → One (cond t (last_byte b) (wrong 2 1))
     go true = one_last b
     go false = (refl, refl)
 
-module _ (read : List ℕ → Number) (b : ℕ) (bytes : List ℕ) (none : read [] ≡ Refused 1 1) where
-  one_local : (r : Number) → One r → ((rest : List ℕ) → read (b ∷ rest) ≡ r) → Local read (b ∷ bytes) 0 r
-  one_local (Whole v u) o same = λ rest. rw o (same rest ∙ ap (Whole v) o)
-  one_local (Refused n k) o same = (
+module _ (read : List ℕ → NumberRead) (b : ℕ) (bytes : List ℕ) (none : read [] ≡ wrong 1 1) where
+  one_local : (r : NumberRead) → One r → ((rest : List ℕ) → read (b ∷ rest) ≡ r) → Local read (b ∷ bytes) 0 r
+  one_local (Ok one) o same = λ rest. rw o (same rest ∙ ap (whole one.value) o)
+  one_local (Err bad) o same = (
     λ e. never_both e o.0,
     λ e. record {
       count = 0;
       asked_is = o.1;
       some = omega arith;
       inside = omega arith;
-      before = none ∙ ap (Refused 1) (sym o.1);
-      after = λ rest. same rest ∙ ap (λ (m : ℕ). Refused m k) o.0;
+      before = none ∙ ap (wrong 1) (sym o.1);
+      after = λ rest. same rest ∙ ap (λ (m : ℕ). wrong m bad.asked) o.0;
     },
   )
 
 -- a group in front of the number
-module _ (read front : List ℕ → Number) (b group : ℕ) (step : (rest : List ℕ) → front (b ∷ rest) ≡ in_front group (read rest)) where
+module _ (read front : List ℕ → NumberRead) (b group : ℕ) (step : (rest : List ℕ) → front (b ∷ rest) ≡ in_front group (read rest)) where
   front_take : (n : ℕ) (bytes rest : List ℕ) → front (take (1 + n) (b ∷ bytes) ++ rest) ≡ in_front group (read (take n bytes ++ rest))
   front_take n bytes rest = let s : 1 + n ≡ suc n = omega arith in rw s (step (take n bytes ++ rest))
 
-  local_front : (bytes : List ℕ) (least : ℕ) → least ≤ 1 → (r : Number) → Local read bytes 0 r
+  local_front : (bytes : List ℕ) (least : ℕ) → least ≤ 1 → (r : NumberRead) → Local read bytes 0 r
       → Local front (b ∷ bytes) least (in_front group r)
-  local_front bytes least h (Whole v u) w = λ rest. front_take u bytes rest ∙ ap (in_front group) (w rest)
-  local_front bytes least h (Refused n k) w = (
+  local_front bytes least h (Ok one) w = λ rest. front_take one.used bytes rest ∙ ap (in_front group) (w rest)
+  local_front bytes least h (Err bad) w = (
     λ e. let x = w.0 e in record {
       upto = omega (arith, x.upto);
       value = group + 128 * x.value;
@@ -109,7 +108,7 @@ number_local : (b : ℕ) (bytes : List ℕ) → Local number_of (b ∷ bytes) 1 
 unfolding number_of
 number_local b bytes = go (ltb b 128) refl
   where
-    go : (t : Bool) → ltb b 128 ≡ t → Local number_of (b ∷ bytes) 1 (cond t (Whole b 1) (in_front (b - 128) (later_bytes 8 bytes)))
+    go : (t : Bool) → ltb b 128 ≡ t → Local number_of (b ∷ bytes) 1 (cond t (whole b 1) (in_front (b - 128) (later_bytes 8 bytes)))
     go true t = λ rest. rw t
     go false t = local_front (later_bytes 8) number_of b (b - 128) (λ rest. rw t) bytes 1 (omega arith) (later_bytes 8 bytes) (later_local 8 bytes)
 
@@ -142,17 +141,17 @@ module _ (room place : ℕ) (bytes : List ℕ) (stored : List ℤ) where
   Cut (no number at) = (number ≡ 1 → ReadingEnds at) × (number ≡ 2 → ReadingWrong at) × (number ≡ 3 → ReadingFull at)
 
 -- a whole number in front
-module _ (room place b : ℕ) (bytes : List ℕ) {v u : ℕ} (whole : number_of (b ∷ bytes) ≡ Whole v u) where
+module _ (room place b : ℕ) (bytes : List ℕ) {v u : ℕ} (is : number_of (b ∷ bytes) ≡ whole v u) where
   fits : u ≤ length (b ∷ bytes)
-  fits = (used_some (b ∷ bytes) whole).1
+  fits = (used_some (b ∷ bytes) is).1
 
-  local : (rest : List ℕ) → number_of (take u (b ∷ bytes) ++ rest) ≡ Whole v u
-  local = subst (Local number_of (b ∷ bytes) 1) whole (number_local b bytes)
+  local : (rest : List ℕ) → number_of (take u (b ∷ bytes) ++ rest) ≡ whole v u
+  local = subst (Local number_of (b ∷ bytes) 1) is (number_local b bytes)
 
   read_on : (rest : List ℕ) → read_from (suc room) place (take u (b ∷ bytes) ++ rest) ≡ with_first (signed_of v) (read_from room (place + u) rest)
   read_on rest =
       let n = length-take-le u (b ∷ bytes) fits in
-      read_some room place (take u (b ∷ bytes) ++ rest) (omega (arith, length-append (take u (b ∷ bytes)) rest, n, (used_some (b ∷ bytes) whole).0))
+      read_some room place (take u (b ∷ bytes) ++ rest) (omega (arith, length-append (take u (b ∷ bytes)) rest, n, (used_some (b ∷ bytes) is).0))
       ∙ rw (local rest, drop_at (take u (b ∷ bytes)) rest u n)
 
   before_on : (count : ℕ) {r : Read} → read_from room (place + u) (take count (drop u (b ∷ bytes))) ≡ r
@@ -194,7 +193,7 @@ read_none zero place = refl
 read_none (suc room) place = refl
 
 -- a number in front that is refused
-module _ (room place b : ℕ) (bytes : List ℕ) {n k : ℕ} (refused : number_of (b ∷ bytes) ≡ Refused n k) where
+module _ (room place b : ℕ) (bytes : List ℕ) {n k : ℕ} (refused : number_of (b ∷ bytes) ≡ wrong n k) where
   cut_here : Cut (suc room) place (b ∷ bytes) [] (no n (place + k - 1))
   cut_here =
       let w = subst (Local number_of (b ∷ bytes) 1) refused (number_local b bytes) in (
@@ -227,10 +226,10 @@ read_cut zero place (b ∷ bytes) = (
 read_cut (suc room) place [] = tt
 read_cut (suc room) place (b ∷ bytes) = go (λ p l. read_cut room p l) (number_of (b ∷ bytes)) refl
   where
-    go : ((p : ℕ) (l : List ℕ) → Cut room p l (read_from room p l).stored (read_from room p l).ended) → (r : Number) → number_of (b ∷ bytes) ≡ r
+    go : ((p : ℕ) (l : List ℕ) → Cut room p l (read_from room p l).stored (read_from room p l).ended) → (r : NumberRead) → number_of (b ∷ bytes) ≡ r
         → Cut (suc room) place (b ∷ bytes) (after_number place r (λ used. read_from room (place + used) (drop used (b ∷ bytes)))).stored
         (after_number place r (λ used. read_from room (place + used) (drop used (b ∷ bytes)))).ended
-    go again (Whole v u) n =
-        let next = read_from room (place + u) (drop u (b ∷ bytes)) in
-        cut_on room place b bytes n next.stored next.ended (again (place + u) (drop u (b ∷ bytes)))
-    go again (Refused x k) n = cut_here room place b bytes n
+    go again (Ok one) n =
+        let next = read_from room (place + one.used) (drop one.used (b ∷ bytes)) in
+        cut_on room place b bytes n next.stored next.ended (again (place + one.used) (drop one.used (b ∷ bytes)))
+    go again (Err bad) n = cut_here room place b bytes n

@@ -1,6 +1,6 @@
 -- The round trip, number by number: what the claims of it stand on.
 -- Assumes nothing.
-use Rattle.std.specs.Prelude.{◌≡◌, refl, Bool, true, false, cond, List, [], ◌∷◌, ◌++◌, ℕ, zero, suc, ◌+◌}
+use Rattle.std.specs.Prelude.{◌≡◌, refl, Bool, true, false, cond, List, [], ◌∷◌, ◌++◌, ℕ, zero, suc, ◌+◌, Ok, Err}
 use Rattle.std.specs.Prelude.{◌*◌, ◌-◌, ◌/◌, ◌%◌, ◌^◌, ◌≤◌, ◌<◌, ltb, leb, eqb, ℤ, length, drop}
 use Rattle.std.proofs.Common.{ap, ap₂, sym, ◌∙◌, pow-suc, arith, le-ltb, ne_eqb, ltb-true, ltb-false, leb-true, length-append}
 use Rattle.std.proofs.Math.Nat.{one-le-pow}
@@ -10,9 +10,8 @@ use Rattle.numbers.specs.law.Mapping.{unsigned_of}
 use Rattle.numbers.specs.inside.MappingLaws.{signed_unsigned, unsigned_signed, unsigned_fits}
 use Rattle.numbers.specs.law.Groups.{groups, groups_up_to, encode}
 use Rattle.numbers.specs.inside.GroupLaws.{one_group, more_groups, some_group}
-use Rattle.numbers.specs.law.Reading.{number_of, later_bytes, last_byte, in_front, all, no, after_number, read_from}
 use Rattle.numbers.specs.declared.reader.Number.{Number}
-use Rattle.numbers.specs.declared.reader.Number.TheVariants.{Whole, Refused}
+use Rattle.numbers.specs.law.Reading.{number_of, later_bytes, last_byte, in_front, all, no, after_number, read_from, NumberRead, whole, wrong}
 use Rattle.numbers.specs.claims.CodecInputs.{Numbers, Bytes}
 
 -- ---- from a number to bytes and back
@@ -23,14 +22,14 @@ split more m b = cond b (m ∷ []) ((m % 128 + 128) ∷ groups_up_to more (m / 1
 
 -- those that come after the first
 later_groups : (more m : ℕ) (rest : List ℕ) → 1 ≤ m → m < 2 * 128 ^ more
-    → later_bytes more (groups_up_to more m ++ rest) ≡ Whole m (length (groups_up_to more m))
+    → later_bytes more (groups_up_to more m ++ rest) ≡ whole m (length (groups_up_to more m))
 later_groups zero m rest h l = let e : m ≡ 1 = omega (arith, h, l) in rw e
 later_groups (suc more) m rest h l = go (ltb m 128) refl (later_groups more (m / 128) rest)
   where
     go : (b : Bool) → ltb m 128 ≡ b
         → (1 ≤ m / 128 → m / 128 < 2 * 128 ^ more → later_bytes more (groups_up_to more (m / 128) ++ rest)
-        ≡ Whole (m / 128) (length (groups_up_to more (m / 128))))
-        → later_bytes (suc more) (split more m b ++ rest) ≡ Whole m (length (split more m b))
+        ≡ whole (m / 128) (length (groups_up_to more (m / 128))))
+        → later_bytes (suc more) (split more m b ++ rest) ≡ whole m (length (split more m b))
     go true t again =
         let z : eqb m 0 ≡ false = ne_eqb m 0 (λ e. omega arith) in
         rw (t, z)
@@ -38,19 +37,19 @@ later_groups (suc more) m rest h l = go (ltb m 128) refl (later_groups more (m /
         let k = ltb-false m 128 t in
         let r = again (omega arith) (let e = pow-suc 128 more in omega arith) in
         let n : ltb (m % 128 + 128) 128 ≡ false = le-ltb (m % 128 + 128) 128 (omega arith) in
-        rw (n, r) (ap₂ Whole (omega arith) (omega arith))
+        rw (n, r) (ap₂ whole (omega arith) (omega arith))
 
-pub number_groups : (m : ℕ) (rest : List ℕ) → m < 2 ^ 64 → number_of (groups m ++ rest) ≡ Whole m (length (groups m))
+pub number_groups : (m : ℕ) (rest : List ℕ) → m < 2 ^ 64 → number_of (groups m ++ rest) ≡ whole m (length (groups m))
 unfolding number_of groups
 number_groups m rest h = go (ltb m 128) refl
   where
-    go : (b : Bool) → ltb m 128 ≡ b → number_of (split 8 m b ++ rest) ≡ Whole m (length (split 8 m b))
+    go : (b : Bool) → ltb m 128 ≡ b → number_of (split 8 m b ++ rest) ≡ whole m (length (split 8 m b))
     go true t = rw t
     go false t =
         let k = ltb-false m 128 t in
         let r = later_groups 8 (m / 128) rest (omega arith) (omega arith) in
         let n : ltb (m % 128 + 128) 128 ≡ false = le-ltb (m % 128 + 128) 128 (omega arith) in
-        rw (n, r) (ap₂ Whole (omega arith) (omega arith))
+        rw (n, r) (ap₂ whole (omega arith) (omega arith))
 
 -- one number more to read
 pub read_some : (room place : ℕ) (bytes : List ℕ) → 1 ≤ length bytes
@@ -81,41 +80,52 @@ pub record Regrouped (more v u : ℕ) (bytes : List ℕ) : Type 0 where
   pub small : v < 2 * 128 ^ more
   pub same : groups_up_to more v ++ drop u bytes ≡ bytes
 
-whole_last : (b v u : ℕ) → last_byte b ≡ Whole v u → (1 ≤ b) × (b ≡ v) × (1 ≡ u)
+abbrev number_in : NumberRead → Number
+number_in (Ok one) = one
+number_in (Err bad) = record { value = 0; used = 0 }
+
+module _ {r : NumberRead} {v u : ℕ} (e : r ≡ whole v u) where
+  value_is : (number_in r).value ≡ v
+  value_is = ap (λ (x : NumberRead). (number_in x).value) e
+
+  used_is : (number_in r).used ≡ u
+  used_is = ap (λ (x : NumberRead). (number_in x).used) e
+
+whole_last : (b v u : ℕ) → last_byte b ≡ whole v u → (1 ≤ b) × (b ≡ v) × (1 ≡ u)
 whole_last b v u e = go (eqb b 0) refl e
   where
-    go : (t : Bool) → eqb b 0 ≡ t → cond t (Refused 2 1) (Whole b 1) ≡ Whole v u → (1 ≤ b) × (b ≡ v) × (1 ≡ u)
+    go : (t : Bool) → eqb b 0 ≡ t → cond t (wrong 2 1) (whole b 1) ≡ whole v u → (1 ≤ b) × (b ≡ v) × (1 ≡ u)
     go true t e = let z : ◌≡◌ {A = ℕ} 0 1 = cc in let f : ⊥ = omega arith in absurd f
-    go false t e = let n = eqb-false b 0 t in (omega arith, cc, cc)
+    go false t e = let n = eqb-false b 0 t in (omega arith, value_is e, used_is e)
 
-never {ℓ} : {X : Type ℓ} {n k v u : ℕ} → Refused n k ≡ Whole v u → X
+never {ℓ} : {X : Type ℓ} {n k v u : ℕ} → wrong n k ≡ whole v u → X
 never e = let z : ◌≡◌ {A = ℕ} 0 1 = cc in let f : ⊥ = omega arith in absurd f
 
 -- a number whose first group is `group`, with the number that its other groups are
-pub record Fronted (group v u : ℕ) (r : Number) : Type 0 where
+pub record Fronted (group v u : ℕ) (r : NumberRead) : Type 0 where
   pub value : ℕ
   pub used : ℕ
-  pub rest : r ≡ Whole value used
+  pub rest : r ≡ whole value used
   pub v_is : v ≡ group + 128 * value
   pub u_is : u ≡ suc used
 
-fronted : (group v u : ℕ) (r : Number) → in_front group r ≡ Whole v u → Fronted group v u r
-fronted group v u (Whole value used) e =
-    let a : group + 128 * value ≡ v = cc in
-    let b : 1 + used ≡ u = cc in
-    record { value = value; used = used; rest = refl; v_is = sym a; u_is = omega arith }
-fronted group v u (Refused n k) e = never e
+fronted : (group v u : ℕ) (r : NumberRead) → in_front group r ≡ whole v u → Fronted group v u r
+fronted group v u (Ok one) e =
+    let a : group + 128 * one.value ≡ v = value_is e in
+    let b : 1 + one.used ≡ u = used_is e in
+    record { value = one.value; used = one.used; rest = refl; v_is = sym a; u_is = omega arith }
+fronted group v u (Err bad) e = never e
 
 -- the first byte and the groups of the rest are the groups of the whole
 regrouped : (more b v u value used : ℕ) (bytes : List ℕ) → 128 ≤ v → v % 128 + 128 ≡ b → v / 128 ≡ value → u ≡ suc used
     → groups_up_to more value ++ drop used bytes ≡ bytes → groups_up_to (suc more) v ++ drop u (b ∷ bytes) ≡ b ∷ bytes
 regrouped more b v u value used bytes h lowest others n r = rw (more_groups more v h, lowest, others, n) (ap (λ (l : List ℕ). b ∷ l) r)
 
-later_whole : (more : ℕ) (bytes : List ℕ) (v u : ℕ) → Bytes bytes → later_bytes more bytes ≡ Whole v u → Regrouped more v u bytes
+later_whole : (more : ℕ) (bytes : List ℕ) (v u : ℕ) → Bytes bytes → later_bytes more bytes ≡ whole v u → Regrouped more v u bytes
 later_whole zero [] v u f e = never e
 later_whole zero (b ∷ bytes) v u f e = go (leb b 1) refl e
   where
-    go : (t : Bool) → leb b 1 ≡ t → cond t (last_byte b) (Refused 2 1) ≡ Whole v u → Regrouped zero v u (b ∷ bytes)
+    go : (t : Bool) → leb b 1 ≡ t → cond t (last_byte b) (wrong 2 1) ≡ whole v u → Regrouped zero v u (b ∷ bytes)
     go true t e =
         let k = leb-true b 1 t in
         let w = whole_last b v u e in
@@ -124,8 +134,8 @@ later_whole zero (b ∷ bytes) v u f e = go (leb b 1) refl e
 later_whole (suc more) [] v u f e = never e
 later_whole (suc more) (b ∷ bytes) v u f e = go (λ v' u'. later_whole more bytes v' u' f.1) (ltb b 128) refl e
   where
-    go : ((v' u' : ℕ) → later_bytes more bytes ≡ Whole v' u' → Regrouped more v' u' bytes) → (t : Bool) → ltb b 128 ≡ t
-        → cond t (last_byte b) (in_front (b - 128) (later_bytes more bytes)) ≡ Whole v u → Regrouped (suc more) v u (b ∷ bytes)
+    go : ((v' u' : ℕ) → later_bytes more bytes ≡ whole v' u' → Regrouped more v' u' bytes) → (t : Bool) → ltb b 128 ≡ t
+        → cond t (last_byte b) (in_front (b - 128) (later_bytes more bytes)) ≡ whole v u → Regrouped (suc more) v u (b ∷ bytes)
     go again true t e =
         let k = ltb-true b 128 t in
         let w = whole_last b v u e in
@@ -149,16 +159,16 @@ later_whole (suc more) (b ∷ bytes) v u f e = go (λ v' u'. later_whole more by
         }
 
 -- a number that is read is written as the bytes that were read
-number_whole : (bytes : List ℕ) (v u : ℕ) → Bytes bytes → number_of bytes ≡ Whole v u → groups v ++ drop u bytes ≡ bytes
+number_whole : (bytes : List ℕ) (v u : ℕ) → Bytes bytes → number_of bytes ≡ whole v u → groups v ++ drop u bytes ≡ bytes
 unfolding number_of groups
 number_whole [] v u f e = never e
 number_whole (b ∷ bytes) v u f e = go (ltb b 128) refl e
   where
-    go : (t : Bool) → ltb b 128 ≡ t → cond t (Whole b 1) (in_front (b - 128) (later_bytes 8 bytes)) ≡ Whole v u
+    go : (t : Bool) → ltb b 128 ≡ t → cond t (whole b 1) (in_front (b - 128) (later_bytes 8 bytes)) ≡ whole v u
         → groups_up_to 9 v ++ drop u (b ∷ bytes) ≡ b ∷ bytes
     go true t e =
-        let w : b ≡ v = cc in
-        let x : 1 ≡ u = cc in
+        let w : b ≡ v = value_is e in
+        let x : 1 ≡ u = used_is e in
         rw (← w, ← x, one_group 9 b (ltb-true b 128 t))
     go false t e =
         let k = ltb-false b 128 t in
@@ -184,10 +194,11 @@ encode_read zero place (b ∷ bytes) f e = ended_no e
 encode_read (suc room) place [] f e = refl
 encode_read (suc room) place (b ∷ bytes) f e = go (λ p l. encode_read room p l) (number_of (b ∷ bytes)) refl e
   where
-    go : ((p : ℕ) (l : List ℕ) → Bytes l → (read_from room p l).ended ≡ all → encode (read_from room p l).stored ≡ l) → (r : Number) → number_of (b ∷ bytes) ≡ r
+    go : ((p : ℕ) (l : List ℕ) → Bytes l → (read_from room p l).ended ≡ all → encode (read_from room p l).stored ≡ l)
+        → (r : NumberRead) → number_of (b ∷ bytes) ≡ r
         → (after_number place r (λ used. read_from room (place + used) (drop used (b ∷ bytes)))).ended ≡ all
         → encode (after_number place r (λ used. read_from room (place + used) (drop used (b ∷ bytes)))).stored ≡ b ∷ bytes
-    go again (Whole v u) n e =
-        rw (unsigned_signed v, again (place + u) (drop u (b ∷ bytes)) (bytes_drop u (b ∷ bytes) f) e)
-        (number_whole (b ∷ bytes) v u f n)
-    go again (Refused x k) n e = ended_no e
+    go again (Ok one) n e =
+        rw (unsigned_signed one.value, again (place + one.used) (drop one.used (b ∷ bytes)) (bytes_drop one.used (b ∷ bytes) f) e)
+        (number_whole (b ∷ bytes) one.value one.used f n)
+    go again (Err bad) n e = ended_no e

@@ -1,26 +1,24 @@
 -- Refusals of a list have small numbers, steps and places, and their numbers are above those of bytes, 1 to 7: what an export needs before it hands them
 -- on, and what tells them from the refusals of a reading.
 -- Assumes nothing.
-use Rattle.std.specs.Prelude.{◌≡◌, refl, Bool, true, false, List, [], ◌∷◌, ◌++◌, ℕ, zero, suc, ◌+◌, ◌≤◌, ◌<◌}
+use Rattle.std.specs.Prelude.{◌≡◌, refl, Bool, true, false, List, [], ◌∷◌, ◌++◌, ℕ, zero, suc, ◌+◌, ◌≤◌, ◌<◌, Ok, Err}
 use Rattle.std.proofs.Common.{sym, subst, arith}
-use Rattle.numbers.specs.law.Question.{Question, answer, or_else, first_no}
+use Rattle.numbers.specs.law.Question.{Question, Answer, answer, or_else, first_no}
 use Rattle.numbers.specs.inside.QuestionLaws.{first_no_append}
 use Rattle.numbers.specs.law.Items.{over}
-use Rattle.numbers.specs.declared.answer.Answer.{Answer}
-use Rattle.numbers.specs.declared.answer.Answer.TheVariants.{Yes, No}
 
 -- a refusal's number is at least `least`, and its number, step and place are below b
 abbrev pub Between : ℕ → ℕ → Answer → Type 0
-Between least b Yes = Unit {0}
-Between least b (No number step place) = (number < b) × (step < b) × (place < b) × (least ≤ number)
+Between least b (Ok _) = Unit {0}
+Between least b (Err n) = (n.number < b) × (n.step < b) × (n.place < b) × (least ≤ n.number)
 
 abbrev pub Small : ℕ → Answer → Type 0
 Small b a = Between 8 b a
 
 module _ (b : ℕ) where
-  pub small_else : (x y : Answer) → Small b x → (x ≡ Yes → Small b y) → Small b (or_else x y)
-  small_else Yes y s f = f refl
-  small_else (No n t p) y s f = s
+  pub small_else : (x y : Answer) → Small b x → (x ≡ Ok tt → Small b y) → Small b (or_else x y)
+  small_else (Ok _) y s f = f refl
+  small_else (Err n) y s f = s
 
   -- a question and what comes after it
   pub small_next : (q : Question) (qs : List Question) → q.number < b → q.step < b → q.place < b → 8 ≤ q.number
@@ -32,12 +30,12 @@ module _ (b : ℕ) where
       go false f = (h, k, l, m)
 
   -- one list after another, which is asked only where the first has no "no"
-  pub small_append : (xs ys : List Question) → Small b (first_no xs) → (first_no xs ≡ Yes → Small b (first_no ys)) → Small b (first_no (xs ++ ys))
+  pub small_append : (xs ys : List Question) → Small b (first_no xs) → (first_no xs ≡ Ok tt → Small b (first_no ys)) → Small b (first_no (xs ++ ys))
   small_append xs ys s f = subst (Small b) (sym (first_no_append xs ys)) (small_else (first_no xs) (first_no ys) s f)
 
   -- one item after another, each asked only where those before it have no "no"
   pub small_over : (f : ℕ → List Question) (i c : ℕ)
-      → ((j : ℕ) → j < c → ((m : ℕ) → m < j → first_no (f (i + m)) ≡ Yes) → Small b (first_no (f (i + j)))) → Small b (first_no (over f i c))
+      → ((j : ℕ) → j < c → ((m : ℕ) → m < j → first_no (f (i + m)) ≡ Ok tt) → Small b (first_no (f (i + j)))) → Small b (first_no (over f i c))
   small_over f i zero h = tt
   small_over f i (suc c) h =
       let z : i + 0 ≡ i = omega arith in
@@ -47,7 +45,7 @@ module _ (b : ℕ) where
       let y : i + suc j ≡ suc i + j = omega arith in
       subst (λ (n : ℕ). Small b (first_no (f n))) y (h (suc j) (omega arith) (earlier e j before))))
     where
-      earlier : first_no (f i) ≡ Yes → (j : ℕ) → ((m : ℕ) → m < j → first_no (f (suc i + m)) ≡ Yes) → (m : ℕ) → m < suc j → first_no (f (i + m)) ≡ Yes
+      earlier : first_no (f i) ≡ Ok tt → (j : ℕ) → ((m : ℕ) → m < j → first_no (f (suc i + m)) ≡ Ok tt) → (m : ℕ) → m < suc j → first_no (f (i + m)) ≡ Ok tt
       earlier e j before zero l = let z : i + 0 ≡ i = omega arith in rw z e
       earlier e j before (suc m) l = let y : i + suc m ≡ suc i + m = omega arith in rw y (before m (omega arith))
 

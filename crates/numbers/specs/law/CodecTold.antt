@@ -1,16 +1,12 @@
--- Document 01's number and values for each case of the reader's and the writer's answers.
+-- Document 01's number and values for what the reader and the writer answer: a count, or a refusal.
 -- Assumes nothing.
-use Rattle.std.specs.Prelude.{[], ◌∷◌, pos}
-use Rattle.numbers.specs.law.Told.{Told, gives, refuses}
-use Rattle.numbers.specs.declared.reader.Reading.{Reading}
-use Rattle.numbers.specs.declared.reader.Reading.TheVariants as reading
-use Rattle.numbers.specs.declared.writer.Writing.{Writing}
-use Rattle.numbers.specs.declared.writer.Writing.TheVariants as writing
+use Rattle.std.specs.Prelude.{[], ◌∷◌, ℕ, pos, Result}
+use Rattle.numbers.specs.law.Told.{Told}
+use Rattle.numbers.specs.law.Question.{told_with}
+use Rattle.numbers.specs.declared.answer.No.{No}
 
-abbrev pub reading_told : Reading → Told
-reading_told (reading.Count count) = gives (pos count ∷ [])
-reading_told (reading.Refused number place) = refuses number 0 place
+abbrev pub Count : Type 0
+Count = Result ℕ No
 
-abbrev pub writing_told : Writing → Told
-writing_told (writing.Count count) = gives (pos count ∷ [])
-writing_told (writing.Refused number place) = refuses number 0 place
+abbrev pub count_told : Count → Told
+count_told c = told_with (λ n. pos n ∷ []) c

@@ -1,21 +1,18 @@
 -- A plan is accepted exactly where every question of the case holds, 20 holds, and every rule from 21 to 33 holds of every item at every step.
 -- Assumes nothing.
-use Rattle.std.specs.Prelude.{◌≡◌, refl, true, List, [], ◌∷◌, ℕ, ◌+◌, ◌<◌, ℤ, length}
+use Rattle.std.specs.Prelude.{◌≡◌, refl, true, List, [], ◌∷◌, ℕ, ◌+◌, ◌<◌, ℤ, length, Ok, Err}
 use Rattle.std.proofs.Common.{ap}
 use native.Mathlib.Omega.{arith}
 use Rattle.numbers.specs.law.Told.{Told}
-use Rattle.numbers.specs.law.Question.{Question, first_no}
+use Rattle.numbers.specs.law.Question.{Question, first_no, Answer, found}
 use Rattle.numbers.specs.inside.QuestionLaws.{first_no_append, all_yes}
 use Rattle.numbers.specs.law.Items.{over}
 use Rattle.numbers.specs.inside.ItemLaws.{over_all}
-use Rattle.numbers.specs.declared.answer.Answer.{Answer}
-use Rattle.numbers.specs.declared.answer.Answer.TheVariants.{Yes, No}
 use Rattle.case.specs.law.Layout.{nodes_of, arcs_of, stations_of, steps_of}
 use Rattle.case.specs.law.Records.{node_of, arc_of, artificial_of}
 use Rattle.case.specs.inside.FieldLaws.{first_yes, second_yes, item_yes}
 use Rattle.case.specs.law.Judged.{case_questions}
 use Rattle.plan.specs.declared.totals.Totals.{Totals}
-use Rattle.plan.specs.declared.verdict.Verdict.TheVariants.{Accepted}
 use Rattle.plan.specs.law.PlanLayout.{step_rows}
 use Rattle.plan.specs.law.PlanRecords.{node_row, arc_row}
 use Rattle.plan.specs.law.BeforeStep.{pressure_at}
@@ -31,7 +28,7 @@ use Rattle.plan.specs.law.Balance.{balance_kept, balance_questions, all_balance_
 use Rattle.plan.specs.law.Step.{step_questions}
 use Rattle.plan.specs.law.Totals.{totals_of}
 use Rattle.plan.specs.inside.AnsweredSizes.{nodes_yes, arcs_yes, stations_yes, balances_yes}
-use Rattle.plan.specs.law.Judged.{plan_step, plan_questions, questions, verdict_of, verdict_told, judge_of}
+use Rattle.plan.specs.law.Judged.{plan_step, plan_questions, questions, verdict_told, judge_of}
 
 -- ---- the rules of one item in one step; `old v` is the pressure of node v before the step
 
@@ -62,24 +59,24 @@ pub record StepRules (case : List ℤ) (old : ℕ → ℤ) (rows : List ℤ) (i 
 
 -- every rule of a plan
 pub record PlanRules (case plan : List ℤ) : Type 0 where
-  pub case_yes : first_no (case_questions case) ≡ Yes
+  pub case_yes : first_no (case_questions case) ≡ Ok tt
   pub rule20 : head_kept case plan ≡ true
   pub steps : (i : ℕ) → i < steps_of case → StepRules case (pressure_at case plan i) (step_rows case plan i) i
 
 -- ---- one step
 
 module _ (case : List ℤ) (old : ℕ → ℤ) (rows : List ℤ) (i : ℕ) where
-  arc_rules : (e : ℕ) → first_no (arc_questions case old rows i e) ≡ Yes → ArcRules case old rows i e
+  arc_rules : (e : ℕ) → first_no (arc_questions case old rows i e) ≡ Ok tt → ArcRules case old rows i e
   unfolding arc_questions flow_questions pressure_questions pipe_questions
   arc_rules e y =
       let a = all_yes (arc_questions case old rows i e) y in
       record { rule24 = a.0; rule25 = a.1.0; rule26 = a.1.1.0; rule27 = a.1.1.1.0; rule28 = a.1.1.1.1.0; rule29 = a.1.1.1.1.1.0 }
 
-  rules_arc : (e : ℕ) → ArcRules case old rows i e → first_no (arc_questions case old rows i e) ≡ Yes
+  rules_arc : (e : ℕ) → ArcRules case old rows i e → first_no (arc_questions case old rows i e) ≡ Ok tt
   unfolding arc_questions flow_questions pressure_questions pipe_questions
   rules_arc e r = rw (r.rule24, r.rule25, r.rule26, r.rule27, r.rule28, r.rule29)
 
-  pub step_rules : first_no (step_questions case old rows i) ≡ Yes → StepRules case old rows i
+  pub step_rules : first_no (step_questions case old rows i) ≡ Ok tt → StepRules case old rows i
   unfolding all_node_questions node_questions all_arc_questions all_station_questions station_questions all_balance_questions balance_questions
   step_rules y = record {
     nodes = λ v q.
@@ -96,10 +93,10 @@ module _ (case : List ℤ) (old : ℕ → ℤ) (rows : List ℤ) (i : ℕ) where
   zero_add : (n : ℕ) → 0 + n ≡ n
   zero_add n = omega arith
 
-  all_of : (f : ℕ → List Question) (n : ℕ) → ((j : ℕ) → j < n → first_no (f j) ≡ Yes) → first_no (over f 0 n) ≡ Yes
+  all_of : (f : ℕ → List Question) (n : ℕ) → ((j : ℕ) → j < n → first_no (f j) ≡ Ok tt) → first_no (over f 0 n) ≡ Ok tt
   all_of f n h = over_all f 0 n (λ j p. rw (zero_add j) (h j p))
 
-  pub rules_step : StepRules case old rows i → first_no (step_questions case old rows i) ≡ Yes
+  pub rules_step : StepRules case old rows i → first_no (step_questions case old rows i) ≡ Ok tt
   unfolding step_questions all_node_questions node_questions all_arc_questions all_station_questions station_questions all_balance_questions balance_questions
   rules_step r =
       rw (
@@ -115,12 +112,12 @@ module _ (case : List ℤ) (old : ℕ → ℤ) (rows : List ℤ) (i : ℕ) where
 -- ---- the whole plan
 
 -- a verdict that carries totals is no refusal
-accepted_yes : (a : Answer) (s t : Totals) → verdict_told (verdict_of a s) ≡ verdict_told (Accepted t) → a ≡ Yes
-accepted_yes Yes s t e = refl
-accepted_yes (No x y z) s t e = let v = ap (λ (x : Told). length x.values) e in let f : ⊥ = omega arith in absurd f
+accepted_yes : (a : Answer) (s t : Totals) → verdict_told (found a s) ≡ verdict_told (Ok t) → a ≡ Ok tt
+accepted_yes (Ok _) s t e = refl
+accepted_yes (Err n) s t e = let v = ap (λ (x : Told). length x.values) e in let f : ⊥ = omega arith in absurd f
 
 module _ (case plan : List ℤ) where
-  pub sound : (t : Totals) → judge_of case plan ≡ verdict_told (Accepted t) → PlanRules case plan
+  pub sound : (t : Totals) → judge_of case plan ≡ verdict_told (Ok t) → PlanRules case plan
   unfolding judge_of questions plan_questions plan_step
   sound t e =
       let y = accepted_yes (first_no (questions case plan)) (totals_of case plan) t e in
@@ -132,7 +129,7 @@ module _ (case plan : List ℤ) where
         steps = λ i q. step_rules case (pressure_at case plan i) (step_rows case plan i) i (item_yes (plan_step case plan) (steps_of case) s i q);
       }
 
-  pub complete : PlanRules case plan → judge_of case plan ≡ verdict_told (Accepted (totals_of case plan))
+  pub complete : PlanRules case plan → judge_of case plan ≡ verdict_told (Ok (totals_of case plan))
   unfolding judge_of questions plan_questions plan_step
   complete r =
       rw (

@@ -4,7 +4,7 @@
 use Rattle.std.specs.Prelude.{Bool, cond, ◌&&◌, List, ◌++◌, map, ℕ, ◌-◌, eqb, ℤ}
 use Rattle.std.specs.Int.Signed.{le_z}
 use Rattle.numbers.specs.law.Told.{Told}
-use Rattle.numbers.specs.law.Question.{Question, first_no}
+use Rattle.numbers.specs.law.Question.{Question, first_no, found}
 use Rattle.case.specs.law.Records.{node_of, arc_of, artificial_of}
 use Rattle.case.specs.law.Judged.{case_questions}
 use Rattle.plan.specs.declared.setting.Mode.TheVariants.{Open, Regulating, Compressing}
@@ -16,8 +16,8 @@ use Rattle.plan.specs.law.PlanRecords.{pressure_in}
 use Rattle.plan.specs.law.Setting.{setting_in, in_end, out_end}
 use Rattle.plan.specs.law.ArcPressures.{reach_kept, pressures_kept}
 use Rattle.plan.specs.law.Totals.{totals_of}
-use Rattle.plan.specs.law.Judged.{plan_questions, verdict_of, verdict_told}
-use Rattle.plan.specs.law.Ledger.{region_questions, ledger_by, ledger_told, figures_for}
+use Rattle.plan.specs.law.Judged.{plan_questions, verdict_told}
+use Rattle.plan.specs.law.Ledger.{region_questions, ledger_told, figures_for}
 
 -- a test of an arc e that compresses from the node u to the node w, in the step with index i whose numbers are `rows`
 abbrev pub CompressionTest : Type 0
@@ -76,8 +76,8 @@ abbrev pub questions_under : CompressionTest → List ℤ → List ℤ → List 
 questions_under test case plan = case_questions case ++ map (asked_under test case plan) (plan_questions case plan)
 
 abbrev pub judged_under : CompressionTest → List ℤ → List ℤ → Told
-judged_under test case plan = verdict_told (verdict_of (first_no (questions_under test case plan)) (totals_of case plan))
+judged_under test case plan = verdict_told (found (first_no (questions_under test case plan)) (totals_of case plan))
 
 abbrev pub ledger_under : CompressionTest → List ℤ → List ℤ → ℤ → ℤ → ℤ → Told
 ledger_under test case plan set s t =
-    ledger_told (ledger_by (first_no (questions_under test case plan ++ region_questions case set s t)) (figures_for case plan set s t))
+    ledger_told (found (first_no (questions_under test case plan ++ region_questions case set s t)) (figures_for case plan set s t))

@@ -2,7 +2,7 @@
 -- nonzero is judged as before": neither its verdict nor its ledger goes by what 0 stands for. On every case, what is accepted is accepted with the 200,000 of
 -- document 01 too. The product of 26 is that of document 02, P1, throughout.
 -- Assumes nothing.
-use Rattle.std.specs.Prelude.{◌≡◌, refl, Bool, true, List, [], ◌∷◌, ◌≢◌, ℕ, ◌≤◌, ◌<◌, ℤ, pos, ◌≤ℤ◌}
+use Rattle.std.specs.Prelude.{◌≡◌, refl, Bool, true, List, [], ◌∷◌, ◌≢◌, ℕ, ◌≤◌, ◌<◌, ℤ, pos, ◌≤ℤ◌, Ok}
 use Rattle.std.proofs.Common.{sym, ◌∙◌}
 use Rattle.std.specs.Int.Signed.{le_z}
 use Rattle.numbers.specs.law.Told.{Told, refuses}
@@ -12,7 +12,6 @@ use Rattle.case.specs.law.Layout.{nodes_of, arcs_of, steps_of}
 use Rattle.case.specs.law.Records.{node_of, arc_of, artificial_of}
 use Rattle.case.specs.inside.SaysLaws.{both, pick, le_says, zero_says}
 use Rattle.plan.specs.declared.totals.Totals.{Totals}
-use Rattle.plan.specs.declared.verdict.Verdict.TheVariants.{Accepted}
 use Rattle.plan.specs.declared.setting.Way.{Way}
 use Rattle.plan.specs.declared.setting.Way.TheVariants.{Forward, Backward}
 use Rattle.plan.specs.declared.setting.Mode.TheVariants.{Open, Regulating, Compressing}
@@ -125,8 +124,8 @@ acthigh_most {case} c i e p l = go
     go Backward = at (arc_of case e).from (from_node c e l)
 
 -- "those made before go by the new rule": a plan that is accepted by it is accepted with document 01's default too, with the same totals
-pub was_accepted : (case plan : List ℤ) (t : Totals) → judge_of case plan ≡ verdict_told (Accepted t)
-    → judged_with default_of01 case plan ≡ verdict_told (Accepted t)
+pub was_accepted : (case plan : List ℤ) (t : Totals) → judge_of case plan ≡ verdict_told (Ok t)
+    → judged_with default_of01 case plan ≡ verdict_told (Ok t)
 was_accepted case plan t e =
     let r = sound case plan t e in
     judged_alike (compression_with default_of01 case) case plan (λ i a p l.

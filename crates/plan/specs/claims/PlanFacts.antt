@@ -1,13 +1,12 @@
 -- A plan is accepted exactly where its case and every rule from 20 to 33 hold as facts of numbers, of every item in every step.
 -- Assumes nothing.
-use Rattle.std.specs.Prelude.{◌≡◌, List, ◌↔◌, ℕ, ◌<◌, ℤ}
+use Rattle.std.specs.Prelude.{◌≡◌, List, ◌↔◌, ℕ, ◌<◌, ℤ, Ok}
 use Rattle.case.specs.law.Layout.{nodes_of, arcs_of, stations_of, steps_of}
 use Rattle.case.specs.law.Records.{node_of, arc_of, artificial_of, station_of}
 use Rattle.case.specs.inside.AcceptedCase.{at_most, below}
 use Rattle.case.specs.claims.CaseRules.{CaseRules}
 use Rattle.case.specs.claims.Acceptance.{accepted_rules, rules_accepted}
 use Rattle.plan.specs.declared.totals.Totals.{Totals}
-use Rattle.plan.specs.declared.verdict.Verdict.TheVariants as verdict
 use Rattle.plan.specs.law.PlanLayout.{step_rows}
 use Rattle.plan.specs.law.PlanRecords.{node_row, arc_row, direction_in}
 use Rattle.plan.specs.law.BeforeStep.{pressure_at}
@@ -94,12 +93,12 @@ module _ (case plan : List ℤ) where
         };
       }
 
-  pub sound_facts : (t : Totals) → judge_of case plan ≡ verdict_told (verdict.Accepted t) → PlanFacts case plan
+  pub sound_facts : (t : Totals) → judge_of case plan ≡ verdict_told (Ok t) → PlanFacts case plan
   sound_facts t e = facts_of (sound case plan t e)
 
-  pub complete_facts : PlanFacts case plan → judge_of case plan ≡ verdict_told (verdict.Accepted (totals_of case plan))
+  pub complete_facts : PlanFacts case plan → judge_of case plan ≡ verdict_told (Ok (totals_of case plan))
   complete_facts f = complete case plan (rules_of f)
 
   -- both at once
-  pub accepted_exactly : judge_of case plan ≡ verdict_told (verdict.Accepted (totals_of case plan)) ↔ PlanFacts case plan
+  pub accepted_exactly : judge_of case plan ≡ verdict_told (Ok (totals_of case plan)) ↔ PlanFacts case plan
   accepted_exactly = (sound_facts (totals_of case plan), complete_facts)

@@ -1,7 +1,7 @@
 -- Compression from the pressure we have now (document 02, P1): "In 26 the product is taken with the in end's pressure in the same step." "A user who leans on
 -- acceptance now leans on this rule."
 -- Assumes nothing.
-use Rattle.std.specs.Prelude.{◌≡◌, refl, Bool, cond, List, [], ◌∷◌, ℕ, zero, suc, ◌<◌, ℤ, pos, ◌+ℤ◌, ◌*ℤ◌}
+use Rattle.std.specs.Prelude.{◌≡◌, refl, Bool, cond, List, [], ◌∷◌, ℕ, zero, suc, ◌<◌, ℤ, pos, ◌+ℤ◌, ◌*ℤ◌, Ok}
 use Rattle.std.proofs.Common.{◌∙◌}
 use Rattle.std.specs.Int.Signed.{le_z}
 use Rattle.numbers.specs.law.Told.{Told, gives, refuses}
@@ -11,7 +11,6 @@ use Rattle.numbers.specs.inside.SumLaws.{sum_cong, sum_zero}
 use Rattle.case.specs.law.Layout.{arcs_of, steps_of, machine_count}
 use Rattle.case.specs.law.Records.{node_of, arc_of, artificial_of}
 use Rattle.plan.specs.declared.totals.Totals.{Totals}
-use Rattle.plan.specs.declared.verdict.Verdict.TheVariants.{Accepted}
 use Rattle.plan.specs.declared.setting.Way.{Way}
 use Rattle.plan.specs.declared.setting.Way.TheVariants.{Forward, Backward}
 use Rattle.plan.specs.declared.setting.Mode.TheVariants.{Compressing}
@@ -37,7 +36,7 @@ use Rattle.plan.specs.claims.FurtherRows.{case_b, raised_from, plan_b, accepted_
 -- ---- what acceptance says of an arc that compresses
 
 -- in every step of an accepted plan an arc that compresses keeps all four: `reach` has both pressures of that step
-pub accepted_compression : (case plan : List ℤ) (t : Totals) → judge_of case plan ≡ verdict_told (Accepted t)
+pub accepted_compression : (case plan : List ℤ) (t : Totals) → judge_of case plan ≡ verdict_told (Ok t)
     → (i e : ℕ) → i < steps_of case → e < arcs_of case → (way : Way) → setting_in case (step_rows case plan i) e ≡ Active way Compressing
     → Compression case (step_rows case plan i) i e (in_end way (arc_of case e)) (out_end way (arc_of case e))
 accepted_compression case plan t a i e p l way s =

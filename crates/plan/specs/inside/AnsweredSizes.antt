@@ -1,5 +1,5 @@
 -- What a step's questions give once they have been answered yes: sizes, by which no later sum or product is too large.
-use Rattle.std.specs.Prelude.{◌≡◌, Bool, cond, not, ◌&&◌, ◌||◌, List, ◌++◌, ℕ, ◌+◌, ◌<◌, ◌≤◌, eqb, leb, ltb, ℤ, pos, negsuc, nat_abs, ◌-ℤ◌}
+use Rattle.std.specs.Prelude.{◌≡◌, Bool, cond, not, ◌&&◌, ◌||◌, List, ◌++◌, ℕ, ◌+◌, ◌<◌, ◌≤◌, eqb, leb, ltb, ℤ, pos, negsuc, nat_abs, ◌-ℤ◌, Ok}
 use Rattle.std.proofs.Math.Bool.{true, false}
 use native.Mathlib.Omega.{arith}
 use Rattle.std.proofs.Common.{ltb-true}
@@ -10,7 +10,6 @@ use Rattle.numbers.specs.inside.SignedBounds.{Bounded}
 use Rattle.numbers.specs.law.Sums.{only_n}
 use Rattle.numbers.specs.law.Question.{first_no}
 use Rattle.numbers.specs.inside.QuestionLaws.{all_yes}
-use Rattle.numbers.specs.declared.answer.Answer.TheVariants.{Yes}
 use Rattle.case.specs.declared.records.Node.{Node}
 use Rattle.case.specs.declared.records.Arc.{Arc}
 use Rattle.case.specs.law.Layout.{number_at, nodes_of, arcs_of, stations_of, steps_of, mass_tolerance}
@@ -86,7 +85,8 @@ numbers_sized n r z e =
       uminus = within_sized (pos 0) r.uminus below 400000 (and_second w5 w6 e5) (omega arith) (slack_limit_lem n.kind _ (difference z.high z.acthigh));
     }
 
-pub nodes_sized : (case rows : List ℤ) (i : ℕ) → AcceptedCase case → i < steps_of case → first_no (all_node_questions case rows i) ≡ Yes → NodesSized case rows
+pub nodes_sized : (case rows : List ℤ) (i : ℕ) → AcceptedCase case → i < steps_of case → first_no (all_node_questions case rows i) ≡ Ok tt
+    → NodesSized case rows
 unfolding all_node_questions node_questions
 nodes_sized case rows i c p e = record {
   each = λ v q.
@@ -99,7 +99,7 @@ pressures_sized n = record { each = λ v q. (n.each v q).p }
 
 -- ---- 24
 
-pub flows_kept_sized : (c : Arc) (r : ArcRow) → Bounded c.qmax 10000000 → flows_kept c r ≡ true → ArcRowSized r
+flows_kept_sized : (c : Arc) (r : ArcRow) → Bounded c.qmax 10000000 → flows_kept c r ≡ true → ArcRowSized r
 unfolding flows_kept
 flows_kept_sized c r q e =
     let back = pos 0 -ℤ c.qmax in
@@ -118,32 +118,32 @@ small n z e b = omega (ints, size z, b.bound)
 
 module _ (case : List ℤ) (old : ℕ → ℤ) (rows : List ℤ) (i : ℕ) where
   -- the groups of an arc's questions
-  pub flow_yes : (e : ℕ) → first_no (arc_questions case old rows i e) ≡ Yes → first_no (flow_questions case rows i e) ≡ Yes
+  flow_yes : (e : ℕ) → first_no (arc_questions case old rows i e) ≡ Ok tt → first_no (flow_questions case rows i e) ≡ Ok tt
   unfolding arc_questions
   flow_yes e y = first_yes (flow_questions case rows i e) (pressure_questions case rows i e ++ pipe_questions case old rows i e) y
 
-  pub pipe_yes : (e : ℕ) → first_no (arc_questions case old rows i e) ≡ Yes → first_no (pipe_questions case old rows i e) ≡ Yes
+  pipe_yes : (e : ℕ) → first_no (arc_questions case old rows i e) ≡ Ok tt → first_no (pipe_questions case old rows i e) ≡ Ok tt
   unfolding arc_questions
   pipe_yes e y =
       second_yes (pressure_questions case rows i e) (pipe_questions case old rows i e)
       (second_yes (flow_questions case rows i e) (pressure_questions case rows i e ++ pipe_questions case old rows i e) y)
 
-  pub arc_numbers_lem : (e : ℕ) → first_no (flow_questions case rows i e) ≡ Yes
+  arc_numbers_lem : (e : ℕ) → first_no (flow_questions case rows i e) ≡ Ok tt
       → arc_numbers_kept (arc_of case e) (artificial_of case e) (arc_row case rows e) ≡ true
   unfolding flow_questions
   arc_numbers_lem e y = (all_yes (flow_questions case rows i e) y).0
 
-  pub arc_sized : AcceptedCase case → (e : ℕ) → e < arcs_of case → first_no (flow_questions case rows i e) ≡ Yes → ArcRowSized (arc_row case rows e)
+  pub arc_sized : AcceptedCase case → (e : ℕ) → e < arcs_of case → first_no (flow_questions case rows i e) ≡ Ok tt → ArcRowSized (arc_row case rows e)
   unfolding arc_numbers_kept
   arc_sized c e q y =
       let r = arc_row case rows e in
       flows_kept_sized (arc_of case e) r (qmax_sized c e q) (and_first (flows_kept (arc_of case e) r) _ (arc_numbers_lem e y))
 
-  pub flows_sized : AcceptedCase case → first_no (all_arc_questions case old rows i) ≡ Yes → FlowsSized case rows
+  pub flows_sized : AcceptedCase case → first_no (all_arc_questions case old rows i) ≡ Ok tt → FlowsSized case rows
   unfolding all_arc_questions
   flows_sized c y = record { each = λ e q. arc_sized c e q (flow_yes e (item_yes (arc_questions case old rows i) (arcs_of case) y e q)) }
 
-  pub machines_kept_lem : first_no (all_arc_questions case old rows i) ≡ Yes → MachinesKept case rows
+  pub machines_kept_lem : first_no (all_arc_questions case old rows i) ≡ Ok tt → MachinesKept case rows
   unfolding all_arc_questions arc_numbers_kept
   machines_kept_lem y = record {
     each = λ e q.
@@ -158,7 +158,7 @@ module _ (case : List ℤ) (old : ℕ → ℤ) (rows : List ℤ) (i : ℕ) where
 
   -- ---- 28
 
-  pub pipe_small : AcceptedCase case → first_no (all_arc_questions case old rows i) ≡ Yes → (e : ℕ) → e < arcs_of case → pipe_part case old rows i e ≤ 1000000
+  pub pipe_small : AcceptedCase case → first_no (all_arc_questions case old rows i) ≡ Ok tt → (e : ℕ) → e < arcs_of case → pipe_part case old rows i e ≤ 1000000
   unfolding all_arc_questions pipe_questions pipe_mass_kept pipe_part
   pipe_small c y e q =
       let k = (all_yes (pipe_questions case old rows i e) (pipe_yes e (item_yes (arc_questions case old rows i) (arcs_of case) y e q))).0 in
@@ -175,11 +175,11 @@ one_of_lem : (x : ℤ) (n : ℕ) → one_of x n ≡ true → pos_part x < n
 one_of_lem x n e = ltb-true (pos_part x) n (and_second (le_z (pos 0) x) (ltb (pos_part x) n) e)
 
 module _ (case rows : List ℤ) (i : ℕ) where
-  choice_kept_lem : first_no (all_station_questions case rows i) ≡ Yes → (s : ℕ) → s < stations_of case → choice_kept case rows s ≡ true
+  choice_kept_lem : first_no (all_station_questions case rows i) ≡ Ok tt → (s : ℕ) → s < stations_of case → choice_kept case rows s ≡ true
   unfolding all_station_questions station_questions
   choice_kept_lem y s q = (all_yes (station_questions case rows i s) (item_yes (station_questions case rows i) (stations_of case) y s q)).0
 
-  pub choices_kept : first_no (all_station_questions case rows i) ≡ Yes → ChoicesKept case rows
+  pub choices_kept : first_no (all_station_questions case rows i) ≡ Ok tt → ChoicesKept case rows
   unfolding choice_kept
   choices_kept y = record {
     direction = λ s q. one_of_lem (choice_of case rows s).direction (station_of case s).directions (and_first _ _ (choice_kept_lem y s q));
@@ -190,7 +190,8 @@ module _ (case rows : List ℤ) (i : ℕ) where
 
   -- ---- 33
 
-  pub node_small : AcceptedCase case → first_no (all_balance_questions case rows i) ≡ Yes → (v : ℕ) → v < nodes_of case → node_residual case rows i v ≤ 1000000
+  pub node_small : AcceptedCase case → first_no (all_balance_questions case rows i) ≡ Ok tt
+      → (v : ℕ) → v < nodes_of case → node_residual case rows i v ≤ 1000000
   unfolding all_balance_questions balance_questions balance_kept
   node_small c y v q =
       let k = (all_yes (balance_questions case rows i v) (item_yes (balance_questions case rows i) (nodes_of case) y v q)).0 in
@@ -198,29 +199,29 @@ module _ (case rows : List ℤ) (i : ℕ) where
 
 -- ---- a whole step
 
-module _ (case : List ℤ) (old : ℕ → ℤ) (rows : List ℤ) (i : ℕ) (y : first_no (step_questions case old rows i) ≡ Yes) where
-  pub nodes_yes : first_no (all_node_questions case rows i) ≡ Yes
+module _ (case : List ℤ) (old : ℕ → ℤ) (rows : List ℤ) (i : ℕ) (y : first_no (step_questions case old rows i) ≡ Ok tt) where
+  pub nodes_yes : first_no (all_node_questions case rows i) ≡ Ok tt
   unfolding step_questions
   nodes_yes = first_yes (all_node_questions case rows i) _ y
 
-  past_nodes : first_no (all_arc_questions case old rows i ++ (all_station_questions case rows i ++ all_balance_questions case rows i)) ≡ Yes
+  past_nodes : first_no (all_arc_questions case old rows i ++ (all_station_questions case rows i ++ all_balance_questions case rows i)) ≡ Ok tt
   unfolding step_questions
   past_nodes = second_yes (all_node_questions case rows i) _ y
 
-  pub arcs_yes : first_no (all_arc_questions case old rows i) ≡ Yes
+  pub arcs_yes : first_no (all_arc_questions case old rows i) ≡ Ok tt
   arcs_yes = first_yes (all_arc_questions case old rows i) _ past_nodes
 
-  past_arcs : first_no (all_station_questions case rows i ++ all_balance_questions case rows i) ≡ Yes
+  past_arcs : first_no (all_station_questions case rows i ++ all_balance_questions case rows i) ≡ Ok tt
   past_arcs = second_yes (all_arc_questions case old rows i) _ past_nodes
 
-  pub stations_yes : first_no (all_station_questions case rows i) ≡ Yes
+  pub stations_yes : first_no (all_station_questions case rows i) ≡ Ok tt
   stations_yes = first_yes (all_station_questions case rows i) (all_balance_questions case rows i) past_arcs
 
-  pub balances_yes : first_no (all_balance_questions case rows i) ≡ Yes
+  pub balances_yes : first_no (all_balance_questions case rows i) ≡ Ok tt
   balances_yes = second_yes (all_station_questions case rows i) (all_balance_questions case rows i) past_arcs
 
 pub step_kept : (case old rows : List ℤ) (i : ℕ) → AcceptedCase case → i < steps_of case → PressuresSized (number_at old) (nodes_of case)
-    → first_no (step_questions case (number_at old) rows i) ≡ Yes → StepKept case old rows i
+    → first_no (step_questions case (number_at old) rows i) ≡ Ok tt → StepKept case old rows i
 step_kept case old rows i c p z y =
     let p0 = number_at old in
     let a = arcs_yes case p0 rows i y in

@@ -1,11 +1,10 @@
 -- What an accepted case gives the judge of a plan: counts, sizes and rows that are there, by the laws of the case.
-use Rattle.std.specs.Prelude.{◌≡◌, Bool, true, false, cond, List, ℕ, ◌+◌, ◌<◌, ◌≤◌, eqb, ℤ, pos, negsuc, nat_abs, length}
+use Rattle.std.specs.Prelude.{◌≡◌, Bool, true, false, cond, List, ℕ, ◌+◌, ◌<◌, ◌≤◌, eqb, ℤ, pos, negsuc, nat_abs, length, Ok}
 use Rattle.std.proofs.Common.{arith}
 use Rattle.numbers.specs.inside.SignedParts.{ints, size}
 use Rattle.numbers.specs.inside.SignedBounds.{Bounded}
 use Rattle.numbers.specs.law.Question.{first_no}
 use Rattle.numbers.specs.law.Sets.{subset_of}
-use Rattle.numbers.specs.declared.answer.Answer.TheVariants.{Yes}
 use Rattle.case.specs.law.Layout.{nodes_of, arcs_of, stations_of, steps_of, mass_tolerance, pressure_tolerance, demand_at, arc_at, station_at}
 use Rattle.case.specs.law.Records.{node_of, arc_of, pipe_of, artificial_of, station_of, direction_of, state_of}
 use Rattle.case.specs.law.Field.{most_flow}
@@ -37,7 +36,7 @@ module _ {case : List ℤ} (c : AcceptedCase case) where
   facts : CaseRules case
   facts = laws.rules case c.yes
 
-  pub list_yes : first_no (list_questions case) ≡ Yes
+  pub list_yes : first_no (list_questions case) ≡ Ok tt
   list_yes = laws.list_yes case c.yes
 
   -- ---- the head, and times

@@ -19,7 +19,7 @@ use Rattle.case.specs.law.StationNodes.{with_node, ends_of, station_nodes, plain
 use Rattle.case.specs.law.ArcEnds.{arc_ends, all_arc_ends}
 use Rattle.case.specs.law.OneStation.{one_station, all_one_station}
 use Rattle.case.specs.law.StationSize.{station_size, all_station_sizes}
-use Rattle.case.specs.law.Directions.{sets_kept, direction_sets, all_direction_sets}
+use Rattle.case.specs.law.Directions.{only_fence, sets_kept, direction_sets, all_direction_sets}
 use Rattle.case.specs.law.States.{state_kept, machines_kept, start_kept, station_kept, state_sets, all_state_sets}
 use Rattle.case.specs.law.Judged.{row_questions, list_questions, early_rules, rule_questions, case_questions}
 use Rattle.plan.specs.law.PlanLayout.{step_width, step_at, step_rows}
@@ -70,7 +70,7 @@ case_fields = tt
 -- 13 to 17
 unfoldable pub case_rules : Unit {0}
 unfolding arcs_before arc_set with_node ends_of station_nodes plain_nodes arc_ends all_arc_ends one_station all_one_station station_size all_station_sizes
-    sets_kept direction_sets all_direction_sets state_kept machines_kept start_kept station_kept state_sets all_state_sets
+    only_fence sets_kept direction_sets all_direction_sets state_kept machines_kept start_kept station_kept state_sets all_state_sets
     row_questions list_questions early_rules rule_questions case_questions
 case_rules = tt
 

@@ -1,13 +1,11 @@
 -- The loop over the steps: what is gathered before the step with index i. One turn of it is proofs/RegionTurn.antt's.
-use Rattle.std.specs.Prelude.{◌≡◌, Bool, List, ℤ, pos, length, take, drop}
+use Rattle.std.specs.Prelude.{◌≡◌, Bool, List, ℤ, pos, length, take, drop, Ok}
 use Rattle.std.proofs.Common.{sym, ◌∙◌, subst, mul-le-mul, mul-le-mul_right}
 use Rattle.std.proofs.Math.Path.{ap}
 use Prim.Native.Nat.{ℕ, zero, suc, ◌+◌, ◌*◌, ◌-◌, ◌<◌, ◌≤◌}
-use Rattle.std.proofs.Math.Nat.{add-sub_cancel_left}
 use native.Mathlib.Omega.{arith}
 use Rattle.std.proofs.Math.IntN.{nat_abs}
 use Rattle.numbers.specs.law.Question.{first_no}
-use Rattle.numbers.specs.declared.answer.Answer.TheVariants.{Yes}
 use Rattle.numbers.specs.inside.SignedBounds.{Bounded}
 use Rattle.numbers.specs.law.Sums.{sum, sum_n}
 use Rattle.plan.specs.inside.SumSizes.{most_brought, most_residual, most_step_width, most_plan}
@@ -42,13 +40,13 @@ pub record Gathering (case plan : List ℤ) (inside : ℕ → Bool) (s i : ℕ) 
   pub residual_few : g.residual ≤ i * most_residual
 
 module _ {case plan : List ℤ} (r : PlanRules case plan) where
-  accepted_case : AcceptedCase case
+  pub accepted_case : AcceptedCase case
   accepted_case = record { yes = r.case_yes }
 
   pub ends_of : EndsAreNodes case
   ends_of = ends_nodes accepted_case
 
-  step_yes : (i : ℕ) → i < steps_of case → first_no (step_questions case (pressure_at case plan i) (step_rows case plan i) i) ≡ Yes
+  step_yes : (i : ℕ) → i < steps_of case → first_no (step_questions case (pressure_at case plan i) (step_rows case plan i) i) ≡ Ok tt
   step_yes i l = rules_step case (pressure_at case plan i) (step_rows case plan i) i (r.steps i l)
 
   rows_sized : (i : ℕ) → i < steps_of case → NodesSized case (step_rows case plan i)
@@ -95,6 +93,11 @@ gathering {s = s} h =
     let e : s - s ≡ 0 = omega arith in
     record { from = omega arith; held = h; brought = rw e; residual = rw e; brought_few = omega arith; residual_few = omega arith }
 
+-- what is gathered before an index is so before an equal one
+pub upto : {case plan : List ℤ} {inside : ℕ → Bool} {s i t : ℕ} {g : Gathered} → Gathering case plan inside s i g → i ≡ t
+    → Gathering case plan inside s t g
+upto {case} {plan} {inside} {s} {g = g} h e = subst (λ (i : ℕ). Gathering case plan inside s i g) e h
+
 -- ---- the part of a step in the plan's list
 
 -- it lies within the list, and not far in
@@ -116,9 +119,13 @@ module _ {case plan : List ℤ} {width : ℕ} (r : PlanRules case plan) (wide : 
   pub step_within : (i : ℕ) → i < steps_of case → StepWithin plan i width
   step_within = part_within (accepted_case r) (plan_laid case plan r.rule20) wide
 
-  pub row_is : (i : ℕ) → take (2 + i * width + width - (2 + i * width)) (drop (2 + i * width) plan) ≡ step_rows case plan i
+  pub narrow : width ≤ most_step_width
+  unfolding step_width
+  narrow = let n = counted (accepted_case r) in omega (arith, wide, n.nodes, n.arcs, n.stations)
+
+  pub part_row : (i : ℕ) {rows : List ℤ} → rows ≡ take width (drop (2 + i * width) plan) → rows ≡ step_rows case plan i
   unfolding step_rows step_at
-  row_is i = rw (add-sub_cancel_left (2 + i * width) width, wide)
+  part_row i h = h ∙ rw wide
 
 -- ---- the pressures at a time, as an array holds them
 

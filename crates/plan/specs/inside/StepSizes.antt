@@ -11,11 +11,11 @@ use Rattle.numbers.specs.law.Sums.{only, only_n}
 use Rattle.numbers.specs.inside.SumLaws.{abs_sum_le, sum_n_bound}
 use Rattle.case.specs.law.Extents.{arc_capacity, node_capacity}
 use Rattle.plan.specs.inside.SumSizes.{most_demand_slack, most_pressure_slack}
-use Rattle.case.specs.law.Layout.{number_at, nodes_of, arcs_of, stations_of, steps_of}
+use Rattle.case.specs.law.Layout.{number_at, nodes_of, arcs_of, stations_of}
 use Rattle.case.specs.law.Records.{arc_of, pipe_of, artificial_of}
 use Rattle.plan.specs.law.PlanRecords.{direction_in, state_in, active_in}
 use Rattle.plan.specs.inside.Sizes.{NodesSized, PressuresSized}
-use Rattle.plan.specs.inside.Preconditions.{AcceptedCase, AtPipe, ChoicesKept, StepKept}
+use Rattle.plan.specs.inside.Preconditions.{AcceptedCase, ChoicesKept, StepKept}
 use Rattle.plan.specs.inside.CaseSizes.{counted, from_node, to_node, pipe_sized, weight_in, direction_weight_lem, state_weight_lem}
 use Rattle.plan.specs.law.Pipes.{is_pipe}
 use Rattle.plan.specs.law.Balance.{node_residual}
@@ -29,15 +29,6 @@ cost_same {x} {was} w e = ap (λ (b : Bool). only_n (not b) w) (sym (eq-eqb x wa
 
 pub cost_new : {x was : ℕ} (w : ℕ) → (x ≡ was → ⊥) → w ≡ only_n (not (eqb x was)) w
 cost_new {x} {was} w n = ap (λ (b : Bool). only_n (not b) w) (sym (ne_eqb x was n))
-
-pub both_yes : {a b : Bool} (w : ℕ) → a ≡ true → b ≡ true → w ≡ only_n (a && b) w
-both_yes w p q = rw (p, q)
-
-pub first_no_lem : {a : Bool} (b : Bool) (w : ℕ) → a ≡ false → 0 ≡ only_n (a && b) w
-first_no_lem b w p = rw p
-
-pub second_no : {a b : Bool} (w : ℕ) → a ≡ true → b ≡ false → 0 ≡ only_n (a && b) w
-second_no w p q = rw (p, q)
 
 pub only_le : {n : ℕ} (b : Bool) (w : ℕ) → w ≤ n → only_n b w ≤ n
 only_le true w h = h
@@ -89,22 +80,6 @@ module _ {case rows : List ℤ} (h : NodesSized case rows) (v : ℕ) (q : v < no
   pub demand_slack_le : nat_abs (demand_slack_at rows v) ≤ 20000000
   unfolding demand_slack_at
   demand_slack_le = let r = h.each v q in (sized r.splus +ʳ sized r.sminus).bound
-
--- a pipe of a kept step
-pub at_pipe : {case old rows : List ℤ} {i e : ℕ} → AcceptedCase case → i < steps_of case
-    → StepKept case old rows i → e < arcs_of case → (arc_of case e).kind ≡ 2
-    → AtPipe case old rows i e
-at_pipe {e = e} c s k q h = record {
-  at = record {
-    accepted = c;
-    step = s;
-    arc = q;
-    before = k.before;
-    pressures = record { each = λ v l. (k.node_rows.each v l).p };
-    flows = k.flows.each e q;
-  };
-  pipe = h;
-}
 
 -- ---- the sums of a step
 

@@ -1,6 +1,6 @@
 -- How large sums over the nodes and arcs of one step get, from the most that one of them adds and the most that there are.
 -- Assumes nothing.
-use Rattle.std.specs.Prelude.{ℕ, ◌+◌, ◌*◌}
+use Rattle.std.specs.Prelude.{ℕ, ◌+◌, ◌*◌, ◌^◌}
 use Rattle.case.specs.law.Extents.{node_capacity, arc_capacity}
 
 -- numbers of a step
@@ -42,3 +42,7 @@ most_edges = arc_capacity * 20000000
 
 abbrev pub most_brought : ℕ
 most_brought = 86400 * (most_supplies + most_edges)
+
+-- a part of any of these sums, and of a sum that the code makes
+abbrev pub most_part : ℕ
+most_part = 2 ^ 50

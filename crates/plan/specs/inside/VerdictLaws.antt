@@ -1,18 +1,17 @@
 -- From the answer on a case to the verdict, over plain lists.
-use Rattle.std.specs.Prelude.{◌≡◌, Bool, true, false, List, [], ◌∷◌, ◌++◌, ℕ, ◌+◌, ◌*◌, ◌≤◌, eqb, ℤ, pos, get_or, take, drop}
+use Rattle.std.specs.Prelude.{◌≡◌, Bool, true, false, ◌&&◌, List, [], ◌∷◌, ◌++◌, ℕ, ◌+◌, ◌*◌, ◌≤◌, eqb, ℤ, pos, get_or, take, drop, Ok, Err}
 use Rattle.std.proofs.Math.Path.{refl, ap, sym}
 use Rattle.std.proofs.Common.{◌∙◌, append_assoc, take_at}
 use native.Mathlib.Omega.{arith}
 use borrow.Author.Tests.{eqb-true}
 use Rattle.std.proofs.Math.IntN.{nat_abs}
 use Rattle.std.proofs.Math.ListN.{length}
+use Rattle.std.proofs.lemmas.Bool.{false≢true}
 use Rattle.numbers.specs.law.Told.{Told, gives, refuses, overlay}
-use Rattle.numbers.specs.law.Question.{first_no, told}
+use Rattle.numbers.specs.law.Question.{first_no, told, Answer, no_at, found}
 use Rattle.numbers.specs.inside.QuestionLaws.{first_no_append, first_yes, second_yes, answer_yes, told_same}
-use Rattle.numbers.specs.inside.ReadingBounds.{count_within}
+use Rattle.numbers.specs.inside.ReadingBounds.{count_within, read_no}
 use Rattle.numbers.specs.law.Reading.{Ending, all, no, read_of, end_told, read_told}
-use Rattle.numbers.specs.declared.answer.Answer.{Answer}
-use Rattle.numbers.specs.declared.answer.Answer.TheVariants.{Yes, No}
 use Rattle.case.specs.law.Layout.{number_at, steps_of}
 use Rattle.case.specs.inside.FieldLaws.{and_second}
 use Rattle.case.specs.law.Judged.{case_questions, judged_case}
@@ -25,11 +24,19 @@ use Rattle.plan.specs.inside.CaseSizes.{list_yes}
 use Rattle.plan.specs.law.PlanLayout.{step_at, step_width}
 use Rattle.plan.specs.law.PlanHead.{head_kept, head_question, head_questions, head_judged, HeadLaid}
 use Rattle.plan.specs.law.Totals.{totals_of}
-use Rattle.plan.specs.law.Judged.{plan_step, plan_questions, questions, verdict_of, verdict_told, judge_of}
+use Rattle.plan.specs.law.Judged.{plan_step, plan_questions, questions, verdict_told, judge_of, Verdict}
 use Rattle.plan.specs.law.JudgedBytes.{read_answer, plan_number, on_plan_bytes, refused_or, reached_if, bytes_judged}
-use Rattle.plan.specs.declared.verdict.Verdict.{Verdict}
-use Rattle.plan.specs.declared.verdict.Verdict.TheVariants.{Refused}
 use Rattle.numbers.specs.law.Items.{over}
+
+and_rest : (a b c : Bool) → (a && b) ≡ true → c ≡ (a && (b && c))
+and_rest true true c e = refl
+and_rest true false c e = absurd (false≢true e)
+and_rest false b c e = absurd (false≢true e)
+
+and_none : (a b c : Bool) → (a && b) ≡ false → false ≡ (a && (b && c))
+and_none true true c e = absurd (false≢true (sym e))
+and_none true false c e = refl
+and_none false b c e = refl
 
 -- the answer that was told is the first no of the case's questions
 pub case_answer : (case : List ℤ) (a : Answer) → told a ≡ judged_case case → first_no (case_questions case) ≡ a
@@ -37,7 +44,7 @@ unfolding judged_case
 case_answer case a e = sym (told_same a (first_no (case_questions case)) e)
 
 -- a yes to the case, and its layout
-pub case_laid : {case : List ℤ} {l : Laying} → LayingOf case l → l.answer ≡ Yes → (AcceptedCase case) × (LayoutOf case l.layout)
+pub case_laid : {case : List ℤ} {l : Laying} → LayingOf case l → l.answer ≡ Ok tt → (AcceptedCase case) × (LayoutOf case l.layout)
 case_laid {case} {l} d y =
     let k : AcceptedCase case = record { yes = case_answer case l.answer d.told_is ∙ y } in
     (k, d.passed (list_yes k))
@@ -49,18 +56,15 @@ module _ (case plan : List ℤ) where
   unfolding step_at step_width
   head_length l d = rw (d.steps, d.nodes, d.arcs, d.stations)
 
-  module _ {a b : Bool} (e : a ≡ same (number_at plan 0) (pos 1)) (d : b ≡ same (number_at plan 1) (pos (steps_of case))) (h : a ≡ true) where
-    pub head_yes : b ≡ true → eqb (length plan) (step_at case (steps_of case)) ≡ head_kept case plan
+  -- the first two numbers, which are asked before the length
+  module _ {r : Bool} (e : r ≡ (same (number_at plan 0) (pos 1) && same (number_at plan 1) (pos (steps_of case)))) where
+    pub head_yes : r ≡ true → eqb (length plan) (step_at case (steps_of case)) ≡ head_kept case plan
     unfolding head_kept
-    head_yes k = rw (sym e ∙ h, sym d ∙ k)
+    head_yes h = and_rest _ _ (eqb (length plan) (step_at case (steps_of case))) (sym e ∙ h)
 
-    pub head_second : b ≡ false → false ≡ head_kept case plan
+    pub head_no : r ≡ false → r ≡ head_kept case plan
     unfolding head_kept
-    head_second k = rw (sym e ∙ h, sym d ∙ k)
-
-  pub head_first : {a : Bool} → a ≡ same (number_at plan 0) (pos 1) → a ≡ false → false ≡ head_kept case plan
-  unfolding head_kept
-  head_first e h = rw (sym e ∙ h)
+    head_no h = h ∙ and_none _ _ (eqb (length plan) (step_at case (steps_of case))) (sym e ∙ h)
 
   pub plan_laid : head_kept case plan ≡ true → PlanLaid case plan
   unfolding head_kept
@@ -68,12 +72,12 @@ module _ (case plan : List ℤ) where
     long = eqb-true _ _ (and_second (same (number_at plan 1) (pos (steps_of case))) _ (and_second (same (number_at plan 0) (pos 1)) _ h));
   }
 
-  pub head_refused : head_kept case plan ≡ false → Refused 20 0 0 ≡ verdict_of (first_no (plan_questions case plan)) (totals_of case plan)
+  pub head_refused : head_kept case plan ≡ false → Err (no_at 20 0 0) ≡ found (first_no (plan_questions case plan)) (totals_of case plan)
   unfolding plan_questions
   head_refused h = rw h
 
-  pub head_passed : {r : Verdict} → head_kept case plan ≡ true → r ≡ verdict_of (first_no (over (plan_step case plan) 0 (steps_of case))) (totals_of case plan)
-      → r ≡ verdict_of (first_no (plan_questions case plan)) (totals_of case plan)
+  pub head_passed : {r : Verdict} → head_kept case plan ≡ true → r ≡ found (first_no (over (plan_step case plan) 0 (steps_of case))) (totals_of case plan)
+      → r ≡ found (first_no (plan_questions case plan)) (totals_of case plan)
   unfolding plan_questions
   head_passed h e = rw h e
 
@@ -83,34 +87,34 @@ module _ (case plan : List ℤ) where
   unfolding head_judged
   head_answer a e = sym (told_same a (first_no (head_questions case plan)) e)
 
-  module _ (y : first_no (head_questions case plan) ≡ Yes) where
+  module _ (y : first_no (head_questions case plan) ≡ Ok tt) where
     pub head_case : AcceptedCase case
     unfolding head_questions
     head_case = record { yes = first_yes (case_questions case) (head_question case plan ∷ []) y }
 
     pub head_keeps : head_kept case plan ≡ true
     unfolding head_questions
-    head_keeps = answer_yes (head_kept case plan) 20 0 0 Yes (second_yes (case_questions case) (head_question case plan ∷ []) y)
+    head_keeps = answer_yes (head_kept case plan) 20 0 0 (Ok tt) (second_yes (case_questions case) (head_question case plan ∷ []) y)
 
   -- a yes to both, with the layout of the case and the length of the plan
-  pub head_laid : {l : Laying} → HeadLaid case plan l → l.answer ≡ Yes → (AcceptedCase case) × (LayoutOf case l.layout) × (PlanLaid case plan)
+  pub head_laid : {l : Laying} → HeadLaid case plan l → l.answer ≡ Ok tt → (AcceptedCase case) × (LayoutOf case l.layout) × (PlanLaid case plan)
   head_laid {l} d y =
       let h = head_answer l.answer d.told_is ∙ y in
       (head_case h, d.laid.passed (list_yes (head_case h)), plan_laid (head_keeps h))
 
   -- after them the steps are asked
-  pub head_before : questions case plan ≡ head_questions case plan ++ over (plan_step case plan) 0 (steps_of case)
+  head_before : questions case plan ≡ head_questions case plan ++ over (plan_step case plan) 0 (steps_of case)
   unfolding questions plan_questions head_questions
   head_before = sym (append_assoc (case_questions case) (head_question case plan ∷ []) (over (plan_step case plan) 0 (steps_of case)))
 
   -- ---- the verdict on two lists
 
-  pub judge_yes : first_no (case_questions case) ≡ Yes → {r : Verdict} → r ≡ verdict_of (first_no (plan_questions case plan)) (totals_of case plan)
+  pub judge_yes : first_no (case_questions case) ≡ Ok tt → {r : Verdict} → r ≡ found (first_no (plan_questions case plan)) (totals_of case plan)
       → verdict_told r ≡ judge_of case plan
   unfolding judge_of questions
   judge_yes y e = ap verdict_told e ∙ rw (first_no_append, y)
 
-  pub judge_no : {n s p : ℕ} → first_no (head_questions case plan) ≡ No n s p → refuses n s p ≡ judge_of case plan
+  pub judge_no : {n s p : ℕ} → first_no (head_questions case plan) ≡ Err (no_at n s p) → refuses n s p ≡ judge_of case plan
   unfolding judge_of
   judge_no e = rw (head_before, first_no_append, e)
 
@@ -147,9 +151,9 @@ unfoldable pub plan_list_after : List ℤ → List ℕ → List ℤ → List ℤ
 plan_list_after case plan_bytes list = reached_if (first_no (case_questions case)) (overlay (read_of plan_bytes (length list)).stored list) list
 
 module _ (case : List ℤ) (plan_bytes : List ℕ) (room : ℕ) where
-  pub plan_read_lem : {count : ℕ} (list : List ℤ) {r : Verdict} → first_no (case_questions case) ≡ Yes → ReadAll plan_bytes room count
+  pub plan_read_lem : {count : ℕ} (list : List ℤ) {r : Verdict} → first_no (case_questions case) ≡ Ok tt → ReadAll plan_bytes room count
       → take count list ≡ (read_of plan_bytes room).stored
-      → r ≡ verdict_of (first_no (plan_questions case (take count list))) (totals_of case (take count list))
+      → r ≡ found (first_no (plan_questions case (take count list))) (totals_of case (take count list))
       → verdict_told r ≡ plan_bytes_told case plan_bytes room
   unfolding plan_bytes_told
   plan_read_lem {count} list y a e h = judge_yes case (take count list) y h ∙ rw (e, a.ended)
@@ -159,17 +163,17 @@ module _ (case : List ℤ) (plan_bytes : List ℕ) (room : ℕ) where
   plan_unread e d = rw (d, e)
 
 module _ (case : List ℤ) (plan_bytes : List ℕ) (list : List ℤ) where
-  pub case_passed : {t : Told} → first_no (case_questions case) ≡ Yes → t ≡ plan_bytes_told case plan_bytes (length list)
+  pub case_passed : {t : Told} → first_no (case_questions case) ≡ Ok tt → t ≡ plan_bytes_told case plan_bytes (length list)
       → t ≡ case_list_told case plan_bytes (length list)
   unfolding case_list_told
   case_passed y e = rw y e
 
-  pub list_reached : {new : List ℤ} → first_no (case_questions case) ≡ Yes → new ≡ overlay (read_of plan_bytes (length list)).stored list
+  pub list_reached : {new : List ℤ} → first_no (case_questions case) ≡ Ok tt → new ≡ overlay (read_of plan_bytes (length list)).stored list
       → new ≡ plan_list_after case plan_bytes list
   unfolding plan_list_after
   list_reached y e = rw y e
 
-  pub case_stopped : {n s p : ℕ} → first_no (case_questions case) ≡ No n s p
+  pub case_stopped : {n s p : ℕ} → first_no (case_questions case) ≡ Err (no_at n s p)
       → (refuses n s p ≡ case_list_told case plan_bytes (length list)) × (list ≡ plan_list_after case plan_bytes list)
   unfolding case_list_told plan_list_after
   case_stopped e = (rw e, rw e)
@@ -192,6 +196,15 @@ module _ (case_bytes plan_bytes : List ℕ) (case_list plan_list : List ℤ) whe
       × (plan_list ≡ (bytes_judged case_bytes plan_bytes case_list plan_list).plan_list)
   unfolding bytes_judged
   case_unread e = (rw e, rw e)
+
+  -- what is told of that reading is told of the call
+  pub case_unread_told : {n s p : ℕ} → refuses n s p ≡ read_told (read_of case_bytes (length case_list))
+      → refuses n s p ≡ (bytes_judged case_bytes plan_bytes case_list plan_list).told
+  unfolding read_told
+  case_unread_told e =
+      let d = read_no case_bytes (length case_list) e in
+      let r = read_of case_bytes (length case_list) in
+      e ∙ ap (λ (x : Ending). end_told x (length r.stored)) d ∙ (case_unread d).0
 
   pub case_list_lem : {new : List ℤ} → new ≡ overlay (read_of case_bytes (length case_list)).stored case_list
       → new ≡ (bytes_judged case_bytes plan_bytes case_list plan_list).case_list

@@ -1,17 +1,15 @@
 -- The numbers of a verdict and of the answer on two byte strings fit what an export hands on.
-use Rattle.std.specs.Prelude.{◌≡◌, Bool, true, false, cond, List, [], ◌∷◌, ℕ, ◌*◌, ◌<◌, ◌≤◌, ◌^◌, ℤ, eqb, length, get_or}
+use Rattle.std.specs.Prelude.{◌≡◌, Bool, true, false, cond, List, [], ◌∷◌, ℕ, ◌*◌, ◌<◌, ◌≤◌, ◌^◌, ℤ, eqb, length, get_or, Ok, Err}
 use Rattle.std.proofs.Math.Path.{refl, ap}
 use native.Mathlib.Omega.{arith}
 use Rattle.std.proofs.Math.IntN.{pos, nat_abs}
 use Rattle.numbers.specs.law.Told.{Told, refuses}
-use Rattle.numbers.specs.law.Question.{first_no}
+use Rattle.numbers.specs.law.Question.{first_no, Answer, found}
 use Rattle.numbers.specs.law.Items.{over}
 use Rattle.numbers.specs.inside.SmallRefusals.{Between, Small}
 use Rattle.numbers.specs.law.Reading.{Ending, all, no, read_of, read_told}
 use Rattle.numbers.specs.inside.ReadingBounds.{refusal_within}
 use Rattle.numbers.specs.inside.SumLaws.{sum_n_bound}
-use Rattle.numbers.specs.declared.answer.Answer.{Answer}
-use Rattle.numbers.specs.declared.answer.Answer.TheVariants.{Yes, No}
 use Rattle.plan.specs.inside.SumSizes.{most_residual, most_switching}
 use Rattle.case.specs.law.Layout.{nodes_of, arcs_of, steps_of}
 use Rattle.case.specs.inside.FieldLaws.{first_yes, second_yes, item_yes}
@@ -26,27 +24,23 @@ use Rattle.plan.specs.law.PlanHead.{head_question}
 use Rattle.plan.specs.law.Step.{step_questions}
 use Rattle.plan.specs.law.Balance.{node_residual}
 use Rattle.plan.specs.law.Totals.{step_switching, step_residual, pipe_part, pipe_residuals, node_residuals, totals_to, totals_of}
-use Rattle.plan.specs.law.Judged.{plan_step, plan_questions, questions, verdict_of, verdict_told, judge_of}
+use Rattle.plan.specs.law.Judged.{plan_step, plan_questions, questions, verdict_told, judge_of, Verdict}
 use Rattle.plan.specs.law.JudgedBytes.{read_answer, plan_number, on_plan_bytes, refused_or, bytes_judged}
 use Rattle.plan.specs.inside.SmallRefusals.{judge_small}
-use Rattle.plan.specs.declared.verdict.Verdict.{Verdict}
-use Rattle.plan.specs.declared.verdict.Verdict.TheVariants.{Accepted, Refused}
-use Rattle.plan.specs.declared.figures.Ledger.{Ledger}
-use Rattle.plan.specs.declared.figures.Ledger.TheVariants.{Given}
-use Rattle.plan.specs.declared.figures.Ledger.TheVariants as stopped
 use Rattle.plan.specs.inside.StepSizes.{choice_costs_le, activity_costs_le}
+use Rattle.plan.specs.law.Ledger.{Ledger}
 
 -- the counts of a verdict are below b, and a refusal's number is not 0
 abbrev pub Fit : ℕ → Verdict → Type 0
-Fit b (Accepted t) = (t.switching < b) × (t.residual < b)
-Fit b (Refused n s p) = (n < b) × (s < b) × (p < b) × (1 ≤ n)
+Fit b (Ok t) = (t.switching < b) × (t.residual < b)
+Fit b (Err n) = (n.number < b) × (n.step < b) × (n.place < b) × (1 ≤ n.number)
 
-module _ (case plan : List ℤ) (y : first_no (questions case plan) ≡ Yes) where
+module _ (case plan : List ℤ) (y : first_no (questions case plan) ≡ Ok tt) where
   pub accepted : AcceptedCase case
   unfolding questions
   accepted = record { yes = first_yes (case_questions case) (plan_questions case plan) y }
 
-  step_yes : (i : ℕ) → i < steps_of case → first_no (step_questions case (pressure_at case plan i) (step_rows case plan i) i) ≡ Yes
+  step_yes : (i : ℕ) → i < steps_of case → first_no (step_questions case (pressure_at case plan i) (step_rows case plan i) i) ≡ Ok tt
   unfolding questions plan_questions plan_step
   step_yes i l =
       let p = second_yes (case_questions case) (plan_questions case plan) y in
@@ -91,19 +85,19 @@ module _ (case plan : List ℤ) where
   judge_fits v e = go (first_no (questions case plan)) refl (judge_small case plan) v e
     where
       go : (a : Answer) → first_no (questions case plan) ≡ a → Small limit a → (v : Verdict)
-          → verdict_told v ≡ verdict_told (verdict_of a (totals_of case plan)) → Fit (2 ^ 63) v
-      go Yes y s (Accepted t) e =
+          → verdict_told v ≡ verdict_told (found a (totals_of case plan)) → Fit (2 ^ 63) v
+      go (Ok tt) y s (Ok t) e =
           (omega (arith, ap (λ (x : Told). at x 2) e, switching_small case plan y), omega (arith, ap (λ (x : Told). at x 3) e, residual_small case plan y))
-      go Yes y s (Refused n t p) e = let f : ⊥ = omega (arith, ap values e) in absurd f
-      go (No m u q) y s (Accepted t) e = let f : ⊥ = omega (arith, ap values e) in absurd f
-      go (No m u q) y s (Refused n t p) e = let k = refused_same e in (omega arith, omega arith, omega arith, omega arith)
+      go (Ok _) y s (Err m) e = let f : ⊥ = omega (arith, ap values e) in absurd f
+      go (Err n) y s (Ok t) e = let f : ⊥ = omega (arith, ap values e) in absurd f
+      go (Err n) y s (Err m) e = let k = refused_same e in (omega arith, omega arith, omega arith, omega arith)
 
 -- ---- the verdict on two byte strings
 
 fit_refused : (v : Verdict) {n s p : ℕ} → verdict_told v ≡ refuses n s p → n < 2 ^ 63 → s < 2 ^ 63 → p < 2 ^ 63 → 1 ≤ n → Fit (2 ^ 63) v
 unfolding values
-fit_refused (Accepted t) e h k l w = let f : ⊥ = omega (arith, ap values e) in absurd f
-fit_refused (Refused m t q) e h k l w = let r = refused_same e in (omega arith, omega arith, omega arith, omega arith)
+fit_refused (Ok t) e h k l w = let f : ⊥ = omega (arith, ap values e) in absurd f
+fit_refused (Err m) e h k l w = let r = refused_same e in (omega arith, omega arith, omega arith, omega arith)
 
 pub unread_small : (bytes : List ℕ) (room : ℕ) {n p : ℕ} → (read_of bytes room).ended ≡ no n p → (n ≤ 3) × (p ≤ length bytes) × (1 ≤ n)
 unfolding read_told
@@ -120,15 +114,15 @@ plan_number_small n = go (eqb n 1) (eqb n 2)
 -- a refusal that is small, or what is told next
 refused_or_fit : (v : Verdict) (a : Answer) {next : Told} → Between 1 (2 ^ 63) a → (verdict_told v ≡ next → Fit (2 ^ 63) v)
     → verdict_told v ≡ refused_or a next → Fit (2 ^ 63) v
-refused_or_fit v Yes s h e = h e
-refused_or_fit v (No n t p) s h e = fit_refused v e s.0 s.1 s.2 s.3
+refused_or_fit v (Ok _) s h e = h e
+refused_or_fit v (Err n) s h e = fit_refused v e s.0 s.1 s.2 s.3
 
 case_fit : (case : List ℤ) → Between 1 (2 ^ 63) (first_no (case_questions case))
 case_fit case = go (first_no (case_questions case)) (case_small case)
   where
     go : (a : Answer) → Small limit a → Between 1 (2 ^ 63) a
-    go Yes s = s
-    go (No n t p) s = (omega (arith, s.0), omega (arith, s.1), omega (arith, s.2), omega (arith, s.3))
+    go (Ok _) s = s
+    go (Err n) s = (omega (arith, s.0), omega (arith, s.1), omega (arith, s.2), omega (arith, s.3))
 
 module _ (bytes : List ℕ) (room b : ℕ) (short : length bytes < b) (seven : 7 < b) where
   pub read_fit : Between 1 b (read_answer (read_of bytes room).ended)
@@ -142,8 +136,8 @@ module _ (bytes : List ℕ) (room b : ℕ) (short : length bytes < b) (seven : 7
   plan_read_fit = go (read_answer (read_of bytes room).ended) read_fit
     where
       go : (a : Answer) → Between 1 b a → Between 1 b (on_plan_bytes a)
-      go Yes s = s
-      go (No n t p) s = let w = plan_number_small n in (omega (arith, w.0), s.1, s.2, omega (arith, w.1))
+      go (Ok _) s = s
+      go (Err n) s = let w = plan_number_small n.number in (omega (arith, w.0), s.1, s.2, omega (arith, w.1))
 
 pub bytes_fit : (case_bytes plan_bytes : List ℕ) (case_list plan_list : List ℤ) → length case_bytes < 2 ^ 63 → length plan_bytes < 2 ^ 63 → (v : Verdict)
     → verdict_told v ≡ (bytes_judged case_bytes plan_bytes case_list plan_list).told → Fit (2 ^ 63) v
@@ -160,5 +154,5 @@ bytes_fit case_bytes plan_bytes case_list plan_list small short v e =
 -- ---- the ledger: that its numbers fit is proofs/LedgerSizes.antt's
 
 abbrev pub FitLedger : ℕ → Ledger → Type 0
-FitLedger b (Given f) = (f.nodes < b) × (f.pipes < b) × (f.residual < b)
-FitLedger b (stopped.Refused n s p) = (n < b) × (s < b) × (p < b)
+FitLedger b (Ok f) = (f.nodes < b) × (f.pipes < b) × (f.residual < b)
+FitLedger b (Err n) = (n.number < b) × (n.step < b) × (n.place < b)

@@ -1,16 +1,13 @@
 -- The questions of a case and a plan, in their order, and the verdict: "The first "no" ends the judging."
 -- Assumes nothing.
-use Rattle.std.specs.Prelude.{List, [], ◌∷◌, ◌++◌, ℕ, ℤ, pos}
-use Rattle.numbers.specs.law.Told.{Told, gives, refuses}
-use Rattle.numbers.specs.law.Question.{Question, first_no}
+use Rattle.std.specs.Prelude.{List, [], ◌∷◌, ◌++◌, ℕ, ℤ, pos, Result}
+use Rattle.numbers.specs.law.Told.{Told}
+use Rattle.numbers.specs.declared.answer.No.{No}
+use Rattle.numbers.specs.law.Question.{Question, first_no, found, told_with}
 use Rattle.numbers.specs.law.Items.{over}
-use Rattle.numbers.specs.declared.answer.Answer.{Answer}
-use Rattle.numbers.specs.declared.answer.Answer.TheVariants.{Yes, No}
 use Rattle.case.specs.law.Layout.{steps_of}
 use Rattle.case.specs.law.Judged.{case_questions}
 use Rattle.plan.specs.declared.totals.Totals.{Totals}
-use Rattle.plan.specs.declared.verdict.Verdict.{Verdict}
-use Rattle.plan.specs.declared.verdict.Verdict.TheVariants.{Accepted, Refused}
 use Rattle.plan.specs.law.PlanLayout.{step_rows}
 use Rattle.plan.specs.law.PlanHead.{head_question}
 use Rattle.plan.specs.law.BeforeStep.{pressure_at}
@@ -29,15 +26,17 @@ plan_questions case plan = head_question case plan ∷ over (plan_step case plan
 unfoldable pub questions : List ℤ → List ℤ → List Question
 questions case plan = case_questions case ++ plan_questions case plan
 
-abbrev pub verdict_of : Answer → Totals → Verdict
-verdict_of Yes t = Accepted t
-verdict_of (No number step place) t = Refused number step place
+-- the totals, or the first "no"
+abbrev pub Verdict : Type 0
+Verdict = Result Totals No
 
--- document 01's number and values for each case of a verdict: the totals in order, or the number, the step and the place
+-- the totals in document 01's order
+abbrev pub totals_told : Totals → List ℤ
+totals_told t = t.pressure ∷ t.demand ∷ pos t.switching ∷ pos t.residual ∷ t.opening ∷ t.closing ∷ []
+
+-- document 01's number and values for a verdict
 abbrev pub verdict_told : Verdict → Told
-verdict_told (Accepted t) =
-    gives (t.pressure ∷ t.demand ∷ pos t.switching ∷ pos t.residual ∷ t.opening ∷ t.closing ∷ [])
-verdict_told (Refused number step place) = refuses number step place
+verdict_told v = told_with totals_told v
 
 unfoldable pub judge_of : List ℤ → List ℤ → Told
-judge_of case plan = verdict_told (verdict_of (first_no (questions case plan)) (totals_of case plan))
+judge_of case plan = verdict_told (found (first_no (questions case plan)) (totals_of case plan))

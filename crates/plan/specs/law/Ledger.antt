@@ -1,20 +1,17 @@
 -- The ledger: "After all the above: 40 does the set name only nodes (place: lowest bit that doesn't; 0 for a number outside 0..2^60-1)?
 -- 41 is 0 ≤ s ≤ t ≤ k?" Then the six figures.
 -- Assumes nothing.
-use Rattle.std.specs.Prelude.{Bool, cond, ◌&&◌, List, [], ◌∷◌, ◌++◌, ℕ, zero, suc, ◌-◌, ℤ, pos}
+use Rattle.std.specs.Prelude.{Bool, cond, ◌&&◌, List, [], ◌∷◌, ◌++◌, ℕ, zero, suc, ◌-◌, ℤ, pos, Result}
 use Rattle.std.specs.Int.Signed.{le_z}
-use Rattle.numbers.specs.law.Told.{Told, gives, refuses}
-use Rattle.numbers.specs.law.Question.{Question, first_no}
-use Rattle.numbers.specs.declared.answer.Answer.{Answer}
-use Rattle.numbers.specs.declared.answer.Answer.TheVariants.{Yes, No}
+use Rattle.numbers.specs.law.Told.{Told}
+use Rattle.numbers.specs.declared.answer.No.{No}
+use Rattle.numbers.specs.law.Question.{Question, first_no, found, told_with}
 use Rattle.numbers.specs.law.Sets.{member_of, subset_of}
 use Rattle.numbers.specs.law.Signed.{pos_part}
 use Rattle.case.specs.law.Extents.{set_room}
 use Rattle.case.specs.law.Layout.{nodes_of, steps_of}
 use Rattle.case.specs.law.StationFields.{first_items}
 use Rattle.plan.specs.declared.figures.Figures.{Figures}
-use Rattle.plan.specs.declared.figures.Ledger.{Ledger}
-use Rattle.plan.specs.declared.figures.Ledger.TheVariants.{Given, Refused}
 use Rattle.plan.specs.law.Compared.{within}
 use Rattle.plan.specs.law.Judged.{questions}
 use Rattle.plan.specs.law.RegionFigures.{figures_of}
@@ -54,21 +51,24 @@ region_questions case set s t =
 unfoldable pub ledger_questions : List ℤ → List ℤ → ℤ → ℤ → ℤ → List Question
 ledger_questions case plan set s t = questions case plan ++ region_questions case set s t
 
-abbrev pub ledger_by : Answer → Figures → Ledger
-ledger_by Yes f = Given f
-ledger_by (No number step place) f = Refused number step place
+-- the figures, or the first "no"
+abbrev pub Ledger : Type 0
+Ledger = Result Figures No
 
--- document 01's number and values for each case of the ledger's answer: the figures in order, or the number, the step and the place
+-- the figures in document 01's order
+abbrev pub figures_told : Figures → List ℤ
+figures_told f = pos f.nodes ∷ pos f.pipes ∷ f.opening ∷ f.closing ∷ f.brought ∷ pos f.residual ∷ []
+
+-- document 01's number and values for the ledger's answer
 abbrev pub ledger_told : Ledger → Told
-ledger_told (Given f) = gives (pos f.nodes ∷ pos f.pipes ∷ f.opening ∷ f.closing ∷ f.brought ∷ pos f.residual ∷ [])
-ledger_told (Refused number step place) = refuses number step place
+ledger_told v = told_with figures_told v
 
 -- the ledger's figures for a set and times that are not negative, as those that 41 has let pass are
 abbrev pub figures_for : List ℤ → List ℤ → ℤ → ℤ → ℤ → Figures
 figures_for case plan set s t = figures_of case plan (member_of set) (pos_part s) (pos_part t)
 
 abbrev pub ledger_is : List ℤ → List ℤ → ℤ → ℤ → ℤ → Ledger
-ledger_is case plan set s t = ledger_by (first_no (ledger_questions case plan set s t)) (figures_for case plan set s t)
+ledger_is case plan set s t = found (first_no (ledger_questions case plan set s t)) (figures_for case plan set s t)
 
 unfoldable pub ledger_of : List ℤ → List ℤ → ℤ → ℤ → ℤ → Told
 ledger_of case plan set s t = ledger_told (ledger_is case plan set s t)

@@ -1,16 +1,13 @@
 -- Demand 3: "For every accepted case and plan, every node set and s ≤ t, the ledger answers and balances within its residual, which is at most
 -- (nodes + inner pipes) × (t - s) × E." It is part of the ledger's promise.
 -- Assumes nothing.
-use Rattle.std.specs.Prelude.{◌≡◌, true, List, ℕ, ◌+◌, ◌<◌, ℤ, pos, nat_abs, ◌-ℤ◌, ◌*ℤ◌, ◌≤ℤ◌}
+use Rattle.std.specs.Prelude.{◌≡◌, true, List, ℕ, ◌+◌, ◌<◌, ℤ, pos, nat_abs, ◌-ℤ◌, ◌*ℤ◌, ◌≤ℤ◌, Ok}
 use Rattle.numbers.specs.law.Sets.{member_of}
 use Rattle.case.specs.law.Layout.{nodes_of, steps_of, mass_tolerance}
 use Rattle.plan.specs.declared.figures.Figures.{Figures}
-use Rattle.plan.specs.declared.figures.Ledger.{Ledger}
-use Rattle.plan.specs.declared.figures.Ledger.TheVariants.{Given}
 use Rattle.plan.specs.declared.totals.Totals.{Totals}
-use Rattle.plan.specs.declared.verdict.Verdict.TheVariants.{Accepted}
 use Rattle.plan.specs.law.Judged.{verdict_told, judge_of}
-use Rattle.plan.specs.law.Ledger.{figures_for}
+use Rattle.plan.specs.law.Ledger.{figures_for, Ledger}
 
 -- a set that names only nodes of the case ("A negative number is no set"), and times 0 ≤ s ≤ t ≤ k
 pub record RegionOf (case : List ℤ) (set s t : ℤ) : Type 0 where
@@ -27,7 +24,7 @@ pub record Balanced (case : List ℤ) (s t : ℤ) (f : Figures) : Type 0 where
 
 -- what an answer `r` of the ledger vouches for: of an accepted plan and a region of it, that it is the ledger's figures and that they balance
 pub record Vouched (case plan : List ℤ) (set s t : ℤ) (r : Ledger) : Type 0 where
-  pub answers : (totals : Totals) → judge_of case plan ≡ verdict_told (Accepted totals) → RegionOf case set s t
-      → r ≡ Given (figures_for case plan set s t)
-  pub balances : (totals : Totals) → judge_of case plan ≡ verdict_told (Accepted totals) → RegionOf case set s t
+  pub answers : (totals : Totals) → judge_of case plan ≡ verdict_told (Ok totals) → RegionOf case set s t
+      → r ≡ Ok (figures_for case plan set s t)
+  pub balances : (totals : Totals) → judge_of case plan ≡ verdict_told (Ok totals) → RegionOf case set s t
       → Balanced case s t (figures_for case plan set s t)

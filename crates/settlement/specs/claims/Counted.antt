@@ -1,14 +1,13 @@
 -- "Every row is counted in exactly one way, a matched pair as one." A sender's row is agreed, cut or alone by what the look-up finds; a receiver's row is
 -- alone, or the pair of one sender's row, and both records have as many rows in pairs (`TimeCounts.antt`).
 -- Assumes nothing.
-use Rattle.std.specs.Prelude.{Bool, true, false, not, List, ◌≡◌, refl, ℤ}
+use Rattle.std.specs.Prelude.{Bool, true, false, not, List, ◌≡◌, refl, ℤ, Ok}
 use Rattle.std.proofs.Common.{sym, arith}
 use Rattle.std.proofs.Math.Path.{ap}
 use Prim.Native.Nat.{ℕ, ◌+◌, ◌<◌}
 use Rattle.numbers.specs.law.Sums.{sum_n, only_n, count}
 use Rattle.numbers.specs.inside.SumLaws.{sum_n_add, sum_n_cong, sum_n_const}
 use Rattle.settlement.specs.declared.figures.Figures.{Figures}
-use Rattle.settlement.specs.declared.figures.Settlement.TheVariants.{Settled}
 use Rattle.settlement.specs.law.Records.{rows_of, time_of, grams_of}
 use Rattle.settlement.specs.law.LookUp.{Found, found, missing}
 use Rattle.settlement.specs.law.Settled.{agrees, is_agreed, is_cut, is_missing, opposite, agreed_at, cut_at, alone_at, settled_figures}
@@ -45,7 +44,7 @@ alone_or_pair meter m i = one_or_missing m (time_of meter i)
 each_one : (k : ℕ) (f g : ℕ → ℕ) → ((i : ℕ) → f i + g i ≡ 1) → sum_n k f + sum_n k g ≡ k
 each_one k f g h = omega (arith, sum_n_add k f g, sum_n_cong k (λ i. f i + g i) (λ i. 1) (λ i l. h i), sum_n_const k 1)
 
-module _ (sender receiver : List ℤ) (agreed : ℤ) (f : Figures) (e : settle_of sender receiver agreed ≡ settlement_told (Settled f)) where
+module _ (sender receiver : List ℤ) (agreed : ℤ) (f : Figures) (e : settle_of sender receiver agreed ≡ settlement_told (Ok f)) where
   -- A receiver's row is the pair of one sender's row, or is alone.
   pub receiver_once : (j : ℕ) → rows_with sender (time_of receiver j) (rows_of sender) + only_n (alone_at receiver sender j) 1 ≡ 1
   receiver_once = alone_or_pair receiver (told_meters sender receiver agreed f e).of_sender

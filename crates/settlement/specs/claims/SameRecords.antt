@@ -1,14 +1,13 @@
 -- "If both records are the same, the total is theirs and the last three counts are 0." Each row finds itself, and differs from itself by 0, which is agreed:
 -- so none is cut or alone.
 -- Assumes nothing.
-use Rattle.std.specs.Prelude.{true, List, [], ◌∷◌, ◌≡◌, refl, ℕ, ◌<◌, ℤ, pos, ◌-ℤ◌, ◌≤ℤ◌}
+use Rattle.std.specs.Prelude.{true, List, [], ◌∷◌, ◌≡◌, refl, ℕ, ◌<◌, ℤ, pos, ◌-ℤ◌, ◌≤ℤ◌, Ok}
 use Rattle.std.proofs.Math.Path.{ap}
 use Rattle.std.proofs.Common.{◌∙◌, arith}
 use Rattle.numbers.specs.law.Told.{gives}
 use Rattle.numbers.specs.inside.SignedParts.{ints, taken, size}
 use Rattle.numbers.specs.inside.SumLaws.{count_none}
 use Rattle.settlement.specs.declared.figures.Figures.{Figures}
-use Rattle.settlement.specs.declared.figures.Settlement.TheVariants.{Settled}
 use Rattle.settlement.specs.law.Records.{rows_of, grams_of}
 use Rattle.settlement.specs.law.LookUp.{found}
 use Rattle.settlement.specs.law.Settled.{agrees, opposite, cut_at, alone_at, settled_figures}
@@ -30,7 +29,7 @@ agrees_itself : (agreed s : ℤ) → pos 0 ≤ℤ agreed → agrees agreed s s �
 unfolding agrees
 agrees_itself agreed s h = omega (ints, taken s s, size (s -ℤ s))
 
-module _ (meter : List ℤ) (agreed : ℤ) (f : Figures) (e : settle_of meter meter agreed ≡ settlement_told (Settled f)) where
+module _ (meter : List ℤ) (agreed : ℤ) (f : Figures) (e : settle_of meter meter agreed ≡ settlement_told (Ok f)) where
   finds_itself : (i : ℕ) → i < rows_of meter → opposite meter meter i ≡ found (grams_of meter i)
   finds_itself i h = row_found meter (told_meters meter meter agreed f e).of_sender i i h refl
 

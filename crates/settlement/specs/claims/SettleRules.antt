@@ -1,7 +1,7 @@
 -- What records are settled, in plain facts of numbers: two records are settled exactly if these hold (`sound` and `complete`). Each of 60 to 62 is one of the
 -- facts, as a test.
 -- Assumes nothing.
-use Rattle.std.specs.Prelude.{true, List, ◌≡◌, eqb, ℤ, pos, length, ◌<ℤ◌, ◌≤ℤ◌}
+use Rattle.std.specs.Prelude.{true, List, ◌≡◌, eqb, ℤ, pos, length, ◌<ℤ◌, ◌≤ℤ◌, Ok}
 use Prim.Native.Nat.{ℕ, zero, suc, ◌+◌, ◌*◌, ◌%◌, ◌<◌, ◌≤◌}
 use Rattle.std.proofs.Math.Numerals.{add-one}
 use Rattle.std.proofs.Common.{arith}
@@ -9,12 +9,10 @@ use borrow.Author.Tests.{eqb-true, eq-eqb, le-leb}
 use Rattle.std.specs.Int.Signed.{le_z}
 use Rattle.numbers.specs.law.Question.{Question, first_no}
 use Rattle.numbers.specs.law.Items.{over}
-use Rattle.numbers.specs.declared.answer.Answer.TheVariants.{Yes}
 use Rattle.numbers.specs.inside.QuestionLaws.{first_no_append, none_no, and_first, and_second}
 use Rattle.numbers.specs.inside.ItemLaws.{over_all, zero_add}
 use Rattle.numbers.specs.inside.SignedParts.{ints}
 use Rattle.settlement.specs.declared.figures.Figures.{Figures}
-use Rattle.settlement.specs.declared.figures.Settlement.TheVariants.{Settled}
 use Rattle.settlement.specs.law.Records.{rows_of, time_of, grams_of}
 use Rattle.settlement.specs.law.RecordRules.{in_grams, whole_rows, rises, records_question, time_question, time_questions}
 use Rattle.settlement.specs.law.RecordRules.{mass_question, mass_questions, settle_questions}
@@ -68,7 +66,7 @@ meter_rules {meter} w m = record {
   masses = λ i h. in_grams_lem (m.sized i h);
 }
 
-rows_yes : (f : ℕ → List Question) (n : ℕ) → ((i : ℕ) → i < n → first_no (f i) ≡ Yes) → first_no (over f 0 n) ≡ Yes
+rows_yes : (f : ℕ → List Question) (n : ℕ) → ((i : ℕ) → i < n → first_no (f i) ≡ Ok tt) → first_no (over f 0 n) ≡ Ok tt
 rows_yes f n h = over_all f 0 n (λ i l. rw (zero_add i) (h i l))
 
 module _ {meter : List ℤ} (m : MeterRules meter) where
@@ -81,18 +79,18 @@ module _ {meter : List ℤ} (m : MeterRules meter) where
   rise_yes zero h = let r = m.first h in omega ints
   rise_yes (suc i) h = let r = rw add-one at (m.rising i (rw add-one h)) in omega ints
 
-  times_yes : first_no (time_questions meter) ≡ Yes
+  times_yes : first_no (time_questions meter) ≡ Ok tt
   unfolding time_questions time_question
   times_yes = rows_yes (time_question meter) (rows_of meter) (λ i l. none_no (time_question meter i) (rise_yes i l, tt))
 
-  masses_yes : first_no (mass_questions meter) ≡ Yes
+  masses_yes : first_no (mass_questions meter) ≡ Ok tt
   unfolding mass_questions mass_question
   masses_yes = rows_yes (mass_question meter) (rows_of meter) (λ i l. none_no (mass_question meter i) (grams_in (m.masses i l), tt))
 
 -- ---- settled exactly if
 
 module _ (sender receiver : List ℤ) (agreed : ℤ) where
-  pub sound : (f : Figures) → settle_of sender receiver agreed ≡ settlement_told (Settled f) → SettleRules sender receiver agreed
+  pub sound : (f : Figures) → settle_of sender receiver agreed ≡ settlement_told (Ok f) → SettleRules sender receiver agreed
   sound f e =
       let w = kept sender receiver agreed (told_yes sender receiver agreed f e) in
       let m = told_meters sender receiver agreed f e in
@@ -102,7 +100,7 @@ module _ (sender receiver : List ℤ) (agreed : ℤ) where
         within = in_grams_lem (told_agreed sender receiver agreed f e);
       }
 
-  rules_yes : SettleRules sender receiver agreed → first_no (settle_questions sender receiver agreed) ≡ Yes
+  rules_yes : SettleRules sender receiver agreed → first_no (settle_questions sender receiver agreed) ≡ Ok tt
   unfolding settle_questions records_question
   rules_yes r =
       let s = r.of_sender in
@@ -110,6 +108,6 @@ module _ (sender receiver : List ℤ) (agreed : ℤ) where
       rw (whole_yes s, whole_yes k, grams_in r.within, first_no_append (time_questions sender), times_yes s)
       (rw (first_no_append (time_questions receiver), times_yes k, first_no_append (mass_questions sender), masses_yes s) (masses_yes k))
 
-  pub complete : SettleRules sender receiver agreed → settle_of sender receiver agreed ≡ settlement_told (Settled (settled_figures sender receiver agreed))
+  pub complete : SettleRules sender receiver agreed → settle_of sender receiver agreed ≡ settlement_told (Ok (settled_figures sender receiver agreed))
   unfolding settle_of
   complete r = rw (rules_yes r)

@@ -1,7 +1,7 @@
 -- The settled total lies between 0 and what both records have, and where no time is in the receiver's record only, not above what the sender's has. What
 -- stands of a row lies between 0 and its own grams, and so do the sums of it.
 -- Assumes nothing.
-use Rattle.std.specs.Prelude.{Bool, cond, List, ◌≡◌, ℕ, zero, suc, ◌≤◌, ◌<◌, ℤ, ◌+ℤ◌, ◌≤ℤ◌}
+use Rattle.std.specs.Prelude.{Bool, cond, List, ◌≡◌, ℕ, zero, suc, ◌≤◌, ◌<◌, ℤ, ◌+ℤ◌, ◌≤ℤ◌, Ok}
 use Rattle.std.proofs.Math.Bool.{true, false}
 use Rattle.std.proofs.Math.Path.{refl, sym, ap}
 use Rattle.std.proofs.Common.{ap₂, ◌∙◌, arith}
@@ -12,7 +12,6 @@ use Rattle.numbers.specs.law.Sums.{sum, only}
 use Rattle.numbers.specs.inside.SignedParts.{ints, added, size}
 use Rattle.numbers.specs.inside.SumLaws.{sum_cong, sum_zero, abs_sum_le, none_counted}
 use Rattle.settlement.specs.declared.figures.Figures.{Figures}
-use Rattle.settlement.specs.declared.figures.Settlement.TheVariants.{Settled}
 use Rattle.settlement.specs.law.Records.{rows_of, time_of, grams_of}
 use Rattle.settlement.specs.law.LookUp.{Found, found, missing, same_time, look_up_in, look_up}
 use Rattle.settlement.specs.law.Settled.{agrees, settled_pair, standing, is_cut, opposite}
@@ -79,7 +78,7 @@ all_most {meter} m =
 
 -- ---- the total
 
-module _ (sender receiver : List ℤ) (agreed : ℤ) (f : Figures) (e : settle_of sender receiver agreed ≡ settlement_told (Settled f)) where
+module _ (sender receiver : List ℤ) (agreed : ℤ) (f : Figures) (e : settle_of sender receiver agreed ≡ settlement_told (Ok f)) where
   abbrev stands : ℤ
   stands = sum (rows_of sender) (standing_at sender receiver agreed)
 

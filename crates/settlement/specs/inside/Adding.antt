@@ -1,14 +1,13 @@
 -- One row or one pair more: what it adds to the figures, and the room that it needs.
 -- Assumes nothing.
-use Rattle.std.specs.Prelude.{Bool, true, false, not, cond, ◌≡◌, ℕ, ◌+◌, ◌≤◌, ℤ, pos, nat_abs, ◌+ℤ◌, ◌-ℤ◌}
-use Rattle.std.proofs.Common.{arith, to_z, of_z}
+use Rattle.std.specs.Prelude.{Bool, true, false, not, cond, int_lt, ◌≡◌, refl, ℕ, ◌+◌, ◌≤◌, ℤ, pos, nat_abs, ◌+ℤ◌}
+use Rattle.std.proofs.Common.{arith}
 use Rattle.std.specs.Int.Signed.{le_z, lt_z}
-use Rattle.std.specs.Int.{w64}
+use Rattle.std.specs.Int.{int_min}
 use Rattle.numbers.specs.law.Sums.{only_n}
 use Rattle.numbers.specs.inside.QuestionLaws.{and_first, and_second}
-use Rattle.numbers.specs.inside.SignedParts.{ints, size, taken}
+use Rattle.numbers.specs.inside.SignedParts.{ints, size}
 use Rattle.numbers.specs.inside.SignedBounds.{Bounded}
-use Rattle.numbers.specs.inside.SignedLocals.{Held, param, ◌+ʳ◌}
 use Rattle.settlement.specs.declared.figures.Figures.{Figures}
 use Rattle.settlement.specs.law.RecordRules.{in_grams}
 use Rattle.settlement.specs.law.Settled.{agrees, settled_pair}
@@ -48,18 +47,6 @@ grams_small {x} g =
     let m = and_second (le_z (pos 0) x) (le_z x (pos 1000000000000)) g.in_range in
     record { bound = omega (ints, size x, l, m) }
 
--- a total with one mass more, as the code adds it
-pub total_with : {f : Figures} {x : ℤ} → Room f → Grams x
-    → Held (to_z w64 (of_z w64 f.total) +ℤ to_z w64 (of_z w64 x)) (f.total +ℤ x) (10000000000000000 + 1000000000000)
-total_with {f} room g = param {z = f.total} (record { bound = room.total }) tt +ʳ param (grams_small g) tt
-
--- the size of a difference, by which of the two is larger
-pub gap_below : (s r : ℤ) → lt_z s r ≡ true → r -ℤ s ≡ pos (nat_abs (s -ℤ r))
-gap_below s r e = omega (ints, taken r s, taken s r, size (s -ℤ r), e)
-
-pub gap_above : (s r : ℤ) → lt_z s r ≡ false → s -ℤ r ≡ pos (nat_abs (s -ℤ r))
-gap_above s r e = omega (ints, taken s r, size (s -ℤ r), e)
-
 -- ---- a pair, by whether the two agree
 
 pub smaller_grams : {s r : ℤ} → Grams s → Grams r → Grams (cond (le_z s r) s r)
@@ -76,6 +63,16 @@ pair_grams agreed {s} {r} g h = go (agrees agreed s r)
     go : (b : Bool) → Grams (cond b s (cond (le_z s r) s r))
     go true = g
     go false = smaller_grams g h
+
+-- the smaller of two, as the law has it
+pub min_is : (s r : ℤ) → int_min s r ≡ cond (le_z s r) s r
+min_is s r = go (le_z s r) (int_lt r s) refl refl
+  where
+    go : (a b : Bool) → le_z s r ≡ a → int_lt r s ≡ b → cond b r s ≡ cond a s r
+    go true true e f = absurd (omega (ints, e, f))
+    go true false e f = refl
+    go false true e f = refl
+    go false false e f = absurd (omega (ints, e, f))
 
 add_none : (n : ℕ) → n + 0 ≡ n
 add_none n = omega arith

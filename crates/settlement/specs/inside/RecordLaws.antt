@@ -1,16 +1,12 @@
 -- A record that 60 to 62 have passed: its times rise from row to row, by induction.
 -- Assumes nothing.
-use Rattle.std.specs.Prelude.{List, ◌≡◌, refl, ℕ, zero, suc, ◌+◌, ◌-◌, ◌*◌, ◌<◌, ℤ, length, ◌<ℤ◌, ◌≤ℤ◌}
+use Rattle.std.specs.Prelude.{List, ◌≡◌, refl, ℕ, zero, suc, ◌+◌, ◌-◌, ◌<◌, ℤ, ◌<ℤ◌, ◌≤ℤ◌}
 use Rattle.std.proofs.Common.{⊎_elim, sym, subst, eq-or-lt_of_le, arith}
 use Rattle.std.specs.Int.Signed.{≤ℤ_refl, lt_z}
 use Rattle.numbers.specs.inside.SignedParts.{ints}
 use Rattle.settlement.specs.law.Records.{rows_of, time_of}
 use Rattle.settlement.specs.law.RecordRules.{rises}
 use Rattle.settlement.specs.inside.Merging.{Meter}
-
--- a row's two numbers are there
-pub row_there : (meter : List ℤ) (i : ℕ) → i < rows_of meter → 2 * i + 1 < length meter
-row_there meter i h = omega (arith, h)
 
 module _ {meter : List ℤ} (m : Meter meter) where
   next_later : (i : ℕ) → suc i < rows_of meter → time_of meter i <ℤ time_of meter (suc i)

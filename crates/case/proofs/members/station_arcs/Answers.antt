@@ -1,0 +1,12 @@
+-- Counting over the range of the arcs is counting those before its end.
+use Rattle.std.proofs.Common.{rules, tests}
+use Rattle.case.specs.law.StationArcs.{belongs, arcs_before}
+use Rattle.case.proofs.Chains.{count_from_filter}
+use Rattle.case.proofs.members.station_arcs.Goals as goal
+
+pub returns : goal.returns
+unfolding arcs_before
+returns c =
+    let a = c.args in
+    let f = c.filter.ensures in
+    count_from_filter (belongs a.case.now a.s) a.arcs c.filter.result _ c.count.result c.count.ensures.ran f.source f.closure (λ x b q k. search (rules, tests))

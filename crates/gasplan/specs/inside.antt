@@ -1,0 +1,2 @@
+-- What functions inside the crate ask of their callers.
+pub mod Fits

@@ -1,0 +1,10 @@
+-- The front is filled with each arc's activity.
+use Rattle.std.proofs.Common.{◌≡◌, rules, length, length-take-le, arith, false}
+use Rattle.plan.specs.law.PlanRecords.{active_in}
+use Rattle.plan.proofs.Fronts.{front}
+use Rattle.plan.proofs.previous.row_active.Goals as goal
+
+pub returns : goal.returns
+returns c =
+    let e : length c.fill.new.slots ≡ c.args.arcs = search (rules, length-take-le) in
+    front _ _ e (λ i l. c.fill.ensures false (active_in c.args.case.now c.args.rows.now) (λ j m r q. search rules) i (omega (arith, l, e, c.fill.auto.slots)))

@@ -1,0 +1,28 @@
+-- Each total is the old one with what the step adds; what a kept step adds is small, and so no sum is too large.
+use Rattle.plan.proofs.Common.{refl, arith, rules, held, held_fits, ◌+ʳ◌}
+use Rattle.plan.proofs.SignedReads.{read}
+use Rattle.plan.specs.inside.StepSizes.{pressure_slack_sized, demand_slack_sized}
+use Rattle.plan.proofs.totals.added.Goals as goal
+
+pub overflow_add-result : goal.overflow_add-result
+overflow_add-result c =
+    let slack = pressure_slack_sized c.args.rows.now c.requires.0.accepted c.requires.1.node_rows in
+    held_fits (read refl c.requires.2.pressure tt +ʳ read c.slacks_of-slack.ensures.pressure slack tt) tt
+
+pub overflow_add-result-2 : goal.overflow_add-result-2
+overflow_add-result-2 c =
+    let slack = demand_slack_sized c.args.rows.now c.requires.0.accepted c.requires.1.node_rows in
+    held_fits (read refl c.requires.2.demand tt +ʳ read c.slacks_of-slack.ensures.demand slack tt) tt
+
+pub returns : goal.returns
+returns c =
+    let y = c.requires in
+    let p = pressure_slack_sized c.args.rows.now y.0.accepted y.1.node_rows in
+    let d = demand_slack_sized c.args.rows.now y.0.accepted y.1.node_rows in
+    record {
+      pressure = (held (read refl y.2.pressure tt +ʳ read c.slacks_of-slack.ensures.pressure p tt) tt).val;
+      demand = (held (read refl y.2.demand tt +ʳ read c.slacks_of-slack.ensures.demand d tt) tt).val;
+      switching = omega arith;
+      residual = omega arith;
+      opening = search rules;
+    }

@@ -1,2 +1,0 @@
--- What most proofs of this crate cite.
-pub mod Common
