@@ -95,7 +95,7 @@ extern "C" {
 #define GASPLAN_STACK_JUDGE 6144
 #define GASPLAN_STACK_JUDGE_BYTES 6144
 #define GASPLAN_STACK_LEDGER 8192
-#define GASPLAN_STACK_SETTLE 512
+#define GASPLAN_STACK_SETTLE 256
 
 /* The refusals, each with the question that has a "no". k, N, A and S are the case's steps, nodes, arcs and stations. */
 enum gasplan_refusal {

@@ -1,6 +1,6 @@
 -- What a chain over the numbers 0..n finds, by `all` or by `filter` and `count`, is what the law says of the indices below n; so is a count over a list.
 -- Assumes nothing.
-use Rattle.std.specs.Prelude.{◌≡◌, refl, Bool, true, false, ◌&&◌, cond, List, [], ◌∷◌, ◌++◌, ℕ, zero, suc, ◌+◌, ◌<◌, ◌≤◌, ℤ, length, take, get_or}
+use Rattle.std.specs.Prelude.{◌≡◌, refl, Bool, true, false, ◌&&◌, cond, List, [], ◌∷◌, ◌++◌, ℕ, zero, suc, ◌+◌, ◌<◌, ◌≤◌, length, take, get_or}
 use Rattle.std.specs.List.{range_with_len, list_all, count_by, sum_by, FoldsTo}
 use Rattle.std.specs.Fn.{Called, CalledAt}
 use Rattle.std.specs.Iterator.{YieldsThen, Drains}
@@ -70,11 +70,11 @@ count_from_filter {g = g} w n s f r ran source callee found =
     ∙ length-filter w (range_with_len 0 n) ∙ count_range w n
 
 -- and a count over the first items of a list
-pub count_first : (p : ℤ → Bool) (xs : List ℤ) (d : ℤ) (n : ℕ) → n ≤ length xs → count_by p (take n xs) ≡ count n (λ i. p (get_or xs i d))
+pub count_first : {A : Type 0} (p : A → Bool) (xs : List A) (d : A) (n : ℕ) → n ≤ length xs → count_by p (take n xs) ≡ count n (λ i. p (get_or xs i d))
 unfolding count sum_n
-count_first p xs d zero h = refl
-count_first p xs d (suc n) h =
+count_first {A} p xs d zero h = refl
+count_first {A} p xs d (suc n) h =
     let l : n < length xs = omega arith in
-    let one = λ (x : ℤ). cond (p x) 1 0 in
+    let one = λ (x : A). cond (p x) 1 0 in
     let e = sum_by_more one xs n d l in
     rw add-one at e ∙ cc (count_first p xs d n (omega arith), one_is (p (get_or xs n d)))

@@ -1,13 +1,9 @@
 -- Where the arcs' rows and the stations' rows begin, and arrays that are filled station by station.
 -- Assumes nothing.
-use Rattle.std.specs.Prelude.{◌≡◌, refl, List, ℤ, ◌+◌, ◌*◌, ◌≤◌}
+use Rattle.std.specs.Prelude.{◌≡◌, List, ℤ, ◌+◌, ◌*◌, ◌≤◌}
 use Rattle.std.proofs.Common.{arith, length-take-le}
-use Rattle.numbers.specs.law.Items.{over}
 use Rattle.case.specs.law.Extents.{arcs_extent}
 use Rattle.case.specs.law.Layout.{nodes_of, arcs_of, steps_of, node_width, node_at, arc_at, station_at}
-use Rattle.case.specs.law.TimeFields.{time_field, time_fields}
-use Rattle.case.specs.law.NodeFields.{node_fields, all_node_fields}
-use Rattle.case.specs.law.ArcFields.{arc_fields, all_arc_fields}
 use Rattle.case.specs.inside.Counts.{Counted}
 use Rattle.case.specs.inside.CountsInRange.{head_counted}
 use Rattle.case.specs.inside.HoldsLaws.{holds_none, holds_more}
@@ -23,21 +19,9 @@ module _ (l : List ℤ) where
   unfolding station_at arc_at
   station_first = omega arith
 
-  pub times_asked : time_fields l ≡ over (time_field l) 0 (steps_of l)
-  unfolding time_fields
-  times_asked = refl
-
-  pub nodes_asked : all_node_fields l ≡ over (node_fields l) 0 (nodes_of l)
-  unfolding all_node_fields
-  nodes_asked = refl
-
-  pub arcs_asked : all_arc_fields l ≡ over (arc_fields l) 0 (arcs_of l)
-  unfolding all_arc_fields
-  arcs_asked = refl
-
   pub nodes_room : Counted l → nodes_of l * node_width l ≤ arcs_extent
   nodes_room c = omega (arith, arcs_begin l c, arc_first)
 
-pub ruleset begin_laws = (questions, times_asked, nodes_asked, arcs_asked, arcs_begin, stations_begin, station_first, head_counted)
+pub ruleset begin_laws = (questions, arcs_begin, stations_begin, station_first, head_counted)
 
-pub ruleset filled = (questions, holds_none, holds_more, length-take-le, station_next, end_most)
+pub ruleset filled = (questions, holds_none, holds_more, length-take-le, stations_begin, station_next, end_most)

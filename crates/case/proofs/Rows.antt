@@ -1,45 +1,37 @@
 -- Where rows begin: each where the one before it ends.
 -- Assumes nothing.
-use Rattle.case.proofs.Common.{arith, ◌≡◌, refl}
+use Rattle.case.proofs.Common.{arith, ◌≡◌}
 use mathlib.Core.List.{List}
 use Prim.Native.Nat.{ℕ, ◌+◌, ◌*◌}
 use lib.IntN.{ℤ}
-use Rattle.case.specs.law.Layout.{steps_of, node_at, direction_at, state_at, station_at}
-use Rattle.case.specs.law.Layout.{direction_count, direction_width}
-use Rattle.case.specs.law.StationFields.{row_fields, station_fields}
+use Rattle.case.specs.law.Layout.{steps_of, node_at, direction_at, state_at}
+use Rattle.case.specs.law.Layout.{node_width, direction_count, direction_width}
 use Rattle.case.specs.inside.CountsInRange.{machine_narrow, row_counted, row_narrow}
 use Rattle.case.specs.inside.Places.{node_next, node_width_lem, direction_next, direction_width_lem, state_early, machine_next, machine_early}
 use Rattle.case.specs.inside.Places.{machines_begin, station_next, end_most}
 
 module _ (l : List ℤ) where
-  pub node_first : node_at l 0 ≡ 7 + steps_of l
+  pub node_place : (v : ℕ) → node_at l v ≡ 7 + steps_of l + v * node_width l
   unfolding node_at
-  node_first = omega arith
+  node_place v = omega arith
 
-  pub direction_first : (offset : ℕ) → direction_at l offset 0 ≡ offset + 5
+  pub direction_place : (offset f : ℕ) → direction_at l offset f ≡ offset + 5 + f * direction_width l
   unfolding direction_at
-  direction_first offset = omega arith
+  direction_place offset f = omega arith
 
   pub state_place : (offset z : ℕ) → state_at l offset z ≡ offset + 5 + direction_count l offset * direction_width l + z * 4
   unfolding state_at direction_at
   state_place offset z = omega arith
 
-  pub station_row : (s : ℕ) → station_fields l s ≡ row_fields l (station_at l s)
-  unfolding station_fields
-  station_row s = refl
-
 -- nodes, directions and states, whose rows have one width each
-pub ruleset node_laws = (node_first, node_next, node_width_lem)
+pub ruleset node_laws = (node_place, node_next, node_width_lem)
 
-pub ruleset direction_laws = (direction_first, direction_next, direction_width_lem)
+pub ruleset direction_laws = (direction_place, direction_next, direction_width_lem)
 
 pub ruleset state_laws = (state_place, direction_width_lem, state_early)
 
 -- a machine's row begins where the one before it ends, and is narrow
-pub ruleset machine_laws = (machine_next, machine_narrow, machine_early)
-
--- the rows of a station's parts begin early
-pub ruleset part_laws = (state_early, machines_begin)
+pub ruleset machine_laws = (machine_next, machine_narrow, machine_early, machines_begin)
 
 -- what a station's rows without a "no" say of it, and where the next station begins
-pub ruleset station_laws = (station_row, row_counted, row_narrow, station_next, end_most)
+pub ruleset station_laws = (row_counted, row_narrow, station_next, end_most)

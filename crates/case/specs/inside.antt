@@ -8,6 +8,8 @@ pub mod Places
 pub mod Near
 pub mod CountsInRange
 pub mod InSet
+pub mod Each
+pub mod Opened
 pub mod HoldsLaws
 pub mod Ranges
 pub mod Exactly

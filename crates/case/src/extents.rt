@@ -2,7 +2,7 @@
 ghost use Rattle.std.specs.Prelude.{◌≡◌, pos};
 ghost use Rattle.case.specs.law.Extents.{most_nodes, most_arcs};
 
-// A place for each node, for each arc, for each station.
+// A place for each node, for each arc, for each station: there is no heap, and so every array has room for the most that a case may have.
 pub const NODES: usize = 60;
 
 pub const ARCS: usize = 120;

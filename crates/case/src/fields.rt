@@ -3,7 +3,7 @@ ghost use Rattle.std.specs.Prelude.{◌≡◌, ◌+◌, ◌<◌, ◌^◌};
 ghost use Rattle.numbers.specs.law.Question.{first_no};
 ghost use Rattle.case.specs.law.Field.{field, fields};
 
-use numbers::answer::{Answer, No, ask};
+use numbers::answer::{Answer, ask};
 use numbers::compare::within;
 
 // Limits that several fields share.
@@ -19,14 +19,8 @@ pub(crate) const MOST_WEIGHT: i64 = 1000000;
 pub(crate) fn field(case: &[i64], i: usize, low: i64, high: i64) -> Answer
     ensures { result ≡ first_no (field case.now i low high) }
 {
-    match case.get(i) {
-        Some(x) => ask(within(low, *x, high), 11, 0, i),
-        None => Err(No {
-            number: 10,
-            step: 0,
-            place: i,
-        }),
-    }
+    ask(i < case.len(), 10, 0, i)?;
+    ask(within(low, case[i], high), 11, 0, i)
 }
 
 // The `n` fields from `i` on, which share their range.

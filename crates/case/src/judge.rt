@@ -1,11 +1,9 @@
 // The answer on a case, and its layout.
-ghost use Rattle.std.specs.Prelude.{◌≡◌, ◌≤◌, pos};
+ghost use Rattle.std.specs.Prelude.{◌≡◌};
 ghost use Rattle.numbers.specs.law.Question.{first_no, told};
-ghost use Rattle.case.specs.law.Extents.{stations_extent};
-ghost use Rattle.case.specs.law.Layout.{arc_at, arcs_of, stations_of, station_at};
-ghost use Rattle.case.specs.law.StationNodes.{station_nodes};
+ghost use Rattle.case.specs.law.Layout.{nodes_of, arcs_of, stations_of, steps_of, arc_at, station_at};
 ghost use Rattle.case.specs.inside.Counts.{Counted, StationsCounted, StationsNarrow};
-ghost use Rattle.case.specs.law.LayoutOf.{Holds, Clear, LayoutOf};
+ghost use Rattle.case.specs.law.LayoutOf.{Holds, Clear, site_of, no_site, LayoutOf};
 ghost use Rattle.case.specs.law.Judged.{row_questions, list_questions, judged_case};
 ghost use Rattle.case.specs.law.LayoutOf.{LayingOf};
 
@@ -15,35 +13,102 @@ use super::head::{head, times};
 use super::members::{plain_nodes, station_nodes};
 use super::nodes::node_rows;
 use super::offsets::{ARC, HEAD, count, node_width};
-use super::records::{Laying, Layout};
-use super::rules::rules;
-use super::stations::{station_end, station_rows};
+use super::records::{Laying, Layout, Site};
+use super::rules::Laid;
+use super::stations::{StationRows, station_rows};
 use numbers::answer::Answer;
 
-// Where the arcs' rows begin.
-#[tactic(auto, using(crate::proofs::Laid::arc_first, crate::proofs::Laid::nodes_room))]
-fn first_arc(case: &[i64]) -> usize
-    requires { Counted case.now }
-    ensures { result ≡ arc_at case.now 0 }
-{
-    HEAD + count(case, 0, 4) + count(case, 0, 1) * node_width(case)
+// A case whose head 10 and 11 have let pass, and the head's counts.
+#[derive(Clone, Copy)]
+struct HeadRead<'a> {
+    case: &'a [i64],
+    nodes: usize,
+    arcs: usize,
+    stations: usize,
+    steps: usize,
+    ghost counted: { Counted case.now },
+    ghost nodes_are: { nodes ≡ nodes_of case.now },
+    ghost arcs_are: { arcs ≡ arcs_of case.now },
+    ghost stations_are: { stations ≡ stations_of case.now },
+    ghost steps_are: { steps ≡ steps_of case.now },
 }
 
-// 10 to 12 past the head, whose counts are in range.
-#[tactic(auto, using(crate::proofs::Laid::begin_laws), unfolding(crate::specs::law::Judged::row_questions))]
-fn rows(case: &[i64]) -> Answer
+fn head_read(case: &[i64]) -> HeadRead<'_>
     requires { Counted case.now }
-    ensures { result ≡ first_no (row_questions case.now) }
+    ensures { result.case.now ≡ case.now }
 {
-    let nodes = count(case, 0, 1);
-    let arcs = count(case, 0, 2);
-    let stations = count(case, 0, 3);
-    let steps = count(case, 0, 4);
-    let first = first_arc(case);
-    times(case, steps)?;
-    node_rows(case, steps, nodes)?;
-    arc_rows(case, first, arcs)?;
-    station_rows(case, first + arcs * ARC, stations)
+    HeadRead {
+        case,
+        nodes: count(case, 0, 1),
+        arcs: count(case, 0, 2),
+        stations: count(case, 0, 3),
+        steps: count(case, 0, 4),
+    }
+}
+
+impl HeadRead<'_> {
+    // Where the arcs' rows begin.
+    #[tactic(auto, using(crate::proofs::Laid::arc_first, crate::proofs::Laid::nodes_room))]
+    fn first_arc(&self) -> usize
+        ensures { result ≡ arc_at self.now.case.now 0 }
+    {
+        HEAD + self.steps + self.nodes * node_width(self.case)
+    }
+
+    // And the stations'.
+    #[tactic(auto, using(crate::proofs::Laid::begin_laws))]
+    fn first_station(&self) -> usize
+        ensures { result ≡ station_at self.now.case.now 0 }
+    {
+        self.first_arc() + self.arcs * ARC
+    }
+
+    // 10 to 12 past the head.
+    #[tactic(auto, using(crate::proofs::Laid::begin_laws), unfolding(crate::specs::inside::Opened::rows))]
+    fn rows(&self) -> Answer
+        ensures { result ≡ first_no (row_questions self.now.case.now) }
+    {
+        times(self.case, self.steps)?;
+        node_rows(self.case, self.steps, self.nodes)?;
+        arc_rows(self.case, self.first_arc(), self.arcs)?;
+        station_rows(self.case, self.first_station(), self.stations)
+    }
+
+    // Where each station's rows begin, and its nodes.
+    #[tactic(auto, using(crate::proofs::Laid::filled))]
+    fn sites(&self) -> [Site; STATIONS]
+        requires { (StationsCounted self.now.case.now) × (StationsNarrow self.now.case.now) }
+        ensures { (Holds no_site result (site_of self.now.case.now) self.now.stations) × (Clear no_site result self.now.stations) }
+    {
+        let mut sites = [Site::default(); STATIONS];
+        let mut offset = self.first_station();
+        for (s, site) in sites[..self.stations].iter_mut().enumerate() {
+            let nodes = station_nodes(self.case, s);
+            *site = Site { offset, nodes };
+            offset = StationRows {
+                case: self.case,
+                offset,
+            }
+            .end();
+        }
+        sites
+    }
+
+    // The layout of a case whose fields are all there and in range.
+    #[tactic(auto, using(crate::proofs::Laid::begin_laws))]
+    fn layout(&self) -> Layout
+        requires { (StationsCounted self.now.case.now) × (StationsNarrow self.now.case.now) }
+        ensures { LayoutOf self.now.case.now result }
+    {
+        Layout {
+            steps: self.steps,
+            nodes: self.nodes,
+            arcs: self.arcs,
+            stations: self.stations,
+            sites: self.sites(),
+            plain: plain_nodes(self.case),
+        }
+    }
 }
 
 // 10 to 12.
@@ -52,69 +117,19 @@ fn list_answer(case: &[i64]) -> Answer
     ensures { result ≡ first_no (list_questions case.now) }
 {
     head(case)?;
-    rows(case)
-}
-
-// Where each station's rows begin.
-#[tactic(auto, using(crate::proofs::Laid::filled))]
-fn station_firsts(case: &[i64], first: usize, stations: usize) -> [usize; STATIONS]
-    requires { (first ≤ stations_extent) × (first ≡ station_at case.now 0) × (stations ≤ 8) ×
-        (stations ≡ stations_of case.now) × (StationsCounted case.now) × (StationsNarrow case.now) }
-    ensures { (Holds 0 result (station_at case.now) stations) × (Clear 0 result stations) }
-{
-    let mut offsets = [0usize; STATIONS];
-    let mut offset = first;
-    for place in &mut offsets[..stations] {
-        *place = offset;
-        offset = station_end(case, offset);
-    }
-    offsets
-}
-
-// Each station's nodes.
-#[tactic(auto, using(crate::proofs::Laid::filled), unfolding(crate::specs::law::StationNodes::station_nodes))]
-fn insides(case: &[i64], arcs: usize, stations: usize) -> [i64; STATIONS]
-    requires { (stations ≤ 8) × (arcs ≡ arcs_of case.now) }
-    ensures { (Holds (pos 0) result (station_nodes case.now) stations) × (Clear (pos 0) result stations) }
-{
-    let mut inside = [0i64; STATIONS];
-    for (s, nodes) in inside[..stations].iter_mut().enumerate() {
-        *nodes = station_nodes(case, s, arcs);
-    }
-    inside
-}
-
-// The layout of a case whose fields are all there and in range.
-#[tactic(auto, using(crate::proofs::Laid::begin_laws), unfolding(crate::specs::law::StationNodes::plain_nodes))]
-fn lay(case: &[i64]) -> Layout
-    requires { (Counted case.now) × (StationsCounted case.now) × (StationsNarrow case.now) }
-    ensures { LayoutOf case.now result }
-{
-    let nodes = count(case, 0, 1);
-    let arcs = count(case, 0, 2);
-    let stations = count(case, 0, 3);
-    let steps = count(case, 0, 4);
-    let first = first_arc(case) + arcs * ARC;
-    Layout {
-        steps,
-        nodes,
-        arcs,
-        stations,
-        offsets: station_firsts(case, first, stations),
-        inside: insides(case, arcs, stations),
-        plain: plain_nodes(case, arcs),
-    }
+    head_read(case).rows()
 }
 
 // The answer on a case with its layout, one of zeros where 10 to 12 refuse the list: nobody reads on there.
+#[tactic(auto, using(crate::specs::inside::CountsInRange::list_laws, crate::specs::inside::CaseRows::list_ranged))]
 pub fn judge_and_lay(case: &[i64]) -> Laying
     ensures { LayingOf case.now result }
 {
     match list_answer(case) {
         Ok(()) => {
-            let layout = lay(case);
+            let layout = head_read(case).layout();
             Laying {
-                answer: rules(case, layout),
+                answer: Laid { case, layout }.rules(),
                 layout,
             }
         }
@@ -125,8 +140,7 @@ pub fn judge_and_lay(case: &[i64]) -> Laying
                 nodes: 0,
                 arcs: 0,
                 stations: 0,
-                offsets: [0; STATIONS],
-                inside: [0; STATIONS],
+                sites: [Site::default(); STATIONS],
                 plain: 0,
             },
         },

@@ -1,9 +1,10 @@
 // A station's arcs and nodes. Every function is total, but for the set of the arcs that are active.
 ghost use Rattle.std.specs.Prelude.{◌≡◌, Bool, ℕ, ◌+◌, ◌<◌, ◌≤◌, ◌^◌, pos};
 ghost use Rattle.numbers.specs.law.Sums.{only_n};
-ghost use Rattle.case.specs.law.StationArcs.{belongs, arcs_before, arc_set};
-ghost use Rattle.case.specs.law.StationNodes.{with_node, with_ends, ends_of, plain};
-ghost use Rattle.case.specs.law.States.{active_at_start};
+ghost use Rattle.case.specs.law.Layout.{arcs_of};
+ghost use Rattle.case.specs.law.StationArcs.{belongs, station_arcs};
+ghost use Rattle.case.specs.law.StationNodes.{with_node, with_ends, ends_of, station_nodes, plain, plain_nodes};
+ghost use Rattle.case.specs.law.States.{active_at_start, start_set};
 
 use super::extents::SET_ROOM;
 use super::offsets::{arc_at, count};
@@ -24,10 +25,11 @@ pub(crate) fn plain(case: &[i64], e: usize) -> bool
     count(case, offset, 0) <= 2
 }
 
-// How many of the first `arcs` arcs are the station's.
-pub(crate) fn station_arcs(case: &[i64], s: usize, arcs: usize) -> usize
-    ensures { result ≡ arcs_before case.now s arcs }
+// How many arcs are the station's.
+pub(crate) fn station_arcs(case: &[i64], s: usize) -> usize
+    ensures { result ≡ station_arcs case.now s }
 {
+    let arcs = count(case, 0, 2);
     (0..arcs).filter(|e| belongs(case, s, *e)).count()
 }
 
@@ -45,11 +47,13 @@ fn with_arc(case: &[i64], set: usize, n: usize, e: usize) -> usize
 
 // Those of the station's arcs that are active at step 0, as a set.
 #[tactic(auto, using(crate::proofs::Gathered::own_arcs))]
-pub(crate) fn start_set(case: &[i64], s: usize, arcs: usize) -> i64
-    requires { arcs_before case.now s arcs ≤ 30 }
-    ensures { result ≡ pos (arc_set case.now s (active_at_start case.now) arcs) }
+pub(crate) fn start_set(case: &[i64], s: usize) -> i64
+    requires { station_arcs case.now s ≤ 30 }
+    ensures { result ≡ start_set case.now s }
 {
+    let arcs = count(case, 0, 2);
     let mut set: usize = 0;
+    // Tried as a filtered range with `enumerate`: the invariant would have to name the list of the arcs that passed, and the proof did not close.
     let mut n: usize = 0;
     for e in 0..arcs {
         if belongs(case, s, e) {
@@ -91,12 +95,13 @@ fn with_ends(case: &[i64], set: usize, e: usize) -> usize
     )
 }
 
-// The ends of those of the first `arcs` arcs that `named` names, as a node set.
+// The ends of the arcs that `named` names, as a node set.
 #[tactic(auto, using(crate::proofs::Gathered::ends))]
-fn ends<F: Fn(usize) -> bool>(case: &[i64], arcs: usize, named: F) -> i64
+fn ends<F: Fn(usize) -> bool>(case: &[i64], named: F) -> i64
     requires { F.IsAlwaysCallable named }
-    ensures { (w : ℕ → Bool) → ((e : ℕ) (b : Bool) → F.post named e b → b ≡ w e) → result ≡ pos (ends_of case.now w arcs) }
+    ensures { (w : ℕ → Bool) → ((e : ℕ) (b : Bool) → F.post named e b → b ≡ w e) → result ≡ pos (ends_of case.now w (arcs_of case.now)) }
 {
+    let arcs = count(case, 0, 2);
     let mut nodes: usize = 0;
     for e in 0..arcs {
         if named(e) {
@@ -106,16 +111,18 @@ fn ends<F: Fn(usize) -> bool>(case: &[i64], arcs: usize, named: F) -> i64
     nodes as i64
 }
 
-// The ends of the station's arcs among the first `arcs`, as a node set.
-pub(crate) fn station_nodes(case: &[i64], s: usize, arcs: usize) -> i64
-    ensures { result ≡ pos (ends_of case.now (belongs case.now s) arcs) }
+// The ends of the station's arcs, as a node set.
+#[tactic(auto, unfolding(crate::specs::law::StationNodes::station_nodes))]
+pub(crate) fn station_nodes(case: &[i64], s: usize) -> i64
+    ensures { result ≡ station_nodes case.now s }
 {
-    ends(case, arcs, |e| belongs(case, s, e))
+    ends(case, |e| belongs(case, s, e))
 }
 
-// The ends of the first `arcs` arcs of kind 0 to 2, as a node set.
-pub(crate) fn plain_nodes(case: &[i64], arcs: usize) -> i64
-    ensures { result ≡ pos (ends_of case.now (plain case.now) arcs) }
+// The ends of the arcs of kind 0 to 2, as a node set.
+#[tactic(auto, unfolding(crate::specs::law::StationNodes::plain_nodes))]
+pub(crate) fn plain_nodes(case: &[i64]) -> i64
+    ensures { result ≡ plain_nodes case.now }
 {
-    ends(case, arcs, |e| plain(case, e))
+    ends(case, |e| plain(case, e))
 }

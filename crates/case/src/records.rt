@@ -1,6 +1,7 @@
 // Nodes, arcs and stations as records by value; read.rt reads them off the list.
-// A kind stays the list's number: document 01 names the form "match on the kind number chooses ranges, flow, pressure and machine rules". So do
-// `bothways` and `active`: a record is read before 11 has said that they are 0 or 1, and a bool would need a place for the others.
+// An arc's kind stays the list's number: document 01 names the form "match on the kind number chooses ranges, flow, pressure and machine rules". So does
+// a node's, as the law's record has a number, and so do `bothways` and `active`: a record is read before 11 has said that they are 0 or 1, and a bool would
+// need a place for the others.
 use super::extents::STATIONS;
 use numbers::answer::Answer;
 
@@ -76,19 +77,26 @@ pub struct Machine {
     pub ratio: i64, // thousandths
 }
 
-// What is found once for a case, so that no judge of a step looks for it again. Its arrays have a room for each station, as there is no heap.
+// What is found once of a station: where its rows begin, and its nodes.
+#[derive(Clone, Copy, Debug, Default, PartialEq, Eq)]
+pub struct Site {
+    pub offset: usize,
+    pub nodes: i64, // a node set
+}
+
+// What is found once for a case, so that no judge of a step looks for it again. Its array has a room for each station, as there is no heap.
 #[derive(Clone, Copy, Debug, PartialEq, Eq)]
 pub struct Layout {
     pub steps: usize,
     pub nodes: usize,
     pub arcs: usize,
     pub stations: usize,
-    pub offsets: [usize; STATIONS], // where each station's rows begin
-    pub inside: [i64; STATIONS], // each station's nodes, a node set
+    pub sites: [Site; STATIONS],
     pub plain: i64, // the nodes that end an arc of kind 0 to 2, a node set
 }
 
-// The answer on a case, and its layout where 10 to 12 have let the list pass. Not a Result: the layout is promised beside a no of 13 to 19 too.
+// The answer on a case, and its layout where 10 to 12 have let the list pass. Not a Result: the layout is promised beside
+// a no of 13 to 17 too, and the promise is public.
 #[derive(Clone, Copy, Debug, PartialEq, Eq)]
 pub struct Laying {
     pub answer: Answer,

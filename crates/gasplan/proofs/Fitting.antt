@@ -65,13 +65,15 @@ settle_told_fits sender receiver agreed v e = go v (settled_sizes.settle_fits se
 no_count : {n : ℕ} {k s p : ℕ} {X : Type 0} → refuses k s p ≡ gives (pos n ∷ []) → X
 no_count e = let v = ap (λ (t : Told). length t.values) e in let f : ⊥ = omega arith in absurd f
 
-pub read_told_fits : (bytes : List ℕ) (room : ℕ) → length bytes < 2 ^ 63 → room < 2 ^ 63 → (v : Count) → count_told v ≡ read_told (read_of bytes room)
+pub read_told_fits : (bytes : List ℕ) (room : ℕ) → length bytes < 2 ^ 63 → room < 2 ^ 63 → (v : Count)
+    → count_told v ≡ read_told (read_of bytes room)
     → Fits count_fits v
 unfolding read_told
 read_told_fits bytes room h k (Ok n) e = omega (arith, count_within bytes room n e)
 read_told_fits bytes room h k (Err n) e = go (read_of bytes room).ended refl e
   where
-    go : (d : Ending) → (read_of bytes room).ended ≡ d → count_told (Err n) ≡ end_told d (length (read_of bytes room).stored) → Fits count_fits (Err n)
+    go : (d : Ending) → (read_of bytes room).ended ≡ d → count_told (Err n) ≡ end_told d (length (read_of bytes room).stored)
+        → Fits count_fits (Err n)
     go all y e = no_count e
     go (no m p) y e = let r = refused_same e in let w = unread_small bytes room y in (omega (arith, w.0), omega arith, omega (arith, w.1))
 

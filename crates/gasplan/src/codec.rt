@@ -9,6 +9,7 @@ ghost use Rattle.gasplan.specs.inside.Fits.{count_told, count_fits};
 use super::tell::{Values, front, tell};
 
 // The numbers of the bytes, into the list. out[0] is their count.
+// Not one function with `gasplan_write`: both are exported to C, over lent arrays of other types.
 // Two wrong answers that the promise rules out: the place of a refusal where the step belongs, and a list that is written though `out` is short.
 #[tactic(auto, using(crate::proofs::Fitting::read_told_fits))]
 #[unsafe(no_mangle)]

@@ -9,7 +9,8 @@ ghost use Rattle.gasplan.specs.inside.Fits.{nothing_told, nothing_fits, totals_f
 use super::tell::{Values, front, tell};
 use plan::totals::Totals;
 
-// Is the list a case? Two wrong answers that the promise rules out: 0 for every list, and a refusal with step and place swapped.
+// Is the list a case? Each exported function looks at its own `out`, which C lends, before anything is computed or written: that test stands in each.
+// Two wrong answers that the promise rules out: 0 for every list, and a refusal with step and place swapped.
 #[tactic(auto, using(crate::proofs::Fitting::case_told_fits))]
 #[unsafe(no_mangle)]
 pub extern "C" fn gasplan_case(case: &[i64], out: &mut [i64]) -> i64

@@ -1,5 +1,6 @@
 -- The first i numbers stand in the line, each in at most 21 places, so that there is room for one more.
-use Rattle.line.proofs.Common.{◌≡◌, sym, ap, ◌∙◌, List, [], ◌∷◌, ◌++◌, ℕ, ◌+◌, ◌<◌, ◌≤◌, arith, ℤ, pos, length, set, length-set}
+use Rattle.line.proofs.Common.{◌≡◌, sym, ap, ◌∙◌, List, [], ◌∷◌, ◌++◌, ℕ, ◌+◌, ◌<◌, ◌≤◌, arith, ℤ, pos, length, set}
+use Rattle.line.proofs.Common.{length-set}
 use mathlib.Core.List.{append_assoc, append-nil}
 use Prim.Native.Nat.{◌*◌}
 use native.Mathlib.Numerals.{add-one}
@@ -21,7 +22,8 @@ pub record Spacing (list : List ℤ) (old : List ℕ) (start : ℕ) (line : List
   pub text : Put old line start (spaced (take i list)) at
 
 module _ {list : List ℤ} {old : List ℕ} {start : ℕ} {line : List ℕ} {at i : ℕ} (s : Spacing list old start line at i) where
-  pub space_turn : {new : List ℕ} {next : ℕ} → i < length list → Put (set line at 32) new (at + 1) (signed (get_or list i (pos 0))) next → next ≤ at + 1 + 20
+  pub space_turn : {new : List ℕ} {next : ℕ} → i < length list → Put (set line at 32) new (at + 1) (signed (get_or list i (pos 0))) next
+      → next ≤ at + 1 + 20
       → Spacing list old start new next (i + 1)
   space_turn {new} h p k =
       let x = get_or list i (pos 0) in

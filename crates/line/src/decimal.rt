@@ -1,4 +1,4 @@
-// Numbers in decimal.
+// Numbers in decimal. Written here and not by a library's `Display`: there is no heap, and the text goes into a lent line.
 ghost use Rattle.std.specs.Prelude.{◌≡◌, ◌+◌, ◌≤◌, length};
 ghost use Rattle.line.specs.law.Decimal.{last_digit, decimal, signed};
 ghost use Rattle.line.specs.inside.Put.{Put};
@@ -6,38 +6,29 @@ ghost use Rattle.line.specs.inside.Put.{Put};
 fn last_digit(n: u64) -> u8
     ensures { result ≡ last_digit n }
 {
-    48 + (n % 10) as u8
+    b'0' + (n % 10) as u8
 }
 
-// How many digits a number has. The loop is no `for`: what is left says when it ends, and nothing is counted through.
-#[tactic(auto, using(crate::proofs::Written::longer, crate::proofs::Written::few_of_all, crate::specs::inside::DigitLaws::one_digit))]
+// How many digits a number has.
+#[tactic(auto, using(crate::proofs::Written::digits_of_log, crate::specs::inside::DigitLaws::one_digit))]
 fn width(n: u64) -> usize
     ensures { result ≡ length (decimal n) }
 {
-    let mut count: usize = 1;
-    let mut rest = n;
-    while 10 <= rest {
-        rest /= 10;
-        count += 1;
-    }
-    count
+    n.checked_ilog10().map_or(1, |d| d as usize + 1)
 }
 
 // The digits from `at` on, the last one first; the place after them is the answer.
-#[tactic(auto, using(crate::proofs::Written::longer, crate::specs::inside::DigitLaws::some_digit))]
+#[tactic(auto, using(crate::specs::inside::DigitLaws::some_digit))]
 fn digits(n: u64, line: &mut [u8], at: usize) -> usize
     requires { at + length (decimal n) ≤ length line.old }
     ensures { Put line.old line.new at (decimal n) result }
 {
     let end = at + width(n);
     let mut rest = n;
-    let mut i = end - 1;
-    while 10 <= rest {
+    for i in (at..end).rev() {
         line[i] = last_digit(rest);
         rest /= 10;
-        i -= 1;
     }
-    line[i] = last_digit(rest);
     end
 }
 

@@ -37,7 +37,7 @@ pub fn line_of(case: &[u8], plan: &[u8], line: &mut [u8]) -> usize
     }
 }
 
-// Is neither file longer than it may be?
+// Is neither file longer than it may be? Two operators under the name that the law has for them.
 fn within(case: &[u8], plan: &[u8]) -> bool
     ensures { result ≡ within_limits case.now plan.now }
 {

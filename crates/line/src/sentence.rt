@@ -13,9 +13,9 @@ fn values(list: &[i64], line: &mut [u8], start: usize) -> usize
     ensures upper_bound { result ≤ start + 21 * length list.now }
 {
     let mut at = start;
-    for x in list {
+    for &x in list {
         line[at] = b' ';
-        at = number(*x, line, at + 1);
+        at = number(x, line, at + 1);
     }
     at
 }

@@ -1,4 +1,4 @@
-// A verdict in words.
+// A verdict in words. `Fit` is asked of a value where it is put into the line, and the public function over these asks nothing.
 ghost use Rattle.std.specs.Prelude.{◌≤◌, ◌^◌, length, Ok, Err};
 ghost use Rattle.plan.specs.law.Judged.{verdict_told};
 ghost use Rattle.plan.specs.inside.VerdictSizes.{Fit};

@@ -83,7 +83,7 @@ pub record Zeros (m zeros : ℕ) : Type 0 where
 
 pub zeros_count : (m zeros : ℕ) → m < 2 ^ 64 → zeros ≡ count_leading_zeros 64 (m / 2 * 2 + 1) → Zeros m zeros
 unfolding groups
-zeros_count m zeros l e =
+zeros_count m n l e =
     let d = leading_length 64 (m / 2 * 2 + 1) (omega (arith, l)) in
     let k : Long (m / 2 * 2 + 1) d.0 = record { below = d.2; top = d.3 } in
     let some = long_some _ _ k (omega arith) in

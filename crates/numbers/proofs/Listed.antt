@@ -13,7 +13,7 @@ use lib.ListN.{length, get_or, drop, length-append, drop_of_length-le}
 use lib.Seq.{sets}
 use Rattle.numbers.specs.law.Told.{gives, refuses}
 use Rattle.numbers.specs.inside.OverlayLaws.{overlay_sets}
-use Rattle.numbers.specs.inside.Pieces.{drop_next, Placing, placing, place_room, place_turn, place_end}
+use Rattle.numbers.specs.inside.Pieces.{drop_next, Placing, place_turn}
 use Rattle.numbers.specs.law.Groups.{groups, encode, write_told, written}
 use Rattle.numbers.specs.inside.GroupLaws.{size_of}
 use Rattle.numbers.specs.law.Mapping.{unsigned_of}
@@ -40,13 +40,7 @@ pub record Sizing (list : List ℤ) (room total i : ℕ) : Type 0 where
   pub held : total ≤ room
   pub sum : total + length (encode (drop i list)) ≡ length (encode list)
 
-pub sizing : (list : List ℤ) (room : ℕ) → Sizing list room 0 0
-sizing list room = record { upto = omega arith; held = omega arith; sum = omega arith }
-
 module _ {list : List ℤ} {room total i w : ℕ} (s : Sizing list room total i) (h : i < length list) (e : w ≡ length (groups_at list i)) where
-  pub size_turn : w ≤ room - total → Sizing list room (total + w) (i + 1)
-  size_turn k = record { upto = omega arith; held = omega (arith, s.held); sum = omega (arith, s.sum, length_from list i h) }
-
   pub size_over : room - total < w → None ≡ size_of list room
   unfolding size_of
   size_over k = rw (lt-leb (length (encode list)) room (omega (arith, s.held, s.sum, length_from list i h)))
@@ -64,19 +58,10 @@ pub record Filling (list : List ℤ) (old bytes : List ℕ) (at i : ℕ) : Type 
   pub upto : i ≤ length list
   pub placed : Placing old bytes 0 (encode list) at (encode (drop i list))
 
-pub filling : (list : List ℤ) (old : List ℕ) → Filling list old old 0 0
-filling list old = record { upto = omega arith; placed = placing old 0 (encode list) }
-
 module _ {list : List ℤ} {old bytes : List ℕ} {at i : ℕ} (f : Filling list old bytes at i) where
-  pub fill_room : i < length list → length (encode list) ≤ length old → at + length (groups_at list i) ≤ length bytes
-  fill_room h k = place_room f.placed (groups_at list i) _ (encode_from list i h) (omega (arith, k))
-
   pub fill_turn : i < length list → {next : List ℕ} {after : ℕ} → next ≡ sets bytes at (groups_at list i)
       → after ≡ at + length (groups_at list i) → Filling list old next after (i + 1)
   fill_turn h e d = record { upto = omega arith; placed = place_turn f.placed (groups_at list i) _ (encode_from list i h) e d }
-
-  pub fill_end : length list ≤ i → bytes ≡ sets old 0 (encode list)
-  fill_end h = (place_end f.placed (encode_past list i h)).1
 
 -- ---- writing
 
@@ -118,3 +103,6 @@ module _ (list : List ℤ) (bytes : List ℕ) where
   pub written_over : length bytes < length (encode list) → bytes ≡ written list bytes
   unfolding written
   written_over h = rw (lt-leb _ _ h)
+
+-- both, by what was counted
+pub ruleset fits_or_not = (fitting, too_long, told_fits, written_fits, told_over, written_over)

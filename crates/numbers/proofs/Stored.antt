@@ -25,7 +25,8 @@ pub read_full : (at : ℕ) (bytes : List ℕ) → at < length bytes → read_fro
 read_full at bytes h = rw (drop-cons bytes at 0 h)
 
 pub read_number : (room at : ℕ) (bytes : List ℕ) → at < length bytes
-    → read_from (suc room) at (drop at bytes) ≡ after_number at (number_of (drop at bytes)) (λ used. read_from room (at + used) (drop used (drop at bytes)))
+    → read_from (suc room) at (drop at bytes)
+    ≡ after_number at (number_of (drop at bytes)) (λ used. read_from room (at + used) (drop used (drop at bytes)))
 read_number room at bytes h = rw (drop-cons bytes at 0 h)
 
 -- ---- the loop over the numbers
@@ -88,3 +89,6 @@ module _ {bytes : List ℕ} {old list : List ℤ} {at count : ℕ} (s : Storing 
         ended = s.ended ∙ ap (λ (x : Read). x.ended) r;
         placed = place_one s.placed (ap (λ (x : Read). x.stored) r);
       }
+
+-- the loop's beginning, and its ends but the one at a number that is refused
+pub ruleset stored = (storing, store_end, store_full)

@@ -3,18 +3,21 @@ ghost use Rattle.std.specs.Prelude.{◌≡◌, ◌&&◌, pos, get_or};
 ghost use Rattle.std.specs.Int.Signed.{le_z};
 ghost use Rattle.numbers.specs.law.Signed.{pos_part};
 
+// The crates above write the operator. Kept, as `same` and `within` are: a public function goes only where docs/DESIGN-PASS.md names what states its promise.
 pub fn at_most(a: i64, b: i64) -> bool
     ensures { result ≡ le_z a b }
 {
     a <= b
 }
 
+// Two operators, under one name where the crates above ask a number between two limits.
 pub fn within(low: i64, x: i64, high: i64) -> bool
     ensures { result ≡ (le_z low x && le_z x high) }
 {
     low <= x && x <= high
 }
 
+// Of both orders.
 pub fn same(a: i64, b: i64) -> bool
     ensures { result ≡ (le_z a b && le_z b a) }
 {
@@ -28,9 +31,9 @@ pub fn at(list: &[i64], i: usize) -> i64
     list.get(i).copied().unwrap_or(0)
 }
 
-// A number that is to be an index: 0 where it is negative.
+// A number that is to be an index: 0 where it is negative, and no Option, since earlier questions have shown that it is not.
 pub fn index(x: i64) -> usize
     ensures { result ≡ pos_part x }
 {
-    if x < 0 { 0 } else { x as usize }
+    x.max(0) as usize
 }

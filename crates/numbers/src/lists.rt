@@ -1,4 +1,4 @@
-// Lists that are made of others.
+// Lists that are made of others. `copy` is public, for those who make such lists.
 ghost use Rattle.std.specs.Prelude.{◌≡◌, ◌+◌, min, length};
 ghost use Rattle.std.proofs.lemmas.List.Edits.{sets};
 
@@ -12,8 +12,6 @@ pub fn copy(from: &[i64], to: &mut [i64], at: usize) -> usize
         return to.len();
     }
     let count = from.len().min(to.len() - at);
-    for i in 0..count {
-        to[at + i] = from[i];
-    }
+    to[at..at + count].copy_from_slice(&from[..count]);
     at + count
 }

@@ -17,6 +17,5 @@ pub fn signed(m: u64) -> i64
     ensures { result ≡ signed_of m }
 {
     let half = (m / 2) as i64;
-    let even = m % 2 == 0;
-    if even { half } else { -half - 1 }
+    if m % 2 == 0 { half } else { -half - 1 }
 }

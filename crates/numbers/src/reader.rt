@@ -5,7 +5,7 @@ ghost use Rattle.numbers.specs.inside.Shifted.{shifted};
 ghost use Rattle.numbers.specs.law.CodecTold.{count_told};
 ghost use Rattle.numbers.specs.law.Told.{overlay};
 
-use crate::answer::No;
+use crate::answer::{No, ask};
 use crate::mapping::signed;
 
 // The number at the front of some bytes, and how many of them it takes.
@@ -18,12 +18,14 @@ pub struct Number {
 // The question that has a "no" there, and how many bytes were asked for: the last of them is the one that is wrong or missing.
 #[derive(Clone, Copy, Debug, PartialEq, Eq)]
 pub struct Wrong {
-    pub number: usize,
+    pub number: usize, // which goes as it is into the `No`
     pub asked: usize,
 }
 
-// The answer is the count of numbers.
+// The answer is the count of numbers. Kept, a `while`, as no plainer: a `for` over the list's places would ask whether bytes are left in each turn and behind
+// the last, and 3 apart from the place that it is about. Kept, the `match`: with `map_err` the proof that the sum in its closure is in range did not close.
 // Wrong answers that the promise rules out: "3" while a place is free, a count with nothing stored, and a number's first byte for the one that is wrong.
+#[tactic(auto, using(crate::proofs::Stored::stored))]
 pub fn read(bytes: &[u8], list: &mut [i64]) -> Result<usize, No>
     ensures result_value { count_told result ≡ read_told (read_of bytes.now (length list.old)) }
     ensures list_after { list.new ≡ overlay (read_of bytes.now (length list.old)).stored list.old }
@@ -31,14 +33,7 @@ pub fn read(bytes: &[u8], list: &mut [i64]) -> Result<usize, No>
     let mut at: usize = 0;
     let mut count: usize = 0;
     while at < bytes.len() {
-        let stored = count;
-        if list.len() <= stored {
-            return Err(No {
-                number: 3,
-                step: 0,
-                place: at,
-            });
-        }
+        ask(count < list.len(), 3, 0, at)?;
         match number_at(bytes, at) {
             Ok(n) => {
                 list[count] = signed(n.value);
@@ -58,6 +53,7 @@ pub fn read(bytes: &[u8], list: &mut [i64]) -> Result<usize, No>
 }
 
 // The number whose first byte is at `at`.
+#[tactic(auto, using(crate::proofs::Gathered::number_one, crate::proofs::Gathered::number_more))]
 fn number_at(bytes: &[u8], at: usize) -> Result<Number, Wrong>
     requires { at < length bytes.now }
     ensures { result ≡ number_of (drop at bytes.now) }
@@ -101,8 +97,7 @@ fn last(b: u64, value: u64, scale: u64, used: usize) -> Result<Number, Wrong>
     requires { (b < 128) × (value < scale) × (scale ≤ 2 ^ 56) × (used ≤ 9) }
     ensures { result ≡ shifted value scale used (last_byte b) }
 {
-    let zero = b == 0;
-    if zero {
+    if b == 0 {
         Err(Wrong {
             number: 2,
             asked: used + 1,
@@ -120,23 +115,18 @@ fn tenth(bytes: &[u8], at: usize, value: u64) -> Result<Number, Wrong>
     requires { value < 2 ^ 63 }
     ensures { result ≡ shifted value (2 ^ 63) 9 (later_bytes 0 (drop at bytes.now)) }
 {
-    if let Some(&b) = bytes.get(at) {
-        let one = b == 1;
-        if one {
-            Ok(Number {
-                value: value + 9223372036854775808,
-                used: 10,
-            })
-        } else {
-            Err(Wrong {
-                number: 2,
-                asked: 10,
-            })
-        }
-    } else {
-        Err(Wrong {
+    match bytes.get(at) {
+        Some(1) => Ok(Number {
+            value: value + 9223372036854775808,
+            used: 10,
+        }),
+        Some(_) => Err(Wrong {
+            number: 2,
+            asked: 10, // which is 0 or above 1
+        }),
+        None => Err(Wrong {
             number: 1,
-            asked: 10,
-        })
+            asked: 10, // which is missing
+        }),
     }
 }

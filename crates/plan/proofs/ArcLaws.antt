@@ -4,7 +4,6 @@ use Rattle.plan.proofs.Common.{◌≡◌, refl, ap, ◌∙◌, ℕ, ◌<◌, ◌
 use Rattle.plan.proofs.Common.{Held, literal, ◌+ʳ◌, ◌-ʳ◌, ◌*ʳ◌, counted}
 use mathlib.Core.List.{List}
 use lib.IntN.{◌*ℤ◌}
-use lib.ListN.{get_or}
 use Rattle.numbers.specs.inside.SignedBounds.{Bounded}
 use Rattle.numbers.specs.inside.SignedLocals.{loosen}
 use Rattle.numbers.specs.law.Sets.{member_of}
@@ -12,7 +11,7 @@ use Rattle.numbers.specs.inside.SumLaws.{abs_sum_le, abs_only_le}
 use Rattle.case.specs.declared.records.Arc.{Arc}
 use Rattle.case.specs.declared.records.Pipe.{Pipe}
 use Rattle.case.specs.declared.records.Artificial.{Artificial}
-use Rattle.case.specs.law.Layout.{number_at, nodes_of, arcs_of, machine_count}
+use Rattle.case.specs.law.Layout.{number_at, nodes_of, arcs_of, stations_of, station_at, machine_count}
 use Rattle.case.specs.law.Records.{arc_of, pipe_of, artificial_of, machine_row}
 use Rattle.plan.specs.declared.rows.ArcRow.{ArcRow}
 use Rattle.plan.specs.declared.step.Step.{Step}
@@ -29,7 +28,7 @@ use Rattle.plan.specs.law.Pipes.{duration, change, pipe_imbalance, pressure_bala
 use Rattle.plan.specs.inside.Sizes.{MachinesSized}
 use Rattle.plan.specs.inside.SettingLaws.{compressing_five}
 use Rattle.plan.specs.inside.Preconditions.{AcceptedCase}
-use Rattle.plan.specs.inside.StepArcs.{AtArc, PastFlows, Compresses, AtFlow, AtPipe}
+use Rattle.plan.specs.inside.StepArcs.{PastFlows, Compresses, AtFlow, AtPipe}
 use Rattle.plan.specs.inside.AnsweredSizes.{arc_sized}
 use Rattle.plan.proofs.SignedReads.{read, read_bounded, sized}
 use Rattle.plan.specs.inside.CaseSizes.{duration_sized, from_node, to_node, pipe_sized, station_in, machines_sized}
@@ -51,9 +50,8 @@ module _ {case : List ℤ} {e : ℕ} (a : AcceptedCase case) (p : e < arcs_of ca
 
 -- ---- past 24 the flows are in range
 
-pub at_flow : {s : Step} {offsets : List ℕ} {e : ℕ} → PastFlows s offsets e → AtFlow s e
-at_flow {s} {e = e} p =
-    record { arc = p.at.arc; flows = arc_sized s.case.now (number_at s.old.now) s.rows.now s.i s.accepted e p.at.arc p.yes }
+pub at_flow : {s : Step} {e : ℕ} → PastFlows s e → AtFlow s e
+at_flow {s} {e} p = record { arc = p.arc; flows = arc_sized s.case.list.now (number_at s.old.now) s.rows.now s.i s.case.yes e p.arc p.yes }
 
 -- ---- 26: the ratio of a station's machines
 
@@ -66,17 +64,19 @@ gain_sized {case} {first} set z =
 
 -- ---- the station of an artificial arc
 
-module _ {s : Step} {l : List ℕ} {e : ℕ} (a : AtArc s l e) (k : 3 ≤ (arc_of s.case.now e).kind) where
-  pub offset_is : {x : Artificial} {r : ℕ} → x ≡ artificial_of s.case.now e → r ≡ get_or l x.station 0 → r ≡ station_offset s.case.now e
-  offset_is q h =
-      h ∙ ap (λ (y : Artificial). get_or l y.station 0) q
-      ∙ a.laid.each (artificial_of s.case.now e).station (station_in s.accepted e a.arc k)
+module _ {case : List ℤ} {e : ℕ} (c : AcceptedCase case) (a : e < arcs_of case) (k : 3 ≤ (arc_of case e).kind) where
+  pub own_in : {x : Artificial} → x ≡ artificial_of case e → x.station < stations_of case
+  own_in q = rw q (station_in c e a k)
 
-  pub offset_machines : {r : ℕ} → r ≡ station_offset s.case.now e → MachinesSized s.case.now r
-  offset_machines h = rw h (machines_sized s.accepted (artificial_of s.case.now e).station (station_in s.accepted e a.arc k))
+  pub offset_machines : {r : ℕ} → r ≡ station_offset case e → MachinesSized case r
+  offset_machines h = rw h (machines_sized c (artificial_of case e).station (station_in c e a k))
 
-  pub compresses : {r u w : ℕ} → r ≡ station_offset s.case.now e → u < nodes_of s.case.now → w < nodes_of s.case.now → Compresses s r e u w
-  compresses h p q = record { arc = a.arc; offset_of = h; machines = offset_machines h; in_node = p; out_node = q }
+pub offset_is : (case : List ℤ) (e : ℕ) {x : Artificial} {r : ℕ} → x ≡ artificial_of case e → r ≡ station_at case x.station → r ≡ station_offset case e
+offset_is case e q h = h ∙ ap (λ (y : Artificial). station_at case y.station) q
+
+pub compresses : (s : Step) {e r u w : ℕ} → e < arcs_of s.case.list.now → 3 ≤ (arc_of s.case.list.now e).kind → r ≡ station_offset s.case.list.now e
+    → u < nodes_of s.case.list.now → w < nodes_of s.case.list.now → Compresses s r e u w
+compresses s a k h p q = record { arc = a; offset_of = h; machines = offset_machines s.case.yes a k h; in_node = p; out_node = q }
 
 -- an arc that compresses is a station's
 pub compressing_kind : (kind : ℕ) (z : ℤ) (way : Way) → setting_of kind z ≡ Active way Compressing → 3 ≤ kind
@@ -109,43 +109,49 @@ pub record SumRead (dt a b c x y z : ℤ) : Type 0 where
       z 100000000000000
 
 module _ {s : Step} {e : ℕ} (p : AtPipe s e) where
-  change_sized : (v : ℕ) → v < nodes_of s.case.now → Bounded (change (number_at s.old.now) s.rows.now v) 400000
+  change_sized : (v : ℕ) → v < nodes_of s.case.list.now → Bounded (change (number_at s.old.now) s.rows.now v) 400000
   change_sized v q = record { bound = (sized (s.pressures.each v q) -ʳ sized (s.before.each v q)).bound }
 
-  pub sum_read : {dt x y : ℤ} {r : ArcRow} {k : Pipe} {n : Arc} → dt ≡ duration s.case.now s.i → r ≡ arc_row s.case.now s.rows.now e
-      → k ≡ pipe_of s.case.now e → n ≡ arc_of s.case.now e → x ≡ change (number_at s.old.now) s.rows.now n.from
+  pub sum_read : {dt x y : ℤ} {r : ArcRow} {k : Pipe} {n : Arc} → dt ≡ duration s.case.list.now s.i → r ≡ arc_row s.case.list.now s.rows.now e
+      → k ≡ pipe_of s.case.list.now e → n ≡ arc_of s.case.list.now e → x ≡ change (number_at s.old.now) s.rows.now n.from
       → y ≡ change (number_at s.old.now) s.rows.now n.to
-      → SumRead dt r.a r.b k.c x y (pipe_imbalance s.case.now (number_at s.old.now) s.rows.now s.i e)
+      → SumRead dt r.a r.b k.c x y (pipe_imbalance s.case.list.now (number_at s.old.now) s.rows.now s.i e)
   unfolding pipe_imbalance
   sum_read {dt} {x} {y} {r} {k} {n} et er ek en ex ey =
-      let z = pipe_sized s.accepted e p.at.arc p.pipe in
-      let d = read et (duration_sized s.accepted s.i s.step) tt in
+      let z = pipe_sized s.case.yes e p.at.arc p.pipe in
+      let d = read et (duration_sized s.case.yes s.i s.step) tt in
       let a = read (ap (λ (u : ArcRow). u.a) er) p.at.flows.a tt in
       let b = read (ap (λ (u : ArcRow). u.b) er) p.at.flows.b tt in
       let c = read (ap (λ (u : Pipe). u.c) ek) z.c tt in
-      let f = read (ex ∙ ap (λ (u : Arc). change (number_at s.old.now) s.rows.now u.from) en) (change_sized _ (from_node s.accepted e p.at.arc)) tt in
-      let t = read (ey ∙ ap (λ (u : Arc). change (number_at s.old.now) s.rows.now u.to) en) (change_sized _ (to_node s.accepted e p.at.arc)) tt in
+      let f = read (ex ∙ ap (λ (u : Arc). change (number_at s.old.now) s.rows.now u.from) en) (change_sized _ (from_node s.case.yes e p.at.arc)) tt in
+      let t = read (ey ∙ ap (λ (u : Arc). change (number_at s.old.now) s.rows.now u.to) en) (change_sized _ (to_node s.case.yes e p.at.arc)) tt in
       record {
         sizes = (read_bounded d, read_bounded a, read_bounded b, read_bounded c, read_bounded f, read_bounded t);
         total = loosen 100000000000000 (omega arith) (d *ʳ (a -ʳ b) -ʳ c *ʳ (f +ʳ t));
       }
 
-  pub imbalance_sized : Bounded (pipe_imbalance s.case.now (number_at s.old.now) s.rows.now s.i e) 100000000000000
+  pub imbalance_sized : Bounded (pipe_imbalance s.case.list.now (number_at s.old.now) s.rows.now s.i e) 100000000000000
   unfolding pipe_imbalance
   imbalance_sized =
       let f = p.at.flows in
-      let z = pipe_sized s.accepted e p.at.arc p.pipe in
-      let x = change_sized (arc_of s.case.now e).from (from_node s.accepted e p.at.arc) in
-      let y = change_sized (arc_of s.case.now e).to (to_node s.accepted e p.at.arc) in
-      let h = sized (duration_sized s.accepted s.i s.step) *ʳ (sized f.a -ʳ sized f.b) -ʳ sized z.c *ʳ (sized x +ʳ sized y) in
+      let z = pipe_sized s.case.yes e p.at.arc p.pipe in
+      let x = change_sized (arc_of s.case.list.now e).from (from_node s.case.yes e p.at.arc) in
+      let y = change_sized (arc_of s.case.list.now e).to (to_node s.case.yes e p.at.arc) in
+      let h = sized (duration_sized s.case.yes s.i s.step) *ʳ (sized f.a -ʳ sized f.b) -ʳ sized z.c *ʳ (sized x +ʳ sized y) in
       record { bound = omega (arith, h.bound) }
 
-  pub balance_sized : Bounded (pressure_balance s.case.now s.rows.now e) 300000000000000
+  pub balance_sized : Bounded (pressure_balance s.case.list.now s.rows.now e) 300000000000000
   unfolding pressure_balance
   balance_sized =
       let f = p.at.flows in
-      let z = pipe_sized s.accepted e p.at.arc p.pipe in
-      let x = sized (s.pressures.each (arc_of s.case.now e).from (from_node s.accepted e p.at.arc)) in
-      let y = sized (s.pressures.each (arc_of s.case.now e).to (to_node s.accepted e p.at.arc)) in
+      let z = pipe_sized s.case.yes e p.at.arc p.pipe in
+      let x = sized (s.pressures.each (arc_of s.case.list.now e).from (from_node s.case.yes e p.at.arc)) in
+      let y = sized (s.pressures.each (arc_of s.case.list.now e).to (to_node s.case.yes e p.at.arc)) in
       let h = literal (pos 1000000) *ʳ (y -ʳ x) +ʳ sized z.f *ʳ sized f.a +ʳ sized z.g *ʳ sized f.b +ʳ sized z.h *ʳ (x +ʳ y) in
       record { bound = omega (arith, h.bound) }
+
+-- ---- rules: of a function that goes by an arc's ends, and of one that goes by its station
+
+pub ruleset end_laws = (from_in, to_in, from_small, to_small, compressing_kind)
+
+pub ruleset station_laws = (own_in, offset_is, compresses, offset_machines)

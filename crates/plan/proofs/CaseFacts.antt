@@ -1,7 +1,9 @@
 -- What an accepted case gives the functions that read it, as facts that a tactic applies by itself: counts that are small, and numbers in range.
 -- Assumes nothing.
-use Rattle.plan.proofs.Common.{◌≡◌, true, ℕ, ◌<◌, ◌≤◌, ne_eqb, ℤ, pos, nat_abs, le_z, counted}
+use Rattle.plan.proofs.Common.{◌≡◌, true, ℕ, ◌<◌, ◌≤◌, ne_eqb, arith, ℤ, pos, nat_abs, le_z, counted}
 use mathlib.Core.List.{List}
+use Rattle.case.specs.declared.records.Layout.{Layout}
+use Rattle.case.specs.law.LayoutOf.{LayoutOf}
 use lib.IntN.{◌*ℤ◌}
 use Rattle.numbers.specs.inside.SignedBounds.{Bounded}
 use Rattle.case.specs.declared.records.Node.{Node}
@@ -29,6 +31,17 @@ few_arcs case a = (counted a).arcs
 
 pub head_counted : (case : List ℤ) → AcceptedCase case → Counted case
 head_counted case a = counted a
+
+-- as the layout has them
+module _ (case : List ℤ) (l : Layout) (a : AcceptedCase case) (d : LayoutOf case l) where
+  pub nodes_fit : l.nodes ≤ 60
+  nodes_fit = omega (arith, d.nodes, (counted a).nodes)
+
+  pub arcs_fit : l.arcs ≤ 120
+  arcs_fit = omega (arith, d.arcs, (counted a).arcs)
+
+  pub stations_fit : l.stations ≤ 8
+  stations_fit = omega (arith, d.stations, (counted a).stations)
 
 -- a node that was read, and its row past 21
 pub node_read : {case : List ℤ} {v i : ℕ} (n : Node) → n ≡ node_of case v i → AcceptedCase case → v < nodes_of case → i < steps_of case → NodeSized n
@@ -62,8 +75,11 @@ module _ (case rows : List ℤ) (e : ℕ) where
   unfolding pipe_pressures_kept
   ends_free k = rw (ne_eqb _ 2 k)
 
--- ---- rules: of a function that counts in an accepted case, of one that asks with ? besides, and of such a one that reads a node, an arc or a pipe
+-- ---- rules: of a function that counts in an accepted case, of one that fills an array by its layout, of one that asks with ? besides, and of such a one
+-- that reads a node, an arc or a pipe
 pub ruleset few = (few_steps, few_nodes, few_arcs, head_counted)
+
+pub ruleset fits = (nodes_fit, arcs_fit, stations_fit)
 
 pub ruleset asked = (questions, few)
 

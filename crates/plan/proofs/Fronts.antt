@@ -1,4 +1,4 @@
--- An array whose front was filled, with the rest behind it as it was.
+-- An array whose front was filled.
 -- Assumes nothing.
 use Rattle.std.specs.Prelude.{◌≡◌, List, ◌++◌, ℕ, ◌<◌, length, get_or}
 use Rattle.std.proofs.Common.{◌∙◌, arith}

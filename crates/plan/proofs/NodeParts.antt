@@ -9,7 +9,7 @@ use lib.IntN.{neg_ℤ}
 use Rattle.numbers.specs.inside.SignedBounds.{Bounded, abs_add, abs_neg}
 use Rattle.numbers.specs.law.Sums.{sum, only}
 use Rattle.numbers.specs.inside.SumLaws.{sum_sub, abs_sum_le}
-use Rattle.case.specs.law.Layout.{nodes_of, arcs_of}
+use Rattle.case.specs.law.Layout.{nodes_of, arcs_of, steps_of}
 use Rattle.case.specs.law.LayoutOf.{Holds}
 use Rattle.plan.specs.declared.rows.NodeRow.{NodeRow}
 use Rattle.case.specs.law.Records.{arc_of}
@@ -17,8 +17,8 @@ use Rattle.plan.specs.law.PlanRecords.{node_row}
 use Rattle.plan.specs.law.Pipes.{is_pipe}
 use Rattle.plan.specs.law.Balance.{flow_at_from, flow_at_to, out_part, in_part, outflow, inflow, net_flow}
 use Rattle.plan.specs.law.Balance.{node_imbalance, node_residual}
-use Rattle.plan.specs.inside.Sizes.{FlowsSized}
-use Rattle.plan.specs.inside.Preconditions.{AcceptedCase, AtBalance}
+use Rattle.plan.specs.inside.Sizes.{FlowsSized, NodesSized}
+use Rattle.plan.specs.inside.Preconditions.{AcceptedCase}
 use Rattle.plan.specs.inside.CaseSizes.{duration_sized, mass_sized}
 use Rattle.plan.proofs.ArcLaws.{from_small, to_small}
 use Rattle.plan.proofs.NetFlows.{put_sized, Gathers, gathers_more, gathers_sized}
@@ -77,23 +77,23 @@ module _ {case rows : List ℤ} (z : FlowsSized case rows) where
 
 -- ---- 33 of one node
 
-module _ {case rows : List ℤ} {i n : ℕ} {net : ℤ} (at : AtBalance case rows i n net) where
-  imbalance_sized : nat_abs (node_imbalance case rows n) ≤ (most_net + 10000000)
+module _ {case rows : List ℤ} {v : ℕ} (c : AcceptedCase case) (f : FlowsSized case rows) (n : NodesSized case rows) (l : v < nodes_of case) where
+  imbalance_sized : nat_abs (node_imbalance case rows v) ≤ (most_net + 10000000)
   unfolding node_imbalance
   imbalance_sized =
-      let d = (node_row rows n).d in
-      let net = (net_sized at.flows at.accepted n).bound in
-      omega (arith, abs_add (net_flow case rows n) (neg_ℤ d), abs_neg d, net, (at.node_rows.each n at.node).d.bound)
+      let d = (node_row rows v).d in
+      let net = (net_sized f c v).bound in
+      omega (arith, abs_add (net_flow case rows v) (neg_ℤ d), abs_neg d, net, (n.each v l).d.bound)
 
-  pub residual_sized : node_residual case rows i n ≤ most_node_residual
+  pub residual_sized : {i : ℕ} → i < steps_of case → node_residual case rows i v ≤ most_node_residual
   unfolding node_residual
-  residual_sized = omega (arith, mul-le-mul (duration_sized at.accepted i at.step).bound imbalance_sized)
+  residual_sized {i} h = omega (arith, mul-le-mul (duration_sized c i h).bound imbalance_sized)
 
   -- the imbalance as it is read
-  pub left_is : {r : NodeRow} → r ≡ node_row rows n
-      → Held (to_z w64 (of_z w64 net) -ℤ to_z w64 (of_z w64 r.d)) (node_imbalance case rows n) (most_net + 10000000)
+  pub left_is : {net : ℤ} {r : NodeRow} → net ≡ net_flow case rows v → r ≡ node_row rows v
+      → Held (to_z w64 (of_z w64 net) -ℤ to_z w64 (of_z w64 r.d)) (node_imbalance case rows v) (most_net + 10000000)
   unfolding node_imbalance
-  left_is q = read at.is (net_sized at.flows at.accepted n) tt -ʳ read (ap (λ (r : NodeRow). r.d) q) (at.node_rows.each n at.node).d tt
+  left_is e q = read e (net_sized f c v) tt -ʳ read (ap (λ (r : NodeRow). r.d) q) (n.each v l).d tt
 
 -- what the loop over the nodes leans on
 pub ruleset balance_laws = (counted, mass_sized, net_sized, residual_sized, sum_n_none, sum_n_more)

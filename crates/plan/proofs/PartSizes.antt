@@ -6,14 +6,13 @@ use Rattle.case.specs.law.Extents.{arc_capacity}
 use Rattle.plan.specs.law.PlanRecords.{node_row}
 use Rattle.plan.specs.law.Totals.{gas_part, pressure_slack_at, demand_slack_at, direction_cost, state_cost, activity_cost}
 use Rattle.plan.specs.inside.SumSizes.{most_part}
-use Rattle.plan.specs.inside.Sizes.{NodeRowSized, NodesSized, PressuresSized}
-use Rattle.plan.specs.inside.Preconditions.{AcceptedCase, ChoicesKept}
+use Rattle.plan.specs.inside.Sizes.{NodeRowSized, NodesSized, FlowsSized, PressuresSized}
+use Rattle.plan.specs.inside.Preconditions.{AcceptedCase, ChoicesKept, StepKept}
 use Rattle.plan.specs.inside.CaseSizes.{counted}
 use Rattle.plan.specs.inside.StepSizes.{gas_small, pressure_slack_le, demand_slack_le, direction_le, state_le, activity_le}
 use Rattle.plan.specs.inside.StepSizes.{pressure_slack_sized, demand_slack_sized, choice_costs_le, activity_costs_le, pipe_residuals_le, node_residuals_le}
 use Rattle.plan.specs.law.Region.{inner_gas, edge_flow, region_supply}
 use Rattle.plan.specs.law.RegionResidual.{own_node, own_pipe}
-use Rattle.plan.specs.inside.RegionPreconditions.{RegionPressures, RegionFlows, RegionStep}
 use Rattle.plan.specs.inside.RegionSizes.{inner_gas_small, edge_small, supply_small, own_node_small, own_pipe_small}
 
 module _ {case : List ℤ} {n : ℕ} (c : AcceptedCase case) (e : n ≡ arcs_of case) where
@@ -50,24 +49,33 @@ gas_part_small {e = e} q c m h l = rw q (omega (arith, gas_small c h e (omega ar
 
 -- ---- of a region
 
-module _ {case p : List ℤ} (inside : ℕ → Bool) {n e : ℕ} {r : ℤ} (q : r ≡ inner_gas case inside (number_at p) e) where
-  pub inner_gas_part : RegionPressures case p → n ≡ arcs_of case → e < n → nat_abs r ≤ most_part
-  inner_gas_part h m l = rw q (omega (arith, inner_gas_small h inside e (omega arith)))
+module _ {case : List ℤ} {p : ℕ → ℤ} (inside : ℕ → Bool) {n e : ℕ} {r : ℤ} (q : r ≡ inner_gas case inside p e) where
+  pub inner_gas_part : AcceptedCase case → PressuresSized p (nodes_of case) → n ≡ arcs_of case → e < n → nat_abs r ≤ most_part
+  inner_gas_part c h m l = rw q (omega (arith, inner_gas_small c h inside e (omega arith)))
 
 module _ {case rows : List ℤ} (inside : ℕ → Bool) {n e : ℕ} {r : ℤ} (q : r ≡ edge_flow case inside rows e) where
-  pub edge_part : RegionFlows case rows → n ≡ arcs_of case → e < n → nat_abs r ≤ most_part
+  pub edge_part : FlowsSized case rows → n ≡ arcs_of case → e < n → nat_abs r ≤ most_part
   edge_part h m l = rw q (omega (arith, edge_small h inside e (omega arith)))
 
 module _ {case rows : List ℤ} (inside : ℕ → Bool) {n v : ℕ} {r : ℤ} (q : r ≡ region_supply inside rows v) where
   pub supply_part : NodesSized case rows → n ≡ nodes_of case → v < n → nat_abs r ≤ most_part
   supply_part h m l = rw q (omega (arith, supply_small h inside v (omega arith)))
 
-module _ {case old rows : List ℤ} {i n k r : ℕ} (inside : ℕ → Bool) (h : RegionStep case old rows i) where
+module _ {case old rows : List ℤ} {i n k r : ℕ} (inside : ℕ → Bool) (c : AcceptedCase case) (h : StepKept case old rows i) where
   pub own_node_part : r ≡ own_node case inside rows i k → n ≡ nodes_of case → k < n → r ≤ most_part
-  own_node_part q m l = omega (arith, own_node_small h inside k (omega arith))
+  own_node_part q m l = omega (arith, own_node_small c h inside k (omega arith))
 
   pub own_pipe_part : r ≡ own_pipe case inside (number_at old) rows i k → n ≡ arcs_of case → k < n → r ≤ most_part
-  own_pipe_part q m l = omega (arith, own_pipe_small h inside k (omega arith))
+  own_pipe_part q m l = omega (arith, own_pipe_small c h inside k (omega arith))
+
+-- a node's row
+pub each_row : (case rows : List ℤ) → NodesSized case rows → (v : ℕ) → v < nodes_of case → NodeRowSized (node_row rows v)
+each_row case rows h = h.each
+
+pub few_rows : (case : List ℤ) → AcceptedCase case → (v : ℕ) → v < nodes_of case → v < 1000000
+few_rows case c v l = omega (arith, (counted c).nodes)
+
+pub ruleset rows = (each_row, few_rows)
 
 -- what a sum over nodes, arcs or stations asks of its parts
 pub ruleset parts = (

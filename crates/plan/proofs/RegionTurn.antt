@@ -17,7 +17,7 @@ use Rattle.plan.specs.law.RegionFigures.{brought_at, residual_at}
 use Rattle.plan.specs.inside.RegionPreconditions.{RegionAdded}
 use Rattle.plan.specs.inside.RegionSizes.{brought_small, residual_small}
 use Rattle.plan.specs.inside.RegionSame.{residual_same}
-use Rattle.plan.specs.inside.RegionLoop.{Gathering, ends_of, step_handed}
+use Rattle.plan.specs.inside.RegionLoop.{Gathering, accepted_case, ends_of, step_handed}
 
 module _ {case plan : List ℤ} (r : PlanRules case plan) where
   pub turn : {inside : ℕ → Bool} {s i : ℕ} {g h : Gathered} {rows : List ℤ} → Gathering case plan inside s i g → i < steps_of case
@@ -25,6 +25,7 @@ module _ {case plan : List ℤ} (r : PlanRules case plan) where
   unfolding sum sum_n brought_at residual_at pressure_at
   turn {inside} {s} {i} {g} {h} {rows} k l e added =
       let d : RegionAdded case inside (step_rows case plan i) i g h = rw e at added in
+      let a = accepted_case r in
       let step = step_handed r {old = g.pressures} i l k.held in
       let count : i + 1 - s ≡ suc (i - s) = omega (arith, k.from) in
       let here : s + (i - s) ≡ i = omega (arith, k.from) in
@@ -36,6 +37,6 @@ module _ {case plan : List ℤ} (r : PlanRules case plan) where
         held = rw next d.pressures;
         brought = rw (count, here) (d.brought ∙ ap (λ (z : ℤ). z +ℤ in_step) k.brought);
         residual = rw (count, here) (d.residual ∙ ap₂ ◌+◌ k.residual same);
-        brought_few = omega (arith, ap nat_abs d.brought, abs_add g.brought in_step, brought_small step inside, k.brought_few);
-        residual_few = omega (arith, d.residual, residual_small step inside, k.residual_few);
+        brought_few = omega (arith, ap nat_abs d.brought, abs_add g.brought in_step, brought_small a step l inside, k.brought_few);
+        residual_few = omega (arith, d.residual, residual_small a step inside, k.residual_few);
       }

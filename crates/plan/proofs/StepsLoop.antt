@@ -1,12 +1,9 @@
 -- The loop over the steps, over plain lists: what holds before the step with index i, one turn, and both ways out.
 use Rattle.std.specs.Prelude.{Ok, Err, Result}
-use Rattle.case.specs.law.Extents.{arc_capacity, node_capacity}
-use Rattle.plan.specs.inside.SumSizes.{most_demand_slack, most_pressure_slack, most_residual, most_step_width, most_switching}
+use Rattle.plan.specs.inside.SumSizes.{most_demand_slack, most_pressure_slack, most_residual, most_switching}
 use Rattle.plan.proofs.Common.{◌≡◌, refl, sym, ap, ap₂, ◌∙◌, ℕ, ◌+◌, ◌-◌, ◌*◌, ◌<◌, ◌≤◌, arith, ℤ, pos, nat_abs, ◌+ℤ◌}
 use mathlib.Core.List.{List}
-use native.Mathlib.Nat.{mul-le-mul}
 use native.Mathlib.Numerals.{add-one}
-use lib.ListN.{take, drop}
 use Rattle.numbers.specs.inside.SignedBounds.{abs_add}
 use Rattle.numbers.specs.declared.answer.No.{No}
 use Rattle.numbers.specs.law.Question.{first_no, found}
@@ -14,12 +11,11 @@ use Rattle.numbers.specs.law.Items.{over}
 use Rattle.numbers.specs.inside.ItemLaws.{rest, rest_on, rest_no, rest_end}
 use Rattle.numbers.specs.law.Sums.{sum, sum_n}
 use Rattle.case.specs.law.Layout.{number_at, nodes_of, steps_of}
-use Rattle.case.specs.law.LayoutOf.{Holds, LayoutOf}
-use Rattle.case.specs.declared.records.Layout.{Layout}
+use Rattle.case.specs.law.LayoutOf.{Holds}
 use Rattle.case.specs.law.States.{active_at_start}
 use Rattle.plan.specs.declared.previous.Previous.{Previous}
 use Rattle.plan.specs.declared.totals.Totals.{Totals}
-use Rattle.plan.specs.law.PlanLayout.{step_at, step_width, step_rows}
+use Rattle.plan.specs.law.PlanLayout.{step_rows}
 use Rattle.plan.specs.law.PlanRecords.{pressure_in, active_in, direction_in, state_in}
 use Rattle.plan.specs.law.BeforeStep.{start_pressure, start_direction, start_state, pressure_at, active_at, direction_chosen, state_chosen}
 use Rattle.plan.specs.inside.PreviousHolds.{Carried, active_of, index_of}
@@ -67,29 +63,15 @@ held_sized h s = record { each = λ v l. record { bound = rw (h.each v l) (s.eac
 pub start_sized : {case : List ℤ} → AcceptedCase case → PressuresSized (start_pressure case) (nodes_of case)
 start_sized a = record { each = λ v l. (node_sized a v l 0 (counted a).some_step).p0 }
 
--- the layout's counts are those of an accepted case, and the plan's length by them is small
-pub record Small (l : Layout) : Type 0 where
-  pub few : (l.nodes ≤ node_capacity) × (l.arcs ≤ arc_capacity) × (l.stations ≤ 8)
-  pub steps : l.steps ≤ 48
-  pub width : l.nodes * 6 + l.arcs * 4 + l.stations * 2 ≤ most_step_width
-  pub all : l.steps * (l.nodes * 6 + l.arcs * 4 + l.stations * 2) ≤ 48 * most_step_width
+-- totals that were made of the gas at the pressures p, before the first step and past the last
+pub opens : {case : List ℤ} {p : ℕ → ℤ} {g : ℤ} {t : Totals} → g ≡ gas_at case p
+    → t ≡ record { pressure = pos 0; demand = pos 0; switching = 0; residual = 0; opening = g; closing = pos 0 } → Opened case p t
+opens h e = rw e (record { pressure = refl; demand = refl; switching = refl; residual = refl; opening = h })
 
-pub small : {case : List ℤ} {l : Layout} → AcceptedCase case → LayoutOf case l → Small l
-small {l = l} a d =
-    let k = counted a in
-    let s : l.steps ≤ 48 = omega (arith, d.steps, k.steps) in
-    let w : l.nodes * 6 + l.arcs * 4 + l.stations * 2 ≤ most_step_width = omega (arith, d.nodes, k.nodes, d.arcs, k.arcs, d.stations, k.stations) in
-    record { few = (omega (arith, d.nodes), omega (arith, d.arcs), omega (arith, d.stations)); steps = s; width = w; all = mul-le-mul s w }
-
-pub width_is : {case : List ℤ} {l : Layout} {w : ℕ} → LayoutOf case l → w ≡ l.nodes * 6 + l.arcs * 4 + l.stations * 2 → w ≡ step_width case
-unfolding step_width
-width_is d e = e ∙ rw (d.nodes, d.arcs, d.stations)
-
--- a step's part of the plan
-pub part_is : {case : List ℤ} (plan : List ℤ) (i : ℕ) {l : Layout} {w : ℕ} {rows : List ℤ} → LayoutOf case l
-    → w ≡ l.nodes * 6 + l.arcs * 4 + l.stations * 2 → rows ≡ take w (drop (2 + i * w) plan) → rows ≡ step_rows case plan i
-unfolding step_rows step_at
-part_is plan i d e h = h ∙ rw (width_is d e)
+pub closes : {case : List ℤ} {p : ℕ → ℤ} {g : ℤ} {t u : Totals} → g ≡ gas_at case p
+    → u ≡ record { pressure = t.pressure; demand = t.demand; switching = t.switching; residual = t.residual; opening = t.opening; closing = g }
+    → Closed case p t u
+closes h e = rw e (record { pressure = refl; demand = refl; switching = refl; residual = refl; opening = refl; closing = h })
 
 module _ {case plan : List ℤ} (a : AcceptedCase case) where
   pub going : {x : Previous} {t : Totals} → Carried case x (start_pressure case) (active_at_start case) (start_direction case) (start_state case)
@@ -208,4 +190,4 @@ finished {case} {plan} a {x} {t} {u} {i} g l d =
     rw (rest_end (plan_step case plan) i (steps_of case) g.asked l, ← p, ← q, ← w, ← v, ← o, ← c)
 
 -- what the loop leans on
-pub ruleset step_loop = (small, held_sized, start_sized, counted)
+pub ruleset step_loop = (held_sized, start_sized, counted)

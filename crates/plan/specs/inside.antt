@@ -24,7 +24,6 @@ pub mod RegionSizes
 pub mod RegionSame
 pub mod StepAlike
 pub mod StepArcs
-pub mod StepStations
 pub mod RegionLoop
 pub mod SmallRefusals
 pub mod StepSizes

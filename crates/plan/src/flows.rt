@@ -7,8 +7,7 @@ ghost use Rattle.plan.specs.law.Compared.{within};
 ghost use Rattle.plan.specs.law.ArcFlows.{flows_kept, machines_within, setting_allowed, arc_numbers_kept, no_flow_against, flow_allowed};
 ghost use Rattle.plan.specs.inside.StepArcs.{flows_asked};
 
-use super::accepted::{arc, artificial};
-use super::rows::{ArcRow, arc_row};
+use super::rows::ArcRow;
 use super::setting::{Setting, Way, setting_of};
 use super::step::Step;
 use case::records::{Arc, Artificial};
@@ -16,6 +15,7 @@ use numbers::answer::{Answer, ask};
 use numbers::compare::within;
 use numbers::sets::subset;
 
+// Both flows of an arc, each in its range: the law says it so for each kind.
 fn both_within(least: i64, a: i64, most: i64, b: i64, back: i64) -> bool
     ensures { result ≡ (within least a most && within least b back) }
 {
@@ -50,11 +50,11 @@ fn setting_allowed(bothways: usize, s: Setting) -> bool
 {
     match s {
         Setting::Unknown => false,
-        Setting::Off => true,
-        Setting::Active { way, .. } => match way {
-            Way::Forward => true,
-            Way::Backward => 1 <= bothways,
-        },
+        Setting::Active {
+            way: Way::Backward,
+            ..
+        } => 1 <= bothways,
+        Setting::Off | Setting::Active { .. } => true,
     }
 }
 
@@ -75,10 +75,14 @@ fn no_flow_against(artificial: bool, s: Setting, r: ArcRow) -> bool
     match s {
         Setting::Unknown => true,
         Setting::Off => r.a == 0 && r.b == 0,
-        Setting::Active { way, .. } => match way {
-            Way::Forward => !artificial || r.b == 0,
-            Way::Backward => !artificial || r.a == 0,
-        },
+        Setting::Active {
+            way: Way::Forward,
+            ..
+        } => !artificial || r.b == 0,
+        Setting::Active {
+            way: Way::Backward,
+            ..
+        } => !artificial || r.a == 0,
     }
 }
 
@@ -96,12 +100,12 @@ fn flow_allowed(c: Arc, r: ArcRow) -> bool
 impl Step<'_> {
     #[tactic(auto, using(crate::proofs::CaseFacts::arc_asked), unfolding(crate::specs::law::ArcRules::flow_questions))]
     pub(crate) fn flow_answer(&self, e: usize) -> Answer
-        requires { e < arcs_of self.now.case.now }
+        requires { e < arcs_of self.now.case.list.now }
         ensures { result ≡ first_no (flows_asked self.now e) }
     {
-        let c = arc(self.case, e);
-        let x = artificial(self.case, e);
-        let r = arc_row(self.case, self.rows, e);
+        let c = self.case.arc(e);
+        let x = self.case.artificial(e);
+        let r = self.case.arc_row(self.rows, e);
         ask(arc_numbers_kept(c, x, r), 24, self.i + 1, e)?;
         ask(flow_allowed(c, r), 25, self.i + 1, e)
     }

@@ -5,18 +5,16 @@ ghost use Rattle.plan.specs.law.Compared.{same};
 ghost use Rattle.numbers.specs.law.Question.{first_no, found};
 ghost use Rattle.numbers.specs.law.Told.{overlay};
 ghost use Rattle.numbers.specs.law.Reading.{read_of};
-ghost use Rattle.case.specs.law.LayoutOf.{LayoutOf};
 ghost use Rattle.plan.specs.law.PlanHead.{head_kept, HeadLaid};
 ghost use Rattle.plan.specs.law.Totals.{totals_of};
 ghost use Rattle.plan.specs.law.Judged.{plan_questions, verdict_told, judge_of};
 ghost use Rattle.plan.specs.law.JudgedBytes.{plan_number, bytes_judged};
 ghost use Rattle.plan.specs.inside.VerdictLaws.{plan_bytes_told, case_list_told, plan_list_after};
-ghost use Rattle.plan.specs.inside.Preconditions.{AcceptedCase};
 
-use super::steps::{step_width, steps};
+use super::accepted::Accepted;
 use super::verdict::Verdict;
 use case::judge::judge_and_lay;
-use case::records::{Laying, Layout};
+use case::records::Laying;
 use numbers::answer::{No, ask};
 use numbers::compare::at;
 use numbers::reader::read;
@@ -30,13 +28,40 @@ fn head_numbers(plan: &[i64], steps: usize) -> bool
     at(plan, 0) == 1 && at(plan, 1) == steps as i64
 }
 
-// 20
-fn head_kept(case: &[i64], plan: &[i64], layout: Layout) -> bool
-    requires { (AcceptedCase case.now) × (LayoutOf case.now layout) }
-    ensures { result ≡ head_kept case.now plan.now }
-{
-    let width = step_width(layout.nodes, layout.arcs, layout.stations);
-    head_numbers(plan, layout.steps) && plan.len() == 2 + layout.steps * width
+impl Accepted<'_> {
+    // 20
+    #[tactic(auto, using(crate::proofs::CaseFacts::few, crate::specs::inside::RegionLoop::parts_near, crate::specs::inside::VerdictLaws::head_told))]
+    fn head_kept(&self, plan: &[i64]) -> bool
+        ensures { result ≡ head_kept self.now.list.now plan.now }
+    {
+        let steps = self.layout.steps;
+        head_numbers(plan, steps) && plan.len() == 2 + steps * self.step_width()
+    }
+
+    // 20 and the steps, for a case that was accepted before the plan bytes were read.
+    #[tactic(auto, using(crate::specs::inside::VerdictLaws::plan_judged))]
+    fn judge_plan(&self, plan: &[i64]) -> Verdict
+        ensures { result ≡ found (first_no (plan_questions self.now.list.now plan.now))
+            (totals_of self.now.list.now plan.now) }
+    {
+        ask(self.head_kept(plan), 20, 0, 0)?;
+        self.steps(plan)
+    }
+
+    // The plan bytes, for a case that has been accepted.
+    fn judge_plan_bytes(&self, planbytes: &[u8], planlist: &mut [i64]) -> Verdict
+        ensures result_value { verdict_told result ≡ plan_bytes_told self.now.list.now planbytes.now (length planlist.old) }
+        ensures planlist_after { planlist.new ≡ overlay (read_of planbytes.now (length planlist.old)).stored planlist.old }
+    {
+        match read(planbytes, planlist) {
+            Ok(count) => self.judge_plan(&planlist[..count]),
+            Err(no) => Err(No {
+                number: plan_number(no.number),
+                step: 0,
+                place: no.place,
+            }),
+        }
+    }
 }
 
 // The case and then 20, with the layout of the case, so that a caller with further questions need not lay it again. Two wrong answers that the
@@ -47,37 +72,32 @@ pub fn judge_head(case: &[i64], plan: &[i64]) -> Laying
     let found = judge_and_lay(case);
     let layout = found.layout;
     match found.answer {
-        Ok(()) => Laying {
-            answer: ask(head_kept(case, plan, layout), 20, 0, 0),
-            layout,
-        },
+        Ok(()) => {
+            let accepted = Accepted {
+                list: case,
+                layout: &layout,
+            };
+            Laying {
+                answer: ask(accepted.head_kept(plan), 20, 0, 0),
+                layout,
+            }
+        }
         Err(_) => found,
     }
 }
 
 // Two wrong answers that the promise rules out: a plan accepted on its first step alone, and totals that are made up.
+#[tactic(auto, using(crate::specs::inside::VerdictLaws::head_laid))]
 pub fn judge(case: &[i64], plan: &[i64]) -> Verdict
     ensures { verdict_told result ≡ judge_of case.now plan.now }
 {
     let head = judge_head(case, plan);
     head.answer?;
-    steps(case, plan, head.layout)
-}
-
-// 20 and the steps, for a case that was accepted before the plan bytes were read.
-fn judge_plan(case: &[i64], plan: &[i64], layout: Layout) -> Verdict
-    requires { (AcceptedCase case.now) × (LayoutOf case.now layout) }
-    ensures { result ≡ found (first_no (plan_questions case.now plan.now))
-        (totals_of case.now plan.now) }
-{
-    if !head_kept(case, plan, layout) {
-        return Err(No {
-            number: 20,
-            step: 0,
-            place: 0,
-        });
-    }
-    steps(case, plan, layout)
+    let accepted = Accepted {
+        list: case,
+        layout: &head.layout,
+    };
+    accepted.steps(plan)
 }
 
 // What 1 to 3 become on plan bytes.
@@ -91,30 +111,19 @@ fn plan_number(number: usize) -> usize
     }
 }
 
-// The plan bytes, for a case that has been accepted.
-fn judge_plan_bytes(case: &[i64], layout: Layout, planbytes: &[u8], planlist: &mut [i64]) -> Verdict
-    requires { (AcceptedCase case.now) × (LayoutOf case.now layout) }
-    ensures result_value { verdict_told result ≡ plan_bytes_told case.now planbytes.now (length planlist.old) }
-    ensures planlist_after { planlist.new ≡ overlay (read_of planbytes.now (length planlist.old)).stored planlist.old }
-{
-    match read(planbytes, planlist) {
-        Ok(count) => judge_plan(case, &planlist[..count], layout),
-        Err(no) => Err(No {
-            number: plan_number(no.number),
-            step: 0,
-            place: no.place,
-        }),
-    }
-}
-
 // The case, and then the plan bytes.
+#[tactic(auto, using(crate::specs::inside::VerdictLaws::case_told))]
 fn judge_case_list(case: &[i64], planbytes: &[u8], planlist: &mut [i64]) -> Verdict
     ensures result_value { verdict_told result ≡ case_list_told case.now planbytes.now (length planlist.old) }
     ensures planlist_after { planlist.new ≡ plan_list_after case.now planbytes.now planlist.old }
 {
     let found = judge_and_lay(case);
     found.answer?;
-    judge_plan_bytes(case, found.layout, planbytes, planlist)
+    let accepted = Accepted {
+        list: case,
+        layout: &found.layout,
+    };
+    accepted.judge_plan_bytes(planbytes, planlist)
 }
 
 // The case bytes are read, the case is judged, the plan bytes are read, the plan is judged. A list that is not reached is unchanged.

@@ -10,7 +10,7 @@ pub mod nodes; // nodes.rt: 21 to 23
 pub mod flows; // flows.rt: 24 and 25
 pub mod machines; // machines.rt: sums over the machines of a set
 pub mod pressures; // pressures.rt: 26 and 27
-pub mod step; // step.rt: one step of a plan, as the rules of arcs read it
+pub mod step; // step.rt: one step of a plan, by what has been answered yes of it
 pub mod pipes; // pipes.rt: 28 and 29
 pub mod arcs; // arcs.rt: 24 to 29 of every arc
 pub mod passes; // passes.rt: what 30 to 32 ask of the arcs, for all stations in one pass

@@ -34,20 +34,29 @@ fn machine_sum<F: Fn(Machine) -> i64>(case: &[i64], offset: usize, set: i64, par
     all
 }
 
-// The sum of their flows.
-#[tactic(auto, unfolding(crate::specs::law::Machines::machine_flow, crate::specs::law::Machines::flow_part))]
-pub(crate) fn machine_flow(case: &[i64], offset: usize, set: i64) -> i64
-    requires { MachinesSized case.now offset }
-    ensures { result ≡ machine_flow case.now offset set }
-{
-    machine_sum(case, offset, set, |m| m.flow)
+// The machines that a set names of a station, whose rows begin at `offset`.
+#[derive(Clone, Copy)]
+pub(crate) struct Machines<'a> {
+    pub(crate) case: &'a [i64],
+    pub(crate) offset: usize,
+    pub(crate) set: i64,
+    ghost sized: { MachinesSized case.now offset },
 }
 
-// The sum of what their ratios are above 1,000.
-#[tactic(auto, unfolding(crate::specs::law::Machines::machine_gain, crate::specs::law::Machines::gain_part))]
-pub(crate) fn machine_gain(case: &[i64], offset: usize, set: i64) -> i64
-    requires { MachinesSized case.now offset }
-    ensures { result ≡ machine_gain case.now offset set }
-{
-    machine_sum(case, offset, set, |m| m.ratio - 1000)
+impl Machines<'_> {
+    // The sum of their flows.
+    #[tactic(auto, unfolding(crate::specs::law::Machines::machine_flow, crate::specs::law::Machines::flow_part))]
+    pub(crate) fn flow(&self) -> i64
+        ensures { result ≡ machine_flow self.now.case.now self.now.offset self.now.set }
+    {
+        machine_sum(self.case, self.offset, self.set, |m| m.flow)
+    }
+
+    // The sum of what their ratios are above 1,000.
+    #[tactic(auto, unfolding(crate::specs::law::Machines::machine_gain, crate::specs::law::Machines::gain_part))]
+    pub(crate) fn gain(&self) -> i64
+        ensures { result ≡ machine_gain self.now.case.now self.now.offset self.now.set }
+    {
+        machine_sum(self.case, self.offset, self.set, |m| m.ratio - 1000)
+    }
 }

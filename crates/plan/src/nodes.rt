@@ -5,12 +5,11 @@ ghost use Rattle.case.specs.law.Layout.{nodes_of, steps_of};
 ghost use Rattle.plan.specs.law.NodeRules.{slack_limit, slacks_kept, boundary_flow_kept, node_numbers_kept, demand_met, active_bounds_kept};
 ghost use Rattle.plan.specs.law.NodeRules.{node_questions, all_node_questions};
 ghost use Rattle.plan.specs.inside.Sizes.{NodeSized, NodeRowSized};
-ghost use Rattle.plan.specs.inside.Preconditions.{AcceptedCase};
 
-use super::accepted::node;
+use super::accepted::Accepted;
 use super::rows::{NodeRow, node_row};
 use case::records::Node;
-use numbers::answer::{Answer, No, ask};
+use numbers::answer::{Answer, ask};
 use numbers::compare::within;
 
 // The upper limit of a slack, 0 at an inner node.
@@ -73,31 +72,27 @@ fn active_bounds_kept(n: Node, r: NodeRow) -> bool
     n.demand == 0 || n.actlow <= r.p + r.uplus && r.p - r.uminus <= n.acthigh
 }
 
-#[tactic(auto, using(crate::proofs::CaseFacts::node_asked), unfolding(crate::specs::law::NodeRules::node_questions))]
-fn node_answer(case: &[i64], rows: &[i64], i: usize, v: usize) -> Answer
-    requires { (AcceptedCase case.now) × (i < steps_of case.now) × (v < nodes_of case.now) }
-    ensures { result ≡ first_no (node_questions case.now rows.now i v) }
-{
-    let n = node(case, v, i);
-    let r = node_row(rows, v);
-    if !numbers_kept(n, r) {
-        return Err(No {
-            number: 21,
-            step: i + 1,
-            place: v,
-        });
+impl Accepted<'_> {
+    #[tactic(auto, using(crate::proofs::CaseFacts::node_asked), unfolding(crate::specs::law::NodeRules::node_questions))]
+    fn node_answer(&self, rows: &[i64], i: usize, v: usize) -> Answer
+        requires { (i < steps_of self.now.list.now) × (v < nodes_of self.now.list.now) }
+        ensures { result ≡ first_no (node_questions self.now.list.now rows.now i v) }
+    {
+        let n = self.node(v, i);
+        let r = node_row(rows, v);
+        ask(numbers_kept(n, r), 21, i + 1, v)?;
+        ask(demand_met(n, r), 22, i + 1, v)?;
+        ask(active_bounds_kept(n, r), 23, i + 1, v)
     }
-    ask(demand_met(n, r), 22, i + 1, v)?;
-    ask(active_bounds_kept(n, r), 23, i + 1, v)
-}
 
-#[tactic(auto, using(crate::proofs::Asked::questions), unfolding(crate::specs::law::NodeRules::all_node_questions))]
-pub(crate) fn node_answers(case: &[i64], rows: &[i64], i: usize, nodes: usize) -> Answer
-    requires { (AcceptedCase case.now) × (i < steps_of case.now) × (nodes ≡ nodes_of case.now) }
-    ensures { result ≡ first_no (all_node_questions case.now rows.now i) }
-{
-    for v in 0..nodes {
-        node_answer(case, rows, i, v)?;
+    #[tactic(auto, using(crate::proofs::CaseFacts::asked), unfolding(crate::specs::law::NodeRules::all_node_questions))]
+    pub(crate) fn node_answers(&self, rows: &[i64], i: usize) -> Answer
+        requires { i < steps_of self.now.list.now }
+        ensures { result ≡ first_no (all_node_questions self.now.list.now rows.now i) }
+    {
+        for v in 0..self.layout.nodes {
+            self.node_answer(rows, i, v)?;
+        }
+        Ok(())
     }
-    Ok(())
 }

@@ -1,35 +1,23 @@
-// 28 and 29, of one pipe.
+// 28 and 29, of one pipe. `Bounded` in a contract is the range of one number, here as elsewhere, and no fact of a value that goes on.
 ghost use Rattle.std.specs.Prelude.{◌≡◌, ◌<◌, ◌^◌, nat_abs, ◌+ℤ◌, ◌-ℤ◌, ◌*ℤ◌};
 ghost use Rattle.numbers.specs.law.Question.{first_no};
 ghost use Rattle.numbers.specs.inside.SignedBounds.{Bounded};
-ghost use Rattle.case.specs.law.Layout.{number_at, steps_of};
+ghost use Rattle.case.specs.law.Layout.{number_at};
 ghost use Rattle.plan.specs.law.PlanRecords.{pressure_in};
-ghost use Rattle.plan.specs.law.Pipes.{duration, change};
-ghost use Rattle.plan.specs.inside.Preconditions.{AcceptedCase};
+ghost use Rattle.plan.specs.law.Pipes.{change};
 ghost use Rattle.plan.specs.inside.StepArcs.{AtFlow, AtPipe, residual_in, balance_in, pipes_asked};
 
-use super::accepted::{arc, pipe};
-use super::rows::{arc_row, pressure};
+use super::rows::pressure;
 use super::step::Step;
-use case::read::{time, time_before};
 use numbers::answer::{Answer, ask};
 use numbers::compare::at;
 
-// The size of a number that is not the least of its type.
+// The size of a number that is not the least of its type. The library's and a cast, said once for 28, 29 and 33.
 pub(crate) fn size(x: i64) -> usize
     requires { nat_abs x < 2 ^ 63 }
     ensures { result ≡ nat_abs x }
 {
     x.unsigned_abs() as usize
-}
-
-// dt
-#[tactic(auto, using(crate::proofs::CaseFacts::few), unfolding(crate::specs::law::Pipes::duration))]
-pub(crate) fn duration(case: &[i64], i: usize) -> i64
-    requires { (AcceptedCase case.now) × (i < steps_of case.now) }
-    ensures { result ≡ duration case.now i }
-{
-    time(case, i) - time_before(case, i)
 }
 
 // What a pipe takes in over a step less what its pressures say that it keeps.
@@ -49,62 +37,66 @@ fn change(old: &[i64], rows: &[i64], v: usize) -> i64
     pressure(rows, v) - at(old, v)
 }
 
-impl Step<'_> {
+// A pipe of a step, whose flows are in range.
+#[derive(Clone, Copy)]
+pub(crate) struct PipeStep<'a> {
+    pub(crate) step: Step<'a>,
+    pub(crate) e: usize,
+    ghost at: { AtPipe step e },
+}
+
+impl PipeStep<'_> {
     // The left side of 28.
-    #[tactic(auto, using(crate::proofs::CaseFacts::few), unfolding(crate::specs::law::Pipes::pipe_residual))]
-    pub(crate) fn pipe_residual(&self, e: usize) -> usize
-        requires { AtPipe self.now e }
-        ensures { result ≡ residual_in self.now e }
+    #[tactic(auto, using(crate::specs::inside::CaseSizes::counted, crate::proofs::ArcLaws::from_in), unfolding(crate::specs::law::Pipes::pipe_residual))]
+    pub(crate) fn residual(&self) -> usize
+        ensures { result ≡ residual_in self.now.step self.now.e }
     {
-        let c = arc(self.case, e);
-        let r = arc_row(self.case, self.rows, e);
-        let x = change(self.old, self.rows, c.from);
-        let y = change(self.old, self.rows, c.to);
-        size(imbalance(
-            duration(self.case, self.i),
-            r.a,
-            r.b,
-            pipe(self.case, e).c,
-            x,
-            y,
-        ))
+        let s = self.step;
+        let c = s.case.arc(self.e);
+        let r = s.case.arc_row(s.rows, self.e);
+        let x = change(s.old, s.rows, c.from);
+        let y = change(s.old, s.rows, c.to);
+        let dt = s.case.duration(s.i);
+        size(imbalance(dt, r.a, r.b, s.case.pipe(self.e).c, x, y))
     }
 
     // The inner side of 29.
     #[tactic(auto, using(crate::proofs::CaseFacts::few))]
-    fn pressure_balance(&self, e: usize) -> i64
-        requires { AtPipe self.now e }
-        ensures { result ≡ balance_in self.now e }
+    fn pressure_balance(&self) -> i64
+        ensures { result ≡ balance_in self.now.step self.now.e }
     {
-        let c = arc(self.case, e);
-        let x = pipe(self.case, e);
-        let r = arc_row(self.case, self.rows, e);
-        let from = pressure(self.rows, c.from);
-        let to = pressure(self.rows, c.to);
+        let s = self.step;
+        let c = s.case.arc(self.e);
+        let x = s.case.pipe(self.e);
+        let r = s.case.arc_row(s.rows, self.e);
+        let from = pressure(s.rows, c.from);
+        let to = pressure(s.rows, c.to);
         1000000 * (to - from) + x.f * r.a + x.g * r.b + x.h * (from + to)
     }
 
     // 28 and 29 of a pipe.
     #[tactic(auto, using(crate::proofs::CaseFacts::pipe_asked), unfolding(crate::specs::law::ArcRules::pipe_questions))]
-    fn pipe_kept(&self, e: usize) -> Answer
-        requires { AtPipe self.now e }
-        ensures { result ≡ first_no (pipes_asked self.now e) }
+    fn answer(&self) -> Answer
+        ensures { result ≡ first_no (pipes_asked self.now.step self.now.e) }
     {
-        let mass = self.pipe_residual(e) as i64;
-        let ends = size(self.pressure_balance(e)) as i64;
-        let most = 1000000 * at(self.case, 6);
-        ask(mass <= at(self.case, 5), 28, self.i + 1, e)?;
-        ask(ends <= most, 29, self.i + 1, e)
+        let case = self.step.case.list;
+        let step = self.step.i + 1;
+        let mass = self.residual() as i64;
+        let ends = size(self.pressure_balance()) as i64;
+        let most = 1000000 * at(case, 6);
+        ask(mass <= at(case, 5), 28, step, self.e)?;
+        ask(ends <= most, 29, step, self.e)
     }
+}
 
+impl Step<'_> {
     #[tactic(auto, using(crate::proofs::CaseFacts::pipe_asked), unfolding(crate::specs::law::ArcRules::pipe_questions))]
     pub(crate) fn pipe_answer(&self, e: usize) -> Answer
         requires { AtFlow self.now e }
         ensures { result ≡ first_no (pipes_asked self.now e) }
     {
-        let kind = arc(self.case, e).kind;
-        match kind {
-            2 => self.pipe_kept(e),
+        match self.case.arc(e).kind {
+            2 => PipeStep { step: *self, e }.answer(),
             _ => Ok(()),
         }
     }

@@ -1,24 +1,22 @@
 // What a step knows of the step before it. Before step 1 it is p0 and the step-0 choices.
-ghost use Rattle.std.specs.Prelude.{◌≡◌, false, ◌≤◌, pos};
-ghost use Rattle.case.specs.law.Extents.{arc_capacity, node_capacity};
-ghost use Rattle.case.specs.law.Layout.{arcs_of, stations_of};
+ghost use Rattle.std.specs.Prelude.{◌≡◌, false, pos};
+ghost use Rattle.case.specs.law.Layout.{nodes_of, arcs_of, stations_of};
 ghost use Rattle.case.specs.law.States.{active_at_start};
-ghost use Rattle.case.specs.inside.Counts.{Counted};
-ghost use Rattle.case.specs.law.LayoutOf.{Holds, LayoutOf};
+ghost use Rattle.case.specs.law.LayoutOf.{Holds};
 ghost use Rattle.plan.specs.law.PlanRecords.{pressure_in, active_in, direction_in, state_in};
 ghost use Rattle.plan.specs.law.BeforeStep.{start_pressure, start_direction, start_state};
 ghost use Rattle.plan.specs.inside.PreviousHolds.{Carried};
 
-use super::arrays::fill;
-use super::rows::{arc_row, choice_of, pressure};
+use super::accepted::Accepted;
+use super::arrays::filled;
+use super::rows::pressure;
 use case::extents::{ARCS, NODES, STATIONS};
 use case::members::active;
 use case::read::{node, station};
-use case::records::Layout;
 use numbers::compare::index;
 
 // Document 01 names the form: "struct with arrays of previous pressures, activities, directions and states, carried by value from step to step".
-#[derive(Clone, Copy)]
+#[derive(Clone, Copy, Debug, PartialEq, Eq)]
 pub struct Previous {
     pub pressures: [i64; NODES],
     pub active: [bool; ARCS],
@@ -26,120 +24,99 @@ pub struct Previous {
     pub states: [usize; STATIONS],
 }
 
-pub(crate) fn start_pressures(case: &[i64], nodes: usize) -> [i64; NODES]
-    requires { nodes ≤ node_capacity }
-    ensures { Holds (pos 0) result (start_pressure case.now) nodes }
-{
-    let mut pressures = [0i64; NODES];
-    fill(&mut pressures[..nodes], |v| node(case, v, 0).p0);
-    pressures
-}
-
-fn start_active(case: &[i64], arcs: usize) -> [bool; ARCS]
-    requires { arcs ≤ arc_capacity }
-    ensures { Holds false result (active_at_start case.now) arcs }
-{
-    let mut on = [false; ARCS];
-    fill(&mut on[..arcs], |e| active(case, e));
-    on
-}
-
-fn start_directions(case: &[i64], layout: Layout) -> [usize; STATIONS]
-    requires { (Counted case.now) × (LayoutOf case.now layout) }
-    ensures { Holds 0 result (start_direction case.now) (stations_of case.now) }
-{
-    let mut directions = [0usize; STATIONS];
-    fill(&mut directions[..layout.stations], |s| {
-        station(case, layout.offsets[s]).direction
-    });
-    directions
-}
-
-fn start_states(case: &[i64], layout: Layout) -> [usize; STATIONS]
-    requires { (Counted case.now) × (LayoutOf case.now layout) }
-    ensures { Holds 0 result (start_state case.now) (stations_of case.now) }
-{
-    let mut states = [0usize; STATIONS];
-    fill(&mut states[..layout.stations], |s| {
-        station(case, layout.offsets[s]).state
-    });
-    states
-}
-
-// Before step 1.
-pub(crate) fn start(case: &[i64], layout: Layout) -> Previous
-    requires { (Counted case.now) × (LayoutOf case.now layout) }
-    ensures { Carried case.now result (start_pressure case.now) (active_at_start case.now)
-        (start_direction case.now) (start_state case.now) }
-{
-    Previous {
-        pressures: start_pressures(case, layout.nodes),
-        active: start_active(case, layout.arcs),
-        directions: start_directions(case, layout),
-        states: start_states(case, layout),
+impl Accepted<'_> {
+    #[tactic(auto, using(crate::proofs::CaseFacts::few, crate::proofs::CaseFacts::fits))]
+    pub(crate) fn start_pressures(&self) -> [i64; NODES]
+        ensures { Holds (pos 0) result (start_pressure self.now.list.now) (nodes_of self.now.list.now) }
+    {
+        filled([0; NODES], self.layout.nodes, |v| node(self.list, v, 0).p0)
     }
-}
 
-pub(crate) fn row_pressures(old: [i64; NODES], rows: &[i64], nodes: usize) -> [i64; NODES]
-    requires { nodes ≤ node_capacity }
-    ensures { Holds (pos 0) result (pressure_in rows.now) nodes }
-{
-    let mut pressures = old;
-    fill(&mut pressures[..nodes], |v| pressure(rows, v));
-    pressures
-}
+    #[tactic(auto, using(crate::proofs::CaseFacts::few, crate::proofs::CaseFacts::fits))]
+    fn start_active(&self) -> [bool; ARCS]
+        ensures { Holds false result (active_at_start self.now.list.now) (arcs_of self.now.list.now) }
+    {
+        filled([false; ARCS], self.layout.arcs, |e| active(self.list, e))
+    }
 
-fn row_active(old: [bool; ARCS], case: &[i64], rows: &[i64], arcs: usize) -> [bool; ARCS]
-    requires { (Counted case.now) × (arcs ≡ arcs_of case.now) }
-    ensures { Holds false result (active_in case.now rows.now) arcs }
-{
-    let mut on = old;
-    fill(&mut on[..arcs], |e| 1 <= arc_row(case, rows, e).setting);
-    on
-}
+    // Directions and states, here and past a step, are filled by one function, `filled`; what is left differs in the field, and a closure for it were longer.
+    #[tactic(auto, using(crate::proofs::CaseFacts::few, crate::proofs::CaseFacts::fits))]
+    fn start_directions(&self) -> [usize; STATIONS]
+        ensures { Holds 0 result (start_direction self.now.list.now) (stations_of self.now.list.now) }
+    {
+        filled([0; STATIONS], self.layout.stations, |s| {
+            station(self.list, self.station_at(s)).direction
+        })
+    }
 
-fn row_directions(
-    old: [usize; STATIONS],
-    case: &[i64],
-    rows: &[i64],
-    stations: usize,
-) -> [usize; STATIONS]
-    requires { (Counted case.now) × (stations ≡ stations_of case.now) }
-    ensures { Holds 0 result (direction_in case.now rows.now) stations }
-{
-    let mut directions = old;
-    fill(&mut directions[..stations], |s| {
-        index(choice_of(case, rows, s).direction)
-    });
-    directions
-}
+    #[tactic(auto, using(crate::proofs::CaseFacts::few, crate::proofs::CaseFacts::fits))]
+    fn start_states(&self) -> [usize; STATIONS]
+        ensures { Holds 0 result (start_state self.now.list.now) (stations_of self.now.list.now) }
+    {
+        filled([0; STATIONS], self.layout.stations, |s| {
+            station(self.list, self.station_at(s)).state
+        })
+    }
 
-fn row_states(
-    old: [usize; STATIONS],
-    case: &[i64],
-    rows: &[i64],
-    stations: usize,
-) -> [usize; STATIONS]
-    requires { (Counted case.now) × (stations ≡ stations_of case.now) }
-    ensures { Holds 0 result (state_in case.now rows.now) stations }
-{
-    let mut states = old;
-    fill(&mut states[..stations], |s| {
-        index(choice_of(case, rows, s).state)
-    });
-    states
-}
+    // Before step 1.
+    pub(crate) fn start(&self) -> Previous
+        ensures { Carried self.now.list.now result (start_pressure self.now.list.now) (active_at_start self.now.list.now)
+            (start_direction self.now.list.now) (start_state self.now.list.now) }
+    {
+        Previous {
+            pressures: self.start_pressures(),
+            active: self.start_active(),
+            directions: self.start_directions(),
+            states: self.start_states(),
+        }
+    }
 
-// Past a step, whose part of the plan is `rows`.
-pub(crate) fn after(previous: Previous, case: &[i64], rows: &[i64], layout: Layout) -> Previous
-    requires { (Counted case.now) × (LayoutOf case.now layout) }
-    ensures { Carried case.now result (pressure_in rows.now) (active_in case.now rows.now)
-        (direction_in case.now rows.now) (state_in case.now rows.now) }
-{
-    Previous {
-        pressures: row_pressures(previous.pressures, rows, layout.nodes),
-        active: row_active(previous.active, case, rows, layout.arcs),
-        directions: row_directions(previous.directions, case, rows, layout.stations),
-        states: row_states(previous.states, case, rows, layout.stations),
+    #[tactic(auto, using(crate::proofs::CaseFacts::few, crate::proofs::CaseFacts::fits))]
+    pub(crate) fn row_pressures(&self, old: [i64; NODES], rows: &[i64]) -> [i64; NODES]
+        ensures { Holds (pos 0) result (pressure_in rows.now) (nodes_of self.now.list.now) }
+    {
+        filled(old, self.layout.nodes, |v| pressure(rows, v))
+    }
+
+    #[tactic(auto, using(crate::proofs::CaseFacts::few, crate::proofs::CaseFacts::fits))]
+    fn row_active(&self, old: [bool; ARCS], rows: &[i64]) -> [bool; ARCS]
+        ensures { Holds false result (active_in self.now.list.now rows.now) (arcs_of self.now.list.now) }
+    {
+        filled(
+            old,
+            self.layout.arcs,
+            |e| 1 <= self.arc_row(rows, e).setting,
+        )
+    }
+
+    #[tactic(auto, using(crate::proofs::CaseFacts::few, crate::proofs::CaseFacts::fits))]
+    fn row_directions(&self, old: [usize; STATIONS], rows: &[i64]) -> [usize; STATIONS]
+        ensures { Holds 0 result (direction_in self.now.list.now rows.now) (stations_of self.now.list.now) }
+    {
+        filled(old, self.layout.stations, |s| {
+            index(self.choice_of(rows, s).direction)
+        })
+    }
+
+    #[tactic(auto, using(crate::proofs::CaseFacts::few, crate::proofs::CaseFacts::fits))]
+    fn row_states(&self, old: [usize; STATIONS], rows: &[i64]) -> [usize; STATIONS]
+        ensures { Holds 0 result (state_in self.now.list.now rows.now) (stations_of self.now.list.now) }
+    {
+        filled(old, self.layout.stations, |s| {
+            index(self.choice_of(rows, s).state)
+        })
+    }
+
+    // Past a step, whose part of the plan is `rows`.
+    pub(crate) fn after(&self, previous: Previous, rows: &[i64]) -> Previous
+        ensures { Carried self.now.list.now result (pressure_in rows.now) (active_in self.now.list.now rows.now)
+            (direction_in self.now.list.now rows.now) (state_in self.now.list.now rows.now) }
+    {
+        Previous {
+            pressures: self.row_pressures(previous.pressures, rows),
+            active: self.row_active(previous.active, rows),
+            directions: self.row_directions(previous.directions, rows),
+            states: self.row_states(previous.states, rows),
+        }
     }
 }

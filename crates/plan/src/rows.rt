@@ -1,12 +1,12 @@
 // The rows of one step as records by value, read off the step's part of the plan list. A number past the end reads as 0.
 ghost use Rattle.std.specs.Prelude.{◌≡◌, ◌<◌};
-ghost use Rattle.case.specs.law.Layout.{arcs_of, stations_of, nodes_of};
-ghost use Rattle.case.specs.inside.Counts.{Counted};
+ghost use Rattle.case.specs.law.Layout.{arcs_of, stations_of};
 ghost use Rattle.plan.specs.law.PlanRecords.{node_row, pressure_in, arc_row, choice_of};
 
-use numbers::compare::{at, index};
+use super::accepted::Accepted;
+use numbers::compare::at;
 
-#[derive(Clone, Copy)]
+#[derive(Clone, Copy, Debug, PartialEq, Eq)]
 pub struct NodeRow {
     pub p: i64,
     pub d: i64,
@@ -16,7 +16,7 @@ pub struct NodeRow {
     pub uminus: i64,
 }
 
-#[derive(Clone, Copy)]
+#[derive(Clone, Copy, Debug, PartialEq, Eq)]
 pub struct ArcRow {
     pub a: i64,
     pub b: i64,
@@ -25,7 +25,7 @@ pub struct ArcRow {
 }
 
 // A station's row.
-#[derive(Clone, Copy)]
+#[derive(Clone, Copy, Debug, PartialEq, Eq)]
 pub struct Choice {
     pub direction: i64,
     pub state: i64,
@@ -54,29 +54,30 @@ pub(crate) fn pressure(rows: &[i64], v: usize) -> i64
     at(rows, v * 6)
 }
 
-pub(crate) fn arc_row(case: &[i64], rows: &[i64], e: usize) -> ArcRow
-    requires { (Counted case.now) × (e < arcs_of case.now) }
-    ensures { result ≡ arc_row case.now rows.now e }
-{
-    let nodes = index(at(case, 1));
-    let offset = nodes * 6 + e * 4;
-    ArcRow {
-        a: at(rows, offset),
-        b: at(rows, offset + 1),
-        setting: at(rows, offset + 2),
-        machines: at(rows, offset + 3),
+impl Accepted<'_> {
+    #[tactic(auto, using(crate::proofs::CaseFacts::few))]
+    pub(crate) fn arc_row(&self, rows: &[i64], e: usize) -> ArcRow
+        requires { e < arcs_of self.now.list.now }
+        ensures { result ≡ arc_row self.now.list.now rows.now e }
+    {
+        let offset = self.layout.nodes * 6 + e * 4;
+        ArcRow {
+            a: at(rows, offset),
+            b: at(rows, offset + 1),
+            setting: at(rows, offset + 2),
+            machines: at(rows, offset + 3),
+        }
     }
-}
 
-pub(crate) fn choice_of(case: &[i64], rows: &[i64], s: usize) -> Choice
-    requires { (Counted case.now) × (s < stations_of case.now) }
-    ensures { result ≡ choice_of case.now rows.now s }
-{
-    let nodes = index(at(case, 1));
-    let arcs = index(at(case, 2));
-    let offset = nodes * 6 + arcs * 4 + s * 2;
-    Choice {
-        direction: at(rows, offset),
-        state: at(rows, offset + 1),
+    #[tactic(auto, using(crate::proofs::CaseFacts::few))]
+    pub(crate) fn choice_of(&self, rows: &[i64], s: usize) -> Choice
+        requires { s < stations_of self.now.list.now }
+        ensures { result ≡ choice_of self.now.list.now rows.now s }
+    {
+        let offset = self.layout.nodes * 6 + self.layout.arcs * 4 + s * 2;
+        Choice {
+            direction: at(rows, offset),
+            state: at(rows, offset + 1),
+        }
     }
 }

@@ -3,15 +3,13 @@
 ghost use Rattle.std.specs.Prelude.{◌≡◌};
 ghost use Rattle.plan.specs.law.Setting.{directed, combined_of, valve_of, active_of, setting_of};
 
-use numbers::compare::index;
-
-#[derive(Clone, Copy)]
+#[derive(Clone, Copy, Debug, PartialEq, Eq)]
 pub enum Way {
     Forward,
     Backward,
 }
 
-#[derive(Clone, Copy)]
+#[derive(Clone, Copy, Debug, PartialEq, Eq)]
 pub enum Mode {
     Open,
     Regulating,
@@ -19,7 +17,7 @@ pub enum Mode {
 }
 
 // A number that stands for nothing at the arc's kind is unknown.
-#[derive(Clone, Copy)]
+#[derive(Clone, Copy, Debug, PartialEq, Eq)]
 pub enum Setting {
     Unknown,
     Off,
@@ -87,14 +85,9 @@ fn active(kind: usize, n: usize) -> Setting
 pub(crate) fn setting_of(kind: usize, number: i64) -> Setting
     ensures { result ≡ setting_of kind number }
 {
-    if 0 <= number {
-        let n = index(number);
-        if n == 0 {
-            Setting::Off
-        } else {
-            active(kind, n)
-        }
-    } else {
-        Setting::Unknown
+    match usize::try_from(number) {
+        Ok(0) => Setting::Off,
+        Ok(n) => active(kind, n),
+        Err(_) => Setting::Unknown,
     }
 }

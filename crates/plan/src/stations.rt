@@ -1,21 +1,17 @@
 // 30 to 32, of every station of a step.
-ghost use Rattle.std.specs.Prelude.{◌≡◌};
+ghost use Rattle.std.specs.Prelude.{◌≡◌, ◌<◌};
 ghost use Rattle.numbers.specs.law.Question.{first_no};
+ghost use Rattle.case.specs.law.Layout.{stations_of};
 ghost use Rattle.case.specs.law.Records.{state_row};
 ghost use Rattle.case.specs.inside.InSet.{in_both};
-ghost use Rattle.case.specs.law.LayoutOf.{LayoutOf};
 ghost use Rattle.plan.specs.law.StationRules.{one_of, obeyed, choice_kept, fence_flow_kept, fence_node_kept, fence_flows_kept};
 ghost use Rattle.plan.specs.law.StationRules.{station_questions, all_station_questions};
 ghost use Rattle.plan.specs.inside.StationPass.{active_bits, GatheredOf, FlowsPassed};
-ghost use Rattle.plan.specs.inside.Sizes.{FlowsSized};
-ghost use Rattle.plan.specs.inside.Preconditions.{MachinesKept};
-ghost use Rattle.plan.specs.inside.StepStations.{AtStation};
 
-use super::passes::{Gathered, artificial_flows, gather};
-use super::rows::choice_of;
-use super::step::Step;
+use super::passes::Gathered;
+use super::step::Passed;
 use case::read::{direction, state, station};
-use case::records::{Direction, Layout};
+use case::records::Direction;
 use numbers::answer::{Answer, ask};
 use numbers::compare::index;
 use numbers::sets::{disjoint, member, subset};
@@ -61,20 +57,21 @@ fn fence_kept(chosen: Direction, inside: i64, plain: i64, v: usize, flow: i64) -
     true
 }
 
-impl Step<'_> {
+impl Passed<'_> {
     // 30
     #[tactic(auto, using(crate::proofs::StationParts::choice_laws), unfolding(crate::specs::inside::Opened::choice))]
-    fn choice_kept(&self, layout: Layout, s: usize, active: usize) -> bool
-        requires { (AtStation self.now layout s) × (active ≡ active_bits self.now.case.now self.now.rows.now s) }
-        ensures { result ≡ choice_kept self.now.case.now self.now.rows.now s }
+    fn choice_kept(&self, s: usize, active: usize) -> bool
+        requires { (s < stations_of self.now.step.case.list.now) × (active ≡ active_bits self.now.step.case.list.now self.now.step.rows.now s) }
+        ensures { result ≡ choice_kept self.now.step.case.list.now self.now.step.rows.now s }
     {
-        let offset = layout.offsets[s];
-        let has = station(self.case, offset);
-        let chosen = choice_of(self.case, self.rows, s);
+        let case = self.step.case;
+        let offset = case.station_at(s);
+        let has = station(case.list, offset);
+        let chosen = case.choice_of(self.step.rows, s);
         one_of(chosen.direction, has.directions)
             && one_of(chosen.state, has.states)
             && state_obeyed(
-                self.case,
+                case.list,
                 offset,
                 active as i64,
                 index(chosen.direction),
@@ -84,18 +81,19 @@ impl Step<'_> {
 
     // 32
     #[tactic(auto, using(crate::proofs::StationParts::fence_laws), unfolding(crate::specs::law::StationRules::fence_flows_kept))]
-    fn fence_flows_kept(&self, layout: Layout, s: usize, flows: &[i64]) -> bool
-        requires { (AtStation self.now layout s) × (FlowsPassed self.now.case.now self.now.rows.now flows.now) }
-        ensures { result ≡ fence_flows_kept self.now.case.now self.now.rows.now s }
+    fn fence_flows_kept(&self, s: usize, flows: &[i64]) -> bool
+        requires { (s < stations_of self.now.step.case.list.now) × (FlowsPassed self.now.step.case.list.now self.now.step.rows.now flows.now) }
+        ensures { result ≡ fence_flows_kept self.now.step.case.list.now self.now.step.rows.now s }
     {
+        let case = self.step.case;
         let chosen = direction(
-            self.case,
-            layout.offsets[s],
-            index(choice_of(self.case, self.rows, s).direction),
+            case.list,
+            case.station_at(s),
+            index(case.choice_of(self.step.rows, s).direction),
         );
-        let inside = layout.inside[s];
-        let plain = layout.plain;
-        for v in 0..layout.nodes {
+        let inside = case.layout.sites[s].nodes;
+        let plain = case.layout.plain;
+        for v in 0..case.layout.nodes {
             if !fence_kept(chosen, inside, plain, v, flows[v]) {
                 return false;
             }
@@ -104,27 +102,26 @@ impl Step<'_> {
     }
 
     // `own` is what was gathered of the station's arcs, `flows` are the net flows into artificial arcs.
-    #[tactic(auto, using(crate::proofs::Asked::questions), unfolding(crate::specs::law::StationRules::station_questions))]
-    fn station_answer(&self, layout: Layout, s: usize, own: Gathered, flows: &[i64]) -> Answer
-        requires { (AtStation self.now layout s) × (GatheredOf self.now.case.now self.now.rows.now s own) ×
-            (FlowsPassed self.now.case.now self.now.rows.now flows.now) }
-        ensures { result ≡ first_no (station_questions self.now.case.now self.now.rows.now self.now.i s) }
+    #[tactic(auto, using(crate::proofs::CaseFacts::asked), unfolding(crate::specs::law::StationRules::station_questions))]
+    fn station_answer(&self, s: usize, own: Gathered, flows: &[i64]) -> Answer
+        requires { (s < stations_of self.now.step.case.list.now) × (GatheredOf self.now.step.case.list.now self.now.step.rows.now s own) ×
+            (FlowsPassed self.now.step.case.list.now self.now.step.rows.now flows.now) }
+        ensures { result ≡ first_no (station_questions self.now.step.case.list.now self.now.step.rows.now self.now.step.i s) }
     {
-        ask(self.choice_kept(layout, s, own.active), 30, self.i + 1, s)?;
-        ask(own.once, 31, self.i + 1, s)?;
-        ask(self.fence_flows_kept(layout, s, flows), 32, self.i + 1, s)
+        let step = self.step.i + 1;
+        ask(self.choice_kept(s, own.active), 30, step, s)?;
+        ask(own.once, 31, step, s)?;
+        ask(self.fence_flows_kept(s, flows), 32, step, s)
     }
 
     #[tactic(auto, using(crate::proofs::StationParts::choice_laws), unfolding(crate::specs::law::StationRules::all_station_questions))]
-    pub(crate) fn station_answers(&self, layout: Layout) -> Answer
-        requires { (LayoutOf self.now.case.now layout) × (FlowsSized self.now.case.now self.now.rows.now) ×
-            (MachinesKept self.now.case.now self.now.rows.now) }
-        ensures { result ≡ first_no (all_station_questions self.now.case.now self.now.rows.now self.now.i) }
+    pub(crate) fn station_answers(&self) -> Answer
+        ensures { result ≡ first_no (all_station_questions self.now.step.case.list.now self.now.step.rows.now self.now.step.i) }
     {
-        let own = gather(self.case, self.rows, layout.arcs);
-        let flows = artificial_flows(self.case, self.rows, layout.arcs);
-        for s in 0..layout.stations {
-            self.station_answer(layout, s, own[s], &flows)?;
+        let own = self.gather();
+        let flows = self.artificial_flows();
+        for s in 0..self.step.case.layout.stations {
+            self.station_answer(s, own[s], &flows)?;
         }
         Ok(())
     }

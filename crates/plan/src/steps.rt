@@ -1,107 +1,27 @@
 // One step, and every step of a plan, one after the other.
-ghost use Rattle.std.specs.Prelude.{◌≡◌, ◌++◌, ◌+◌, ◌*◌, ◌≤◌, length, take, drop};
+ghost use Rattle.std.specs.Prelude.{◌≡◌, ◌++◌, ◌+◌, ◌*◌, ◌<◌, ◌≤◌, length, take, drop};
 ghost use Rattle.numbers.specs.law.Question.{first_no, found};
 ghost use Rattle.numbers.specs.law.Items.{over};
-ghost use Rattle.case.specs.law.Extents.{arc_capacity, node_capacity};
+ghost use Rattle.case.specs.law.Layout.{number_at, nodes_of, steps_of};
+ghost use Rattle.plan.specs.law.PlanLayout.{step_rows};
 ghost use Rattle.plan.specs.inside.SumSizes.{most_step_width};
-ghost use Rattle.case.specs.law.Layout.{number_at, nodes_of, arcs_of, steps_of};
-ghost use Rattle.case.specs.law.LayoutOf.{LayoutOf};
 ghost use Rattle.plan.specs.law.StationRules.{all_station_questions};
 ghost use Rattle.plan.specs.law.Balance.{all_balance_questions};
 ghost use Rattle.plan.specs.law.Step.{step_questions};
 ghost use Rattle.plan.specs.law.Judged.{plan_step};
 ghost use Rattle.plan.specs.law.Totals.{node_residuals, totals_of};
-ghost use Rattle.plan.specs.inside.Sizes.{PressuresSized, FlowsSized, NodesSized};
-ghost use Rattle.plan.specs.inside.StepTotals.{Opened, Closed};
-ghost use Rattle.plan.specs.inside.Preconditions.{AcceptedCase, AtStep, MachinesKept, PlanLaid};
+ghost use Rattle.plan.specs.inside.Sizes.{PressuresSized};
+ghost use Rattle.plan.specs.inside.Preconditions.{PlanLaid};
 
-use super::balance::balance;
-use super::nodes::node_answers;
-use super::previous::{Previous, after, start};
-use super::step::Step;
-use super::totals::{Totals, added, gas};
+use super::accepted::Accepted;
+use super::previous::Previous;
+use super::step::{Passed, Step};
+use super::totals::Totals;
 use super::verdict::Verdict;
-use case::records::Layout;
 use numbers::answer::No;
 
-impl Step<'_> {
-    // Past the arcs: every station, and then the balance of every node.
-    #[tactic(auto, using(crate::proofs::Asked::questions))]
-    fn past_arcs(&self, layout: Layout) -> Result<usize, No>
-        requires { (LayoutOf self.now.case.now layout) × (FlowsSized self.now.case.now self.now.rows.now) ×
-            (NodesSized self.now.case.now self.now.rows.now) × (MachinesKept self.now.case.now self.now.rows.now) }
-        ensures { result ≡ found (first_no (all_station_questions self.now.case.now self.now.rows.now self.now.i
-            ++ all_balance_questions self.now.case.now self.now.rows.now self.now.i))
-            (node_residuals self.now.case.now self.now.rows.now self.now.i) }
-    {
-        self.station_answers(layout)?;
-        balance(self.case, self.rows, layout, self.i)
-    }
-}
-
-// Every question of a step, whose part of the plan is `rows`.
-#[tactic(auto, using(crate::proofs::Asked::questions, crate::proofs::StepGroups::answered), unfolding(crate::specs::law::Step::step_questions))]
-fn step(
-    case: &[i64],
-    rows: &[i64],
-    previous: Previous,
-    layout: Layout,
-    i: usize,
-) -> Result<usize, No>
-    requires { (AtStep case.now layout i) × (PressuresSized (number_at previous.pressures) (nodes_of case.now)) }
-    ensures { result ≡ found (first_no (step_questions case.now (number_at previous.pressures) rows.now i))
-        (node_residuals case.now rows.now i) }
-{
-    let old = previous.pressures;
-    node_answers(case, rows, i, layout.nodes)?;
-    let at = Step {
-        case,
-        old: &old,
-        rows,
-        i,
-    };
-    at.arc_answers(layout)?;
-    at.past_arcs(layout)
-}
-
-// No totals yet, but for the gas before step 1.
-fn opened(case: &[i64], previous: Previous, arcs: usize) -> Totals
-    requires { (AcceptedCase case.now) × (arcs ≡ arcs_of case.now) × (PressuresSized (number_at previous.pressures) (nodes_of case.now)) }
-    ensures { Opened case.now (number_at previous.pressures) result }
-{
-    let old = previous.pressures;
-    Totals {
-        pressure: 0,
-        demand: 0,
-        switching: 0,
-        residual: 0,
-        opening: gas(case, &old, arcs),
-        closing: 0,
-    }
-}
-
-// The totals with the gas past the last step.
-fn closed(totals: Totals, case: &[i64], previous: Previous, arcs: usize) -> Totals
-    requires { (AcceptedCase case.now) × (arcs ≡ arcs_of case.now) × (PressuresSized (number_at previous.pressures) (nodes_of case.now)) }
-    ensures { Closed case.now (number_at previous.pressures) totals result }
-{
-    let old = previous.pressures;
-    Totals {
-        closing: gas(case, &old, arcs),
-        ..totals
-    }
-}
-
-// How many numbers a step has.
-pub(crate) fn step_width(nodes: usize, arcs: usize, stations: usize) -> usize
-    requires { (nodes ≤ node_capacity) × (arcs ≤ arc_capacity) × (stations ≤ 8) }
-    ensures { result ≡ nodes * 6 + arcs * 4 + stations * 2 }
-{
-    nodes * 6 + arcs * 4 + stations * 2
-}
-
-// The plan's part for the step with index `i`.
-pub(crate) fn part_of(plan: &[i64], i: usize, width: usize) -> &[i64]
+// The plan's part for the step with index `i`, where each step has `width` numbers.
+fn part_of(plan: &[i64], i: usize, width: usize) -> &[i64]
     requires { (i ≤ 48) × (width ≤ most_step_width) × (2 + i * width + width ≤ length plan.now) }
     ensures { result.now ≡ take width (drop (2 + i * width) plan.now) }
 {
@@ -110,22 +30,62 @@ pub(crate) fn part_of(plan: &[i64], i: usize, width: usize) -> &[i64]
     &plan[offset..end]
 }
 
-// A step judge that waves a step through falls to the promise, as does one that looks at the first step's part alone.
-#[tactic(auto, using(crate::proofs::Asked::questions, crate::proofs::StepsLoop::step_loop))]
-pub(crate) fn steps(case: &[i64], plan: &[i64], layout: Layout) -> Verdict
-    requires { (AcceptedCase case.now) × (LayoutOf case.now layout) × (PlanLaid case.now plan.now) }
-    ensures { result ≡ found (first_no (over (plan_step case.now plan.now) 0 (steps_of case.now)))
-        (totals_of case.now plan.now) }
-{
-    let arcs = layout.arcs;
-    let width = step_width(layout.nodes, arcs, layout.stations);
-    let mut previous = start(case, layout);
-    let mut totals = opened(case, previous, arcs);
-    for i in 0..layout.steps {
-        let rows = part_of(plan, i, width);
-        let residual = step(case, rows, previous, layout, i)?;
-        totals = added(totals, case, rows, previous, layout, i, residual);
-        previous = after(previous, case, rows, layout);
+impl Passed<'_> {
+    // Past the arcs: every station, and then the balance of every node.
+    #[tactic(auto, using(crate::proofs::Asked::questions))]
+    fn past_arcs(&self) -> Result<usize, No>
+        ensures { result ≡ found (first_no (all_station_questions self.now.step.case.list.now self.now.step.rows.now self.now.step.i
+            ++ all_balance_questions self.now.step.case.list.now self.now.step.rows.now self.now.step.i))
+            (node_residuals self.now.step.case.list.now self.now.step.rows.now self.now.step.i) }
+    {
+        self.station_answers()?;
+        self.balance()
     }
-    Ok(closed(totals, case, previous, arcs))
+}
+
+impl Accepted<'_> {
+    // Every question of a step, whose part of the plan is `rows`.
+    #[tactic(auto, using(crate::proofs::Asked::questions, crate::proofs::StepGroups::answered), unfolding(crate::specs::law::Step::step_questions))]
+    fn step(&self, previous: Previous, rows: &[i64], i: usize) -> Result<usize, No>
+        requires { (i < steps_of self.now.list.now) × (PressuresSized (number_at previous.pressures) (nodes_of self.now.list.now)) }
+        ensures { result ≡ found (first_no (step_questions self.now.list.now (number_at previous.pressures) rows.now i))
+            (node_residuals self.now.list.now rows.now i) }
+    {
+        self.node_answers(rows, i)?;
+        let step = Step {
+            case: *self,
+            old: &previous.pressures,
+            rows,
+            i,
+        };
+        step.arc_answers()?;
+        Passed { step }.past_arcs()
+    }
+
+    // The plan's part for the step with index `i`.
+    #[tactic(auto, using(crate::proofs::CaseRows::parts), unfolding(crate::specs::law::PlanLayout::step_rows, crate::specs::law::PlanLayout::step_at))]
+    pub(crate) fn step_rows<'p>(&self, plan: &'p [i64], i: usize) -> &'p [i64]
+        requires { (i < steps_of self.now.list.now) × (PlanLaid self.now.list.now plan.now) }
+        ensures { result.now ≡ step_rows self.now.list.now plan.now i }
+    {
+        part_of(plan, i, self.step_width())
+    }
+
+    // A step judge that waves a step through falls to the promise, as does one that looks at the first step's part alone.
+    #[tactic(auto, using(crate::proofs::Asked::questions, crate::proofs::StepsLoop::step_loop))]
+    pub(crate) fn steps(&self, plan: &[i64]) -> Verdict
+        requires { PlanLaid self.now.list.now plan.now }
+        ensures { result ≡ found (first_no (over (plan_step self.now.list.now plan.now) 0 (steps_of self.now.list.now)))
+            (totals_of self.now.list.now plan.now) }
+    {
+        let mut previous = self.start();
+        let mut totals = Totals::opened(self.gas_at(previous.pressures));
+        for i in 0..self.layout.steps {
+            let rows = self.step_rows(plan, i);
+            let residual = self.step(previous, rows, i)?;
+            totals = totals.added(self, previous, rows, i, residual);
+            previous = self.after(previous, rows);
+        }
+        Ok(totals.closed(self.gas_at(previous.pressures)))
+    }
 }

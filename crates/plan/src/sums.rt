@@ -18,7 +18,8 @@ pub(crate) fn sum<F: Fn(usize) -> i64>(n: usize, part: F) -> i64
     all
 }
 
-// The same of parts without a sign.
+// The same of parts without a sign. Not one function over a trait: zero, sum and size would be members of it with three laws, in two impls, to save four
+// lines.
 pub(crate) fn sum_n<F: Fn(usize) -> usize>(n: usize, part: F) -> usize
     requires few { n ≤ arc_capacity }
     requires each { (i : ℕ) → i < n → F.pre part i }

@@ -4,6 +4,7 @@ pub mod Merging
 pub mod RecordLaws
 pub mod LookUpLaws
 pub mod TimeCounts
+pub mod PairCounts
 pub mod MergingLaws
 pub mod Asked
 pub mod ToldLaws

@@ -35,7 +35,8 @@ fn rises(meter: &[i64], i: usize) -> bool
     }
 }
 
-// One question of each row; the first that does not pass is the "no".
+// One question of each row; the first that does not pass is the "no". As `each` of `case`,
+// whose loop it cannot share: a function over a closure asks something of its caller, and no public function may.
 fn each_row<F: Fn(usize) -> bool>(meter: &[i64], number: usize, passes: F) -> Answer
     requires { (i : _) → i < rows_of meter.now → F.pre passes i }
     ensures { (test : _) → Tested (F.post passes) test (rows_of meter.now)
@@ -61,7 +62,7 @@ fn masses(meter: &[i64]) -> Answer
     each_row(meter, 62, |i| in_grams(grams(meter, i)))
 }
 
-// 60: are the rows of both whole and few, and is the agreed figure in range?
+// 60: are the rows of both whole and few, and is the agreed figure in range? Of `settle`'s own parameters: past 62 they are `Records`.
 fn records_kept(sender: &[i64], receiver: &[i64], agreed: i64) -> bool
     ensures { result ≡ (whole_rows sender.now && (whole_rows receiver.now && in_grams agreed)) }
 {

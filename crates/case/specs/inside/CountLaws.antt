@@ -15,10 +15,6 @@ use Rattle.case.specs.law.StationArcs.{belongs, arcs_before, arc_bit, arc_set, e
 use Rattle.case.specs.law.StationNodes.{with_node, with_ends, ends_of}
 use Rattle.case.specs.inside.FieldLaws.{and_first, and_second}
 
-only_le : (b : Bool) → only_n b 1 ≤ 1
-only_le true = omega arith
-only_le false = omega arith
-
 -- ---- counts
 
 module _ (w : ℕ → Bool) where

@@ -110,3 +110,6 @@ module _ (case : List ℤ) where
 
     pub list_narrow : StationsNarrow case
     list_narrow = record { each = λ s p. row_narrow (station_at case s) (station_yes s p) }
+
+-- rules: what 10 to 12 let pass
+pub ruleset list_laws = (list_counted, list_stations, list_narrow)

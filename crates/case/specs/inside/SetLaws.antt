@@ -20,14 +20,13 @@ use Rattle.case.specs.law.Extents.{set_room}
 use Rattle.case.specs.law.Layout.{arcs_of}
 use Rattle.case.specs.law.Records.{arc_of}
 use Rattle.case.specs.law.StationArcs.{belongs, arcs_before, arc_bit, arc_set}
-use Rattle.case.specs.law.StationNodes.{with_node, ends_of, station_nodes, plain, plain_nodes}
+use Rattle.case.specs.law.StationNodes.{with_node, ends_of, station_nodes, plain, plain_nodes, fence_node}
 use Rattle.case.specs.law.StationFields.{first_items}
 use Rattle.case.specs.law.Directions.{only_fence}
 use Rattle.case.specs.inside.FieldLaws.{and_first, and_second}
 use Rattle.case.specs.claims.Says.{Between}
 use Rattle.case.specs.claims.CaseRules.{Ends}
 use Rattle.case.specs.inside.SaysLaws.{subset_says}
-use Rattle.case.specs.inside.InSet.{in_both}
 use Rattle.case.specs.inside.CountLaws.{before_yes, before_mono, arcs_lt, every_at, at_every}
 
 -- ---- items of a union, and of a set of one item
@@ -218,16 +217,18 @@ module _ (fence : ℕ → Bool) (set : ℤ) where
   pub only_members : Between (pos 0) set (first_items set_room) → only_fence fence set ≡ true → (v : ℕ) → member_of set v ≡ true → fence v ≡ true
   only_members r = only_at (node_set r)
 
--- by its members, or within both of the sets of which a fence node is in both
-pub only_both : (inside plain set : ℤ) → pos_part set < 2 ^ set_room → (subset_of set inside && subset_of set plain) ≡ only_fence (in_both inside plain) set
-unfolding in_both
-only_both inside plain set h =
-    either (subset_of set inside && subset_of set plain) (only_fence (in_both inside plain) set)
-    (λ e. at_only (in_both inside plain) set (λ v m. both _ _
+-- by its members, or within the station's nodes and within those that end an arc of kind 0 to 2
+pub fence_of : (case : List ℤ) (s : ℕ) (set : ℤ) → pos_part set < 2 ^ set_room
+    → only_fence (fence_node case s) set ≡ (subset_of set (station_nodes case s) && subset_of set (plain_nodes case))
+fence_of case s set h =
+    let inside = station_nodes case s in
+    let plain = plain_nodes case in
+    either (only_fence (fence_node case s) set) (subset_of set inside && subset_of set plain)
+    (λ e. both _ _ ((subset_says set inside).passed (λ v m. and_first _ _ (only_at (fence_node case s) set h e v m)))
+    ((subset_says set plain).passed (λ v m. and_second (member_of inside v) _ (only_at (fence_node case s) set h e v m))))
+    (λ e. at_only (fence_node case s) set (λ v m. both _ _
     ((subset_says set inside).fact (and_first _ _ e) v m)
     ((subset_says set plain).fact (and_second (subset_of set inside) _ e) v m)))
-    (λ e. both _ _ ((subset_says set inside).passed (λ v m. and_first _ _ (only_at (in_both inside plain) set h e v m)))
-    ((subset_says set plain).passed (λ v m. and_second (member_of inside v) _ (only_at (in_both inside plain) set h e v m))))
   where
     both : (a b : Bool) → a ≡ true → b ≡ true → (a && b) ≡ true
     both a b p q = rw (p, q)

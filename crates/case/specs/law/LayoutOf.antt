@@ -3,6 +3,7 @@
 -- Assumes nothing.
 use Rattle.std.specs.Prelude.{◌≡◌, List, ℕ, ◌<◌, ◌≤◌, ℤ, pos, get_or, replicate, Ok, Err}
 use Rattle.case.specs.declared.records.Layout.{Layout}
+use Rattle.case.specs.declared.records.Site.{Site}
 use Rattle.case.specs.law.Layout.{nodes_of, arcs_of, stations_of, steps_of, station_at}
 use Rattle.case.specs.law.StationNodes.{station_nodes, plain_nodes}
 use Rattle.numbers.specs.law.Question.{first_no, told, no_at}
@@ -17,18 +18,22 @@ pub record Holds {A : Type 0} (none : A) (xs : List A) (f : ℕ → A) (n : ℕ)
 pub record Clear {A : Type 0} (none : A) (xs : List A) (n : ℕ) : Type 0 where
   pub each : (i : ℕ) → n ≤ i → get_or xs i none ≡ none
 
--- the layout's arrays have a place for each of 8 stations, with 0 past the case's own
+-- where a station's rows begin, and its nodes
+abbrev pub site_of : List ℤ → ℕ → Site
+site_of case s = record { offset = station_at case s; nodes = station_nodes case s }
+
+abbrev pub no_site : Site
+no_site = record { offset = 0; nodes = pos 0 }
+
+-- the layout's array has a place for each of 8 stations, with zeros past the case's own
 pub record LayoutOf (case : List ℤ) (l : Layout) : Type 0 where
   pub steps : l.steps ≡ steps_of case
   pub nodes : l.nodes ≡ nodes_of case
   pub arcs : l.arcs ≡ arcs_of case
   pub stations : l.stations ≡ stations_of case
-  -- where each station's rows begin
-  pub offsets : Holds 0 l.offsets (station_at case) (stations_of case)
-  pub offsets_past : Clear 0 l.offsets (stations_of case)
-  -- each station's nodes
-  pub inside : Holds (pos 0) l.inside (station_nodes case) (stations_of case)
-  pub inside_past : Clear (pos 0) l.inside (stations_of case)
+  -- where each station's rows begin, and its nodes
+  pub sites : Holds no_site l.sites (site_of case) (stations_of case)
+  pub sites_past : Clear no_site l.sites (stations_of case)
   -- the nodes that end an arc of kind 0 to 2
   pub plain : l.plain ≡ plain_nodes case
 
@@ -38,8 +43,7 @@ no_layout = record {
   nodes = 0;
   arcs = 0;
   stations = 0;
-  offsets = replicate 8 0;
-  inside = replicate 8 (pos 0);
+  sites = replicate 8 no_site;
   plain = pos 0;
 }
 

@@ -1,6 +1,7 @@
 -- Digits are right: they read back as the number, no 0 stands in front, and a number below 10^k has at most k.
 -- Assumes nothing.
-use Rattle.std.specs.Prelude.{◌≡◌, refl, List, [], ◌∷◌, ◌++◌, ℕ, zero, suc, ◌+◌, ◌*◌, ◌-◌, ◌/◌, ◌^◌, ◌≤◌, ◌<◌, length, get_or}
+use Rattle.std.specs.Prelude.{◌≡◌, refl, List, [], ◌∷◌, ◌++◌, ℕ, zero, suc, ◌+◌, ◌*◌, ◌-◌, ◌/◌, ◌^◌, ◌≤◌, ◌<◌}
+use Rattle.std.specs.Prelude.{length, get_or}
 use Rattle.std.proofs.Common.{ap, sym, ◌∙◌, pow-suc, arith, length-append}
 use Rattle.line.specs.law.Decimal.{last_digit, decimal}
 use Rattle.line.specs.inside.DigitLaws.{one_digit, more_digits, by_digits, some_digit}

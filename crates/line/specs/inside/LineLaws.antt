@@ -34,5 +34,6 @@ spaced_above (x ∷ list) =
     above_append 31 (32 ∷ signed x) (spaced list) (omega arith, looser 31 32 (signed x) (omega arith) (signed_above x)) (spaced_above list)
 
 -- a refusal's number is not 0
-pub refusal_line : (number step place : ℕ) → 1 ≤ number → line_of (refuses number step place) ≡ sentence_of refused (pos number ∷ pos step ∷ pos place ∷ [])
+pub refusal_line : (number step place : ℕ) → 1 ≤ number
+    → line_of (refuses number step place) ≡ sentence_of refused (pos number ∷ pos step ∷ pos place ∷ [])
 refusal_line number step place h = rw (ne_eqb number 0 (λ e. omega arith))

@@ -13,16 +13,17 @@ pub record Put (old new : List ℕ) (at : ℕ) (text : List ℕ) (next : ℕ) : 
   pub after : next ≡ at + length text
   pub room : next ≤ length old
 
--- nothing
-pub put_none : (old : List ℕ) (at : ℕ) → at ≤ length old → Put old old at [] at
-put_none old at h = record { line = refl; after = omega arith; room = h }
-
 -- one character
 pub put_one : (old : List ℕ) (at b : ℕ) → at < length old → Put old (set old at b) at (b ∷ []) (at + 1)
 put_one old at b h = record { line = refl; after = omega arith; room = omega arith }
 
+-- nothing
+pub put_none : (old : List ℕ) (at : ℕ) → at ≤ length old → Put old old at [] at
+put_none old at h = record { line = refl; after = omega arith; room = h }
+
 -- a character, and the text after it
-pub put_first : (old : List ℕ) (at b : ℕ) {new text : List ℕ} {next : ℕ} → Put (set old at b) new (at + 1) text next → Put old new at (b ∷ text) next
+pub put_first : (old : List ℕ) (at b : ℕ) {new text : List ℕ} {next : ℕ} → Put (set old at b) new (at + 1) text next
+    → Put old new at (b ∷ text) next
 put_first old at b {text = text} p = record {
   line = p.line ∙ ap (λ (k : ℕ). sets (set old at b) k text) (add-one at);
   after = omega (arith, p.after);
@@ -30,7 +31,8 @@ put_first old at b {text = text} p = record {
 }
 
 -- two texts, one after the other
-pub put_both : {old mid new : List ℕ} {at then next : ℕ} {xs ys : List ℕ} → Put old mid at xs then → Put mid new then ys next → Put old new at (xs ++ ys) next
+pub put_both : {old mid new : List ℕ} {at then next : ℕ} {xs ys : List ℕ} → Put old mid at xs then → Put mid new then ys next
+    → Put old new at (xs ++ ys) next
 put_both {old} {at = at} {xs = xs} {ys = ys} p q = record {
   line = q.line ∙ rw (p.line, p.after) (sym (sets_append old at xs ys));
   after = omega (arith, p.after, q.after, length-append xs ys);
@@ -47,8 +49,8 @@ put_front text old h e d = record {
 }
 
 -- what stands at the front then
-pub put_overlay : {old new text : List ℕ} {next : ℕ} → Put old new 0 text next → new ≡ overlay text old
-put_overlay {old} {text = text} p = p.line ∙ overlay_sets text old (omega (arith, p.after, p.room))
+pub put_overlay : {old new text : List ℕ} {next : ℕ} → Put old new 0 text next → (next ≡ length text) × (new ≡ overlay text old)
+put_overlay {old} {text = text} p = (p.after ∙ omega arith, p.line ∙ overlay_sets text old (omega (arith, p.after, p.room)))
 
 -- what is put is counted
 pub put_counts : {old new text : List ℕ} {at next : ℕ} → Put old new at text next → Counts next new

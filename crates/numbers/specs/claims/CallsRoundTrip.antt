@@ -1,7 +1,8 @@
 -- The round trip, said of the calls: what `write` leaves in the lent bytes, `read` takes back, and what `read` leaves in the lent list, `write` makes the
 -- bytes of. It is carried by the round trip of the definitions (`RoundTrip`): a count that a call answers is the count of what it left at the front.
 -- Assumes nothing.
-use Rattle.std.specs.Prelude.{◌≡◌, refl, Bool, true, false, cond, List, [], ◌∷◌, ℕ, ◌≤◌, leb, ℤ, pos, nat_abs, length, get_or, take, drop, Ok, Err}
+use Rattle.std.specs.Prelude.{◌≡◌, refl, Bool, true, false, cond, List, [], ◌∷◌, ℕ, ◌≤◌, leb, ℤ, pos, nat_abs, length, get_or, take, drop}
+use Rattle.std.specs.Prelude.{Ok, Err}
 use Rattle.std.proofs.Common.{ap, sym, ◌∙◌, arith, le-leb}
 use Rattle.std.proofs.Math.Seq.{take-append_seam}
 use Rattle.numbers.specs.law.Told.{Told, gives, refuses, overlay}

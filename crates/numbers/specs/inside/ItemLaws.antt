@@ -30,24 +30,6 @@ module _ (f : ℕ → List Question) (i n : ℕ) {all : Answer} (so_far : all �
   pub rest_end : n ≤ i → all ≡ Ok tt
   rest_end p = so_far ∙ rest_done f i n p
 
--- the loop's invariant: items before i have no "no", so that all n together answer what those from i on do
-pub record Asking (f : ℕ → List Question) (all : Answer) (i n : ℕ) : Type 0 where
-  pub upto : i ≤ n
-  pub so_far : all ≡ rest f i n
-
-pub asking : {f : ℕ → List Question} {n m : ℕ} → n ≡ m → Asking f (first_no (over f 0 m)) 0 n
-asking {n = n} {m = m} e = record { upto = omega arith; so_far = let d : n - 0 ≡ m = omega (arith, e) in rw d }
-
-module _ {f : ℕ → List Question} {all : Answer} {i n : ℕ} (a : Asking f all i n) where
-  pub asking_on : {one : Answer} → i < n → one ≡ first_no (f i) → one ≡ Ok tt → Asking f all (i + 1) n
-  asking_on p e y = record { upto = omega arith; so_far = rest_on f i n a.so_far p e y }
-
-  pub asking_no : {one : Answer} {x : No} → i < n → one ≡ first_no (f i) → one ≡ Err x → one ≡ all
-  asking_no p e y = sym (rest_no f i n a.so_far p e y)
-
-  pub asking_end : n ≤ i → Ok tt ≡ all
-  asking_end p = sym (rest_end f i n a.so_far p)
-
 -- no item of those from i on has a no, where none of them together has
 pub over_yes : (f : ℕ → List Question) (i c : ℕ) → first_no (over f i c) ≡ Ok tt → (j : ℕ) → j < c → first_no (f (i + j)) ≡ Ok tt
 over_yes f i zero e j p = let b : ⊥ = omega arith in absurd b

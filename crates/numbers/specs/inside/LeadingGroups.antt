@@ -1,6 +1,7 @@
 -- The groups of a number but for its last, and what is left of the number after them.
 -- Assumes nothing.
-use Rattle.std.specs.Prelude.{◌≡◌, refl, Bool, true, false, List, [], ◌∷◌, ◌++◌, ℕ, zero, suc, ◌+◌, ◌*◌, ◌/◌, ◌%◌, ◌^◌, ◌≤◌, ◌<◌, ltb, length}
+use Rattle.std.specs.Prelude.{◌≡◌, refl, Bool, true, false, List, [], ◌∷◌, ◌++◌, ℕ, zero, suc, ◌+◌, ◌*◌, ◌/◌, ◌%◌, ◌^◌}
+use Rattle.std.specs.Prelude.{◌≤◌, ◌<◌, ltb, length}
 use Rattle.std.proofs.Common.{ap, ◌∙◌, pow-suc, arith, ltb-true, ltb-false, length-append, shr-shr}
 use Rattle.std.proofs.Math.Nat.{one-le-pow}
 use Rattle.numbers.specs.law.Groups.{groups, groups_up_to}
@@ -58,7 +59,8 @@ parted zero (suc k) m h e = let f : ⊥ = omega (arith, e) in absurd f
 parted (suc more) k m h e = go k (ltb m 128) refl (λ j. parted more j (m / 128) (omega (arith, h, pow-suc 128 more))) e
   where
     go : (k : ℕ) (b : Bool) → ltb m 128 ≡ b
-        → ((j : ℕ) → length (groups_up_to more (m / 128)) ≡ suc j → (groups_up_to more (m / 128) ≡ in_groups j (m / 128)) × (past j (m / 128) < 128))
+        → ((j : ℕ) → length (groups_up_to more (m / 128)) ≡ suc j
+        → (groups_up_to more (m / 128) ≡ in_groups j (m / 128)) × (past j (m / 128) < 128))
         → length (groups_up_to (suc more) m) ≡ suc k → (groups_up_to (suc more) m ≡ in_groups k m) × (past k m < 128)
     go zero true t again e = let l = ltb-true m 128 t in (one_group (suc more) m l, l)
     go (suc k) true t again e = let f : ⊥ = omega (arith, e, ap length (one_group (suc more) m (ltb-true m 128 t))) in absurd f

@@ -1,6 +1,7 @@
 -- Bounds of a reading: a number takes a byte at least, counts are within the room, places are bytes or their end, and the numbers of refusals are 1 to 3.
 -- Assumes nothing.
-use Rattle.std.specs.Prelude.{◌≡◌, Bool, true, false, cond, List, [], ◌∷◌, ℕ, zero, suc, ◌+◌, ◌-◌, ◌≤◌, ltb, leb, eqb, pos, get_or, drop, Ok, Err}
+use Rattle.std.specs.Prelude.{◌≡◌, Bool, true, false, cond, List, [], ◌∷◌, ℕ, zero, suc, ◌+◌, ◌-◌, ◌≤◌, ltb, leb, eqb, pos, get_or}
+use Rattle.std.specs.Prelude.{drop, Ok, Err}
 use Rattle.std.proofs.Math.Path.{ap, subst}
 use native.Mathlib.Omega.{arith}
 use Rattle.std.proofs.Math.IntN.{nat_abs}

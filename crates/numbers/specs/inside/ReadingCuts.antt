@@ -226,7 +226,8 @@ read_cut zero place (b ∷ bytes) = (
 read_cut (suc room) place [] = tt
 read_cut (suc room) place (b ∷ bytes) = go (λ p l. read_cut room p l) (number_of (b ∷ bytes)) refl
   where
-    go : ((p : ℕ) (l : List ℕ) → Cut room p l (read_from room p l).stored (read_from room p l).ended) → (r : NumberRead) → number_of (b ∷ bytes) ≡ r
+    go : ((p : ℕ) (l : List ℕ) → Cut room p l (read_from room p l).stored (read_from room p l).ended) → (r : NumberRead)
+        → number_of (b ∷ bytes) ≡ r
         → Cut (suc room) place (b ∷ bytes) (after_number place r (λ used. read_from room (place + used) (drop used (b ∷ bytes)))).stored
         (after_number place r (λ used. read_from room (place + used) (drop used (b ∷ bytes)))).ended
     go again (Ok one) n =

@@ -1,9 +1,9 @@
 -- Sizes of signed numbers, |z| ≤ n, by their positive and negative parts.
 -- Assumes nothing.
-use Rattle.std.specs.Prelude.{◌≡◌, refl, true, false, ℕ, suc, ◌+◌, ◌*◌, ◌≤◌, max, ℤ, pos, negsuc, neg_ℤ, nat_abs, ◌+ℤ◌, ◌-ℤ◌, ◌*ℤ◌, ◌≤ℤ◌}
+use Rattle.std.specs.Prelude.{◌≡◌, refl, ℕ, suc, ◌+◌, ◌*◌, ◌≤◌, ℤ, pos, negsuc, neg_ℤ, nat_abs, ◌+ℤ◌, ◌*ℤ◌}
 use Rattle.std.proofs.Common.{arith}
-use Rattle.std.specs.Int.Signed.{mag, lt_z}
-use Rattle.numbers.specs.inside.SignedParts.{added, taken, pos_part_neg, neg_part_neg, size_parts, size, ints}
+use Rattle.std.specs.Int.Signed.{mag}
+use Rattle.numbers.specs.inside.SignedParts.{added, pos_part_neg, neg_part_neg, size_parts}
 
 pub record Bounded (z : ℤ) (n : ℕ) : Type 0 where
   pub bound : nat_abs z ≤ n
@@ -23,14 +23,3 @@ abs_mul (negsuc a) (negsuc b) = refl
 pub mag≤ : (z : ℤ) → mag z ≤ nat_abs z
 mag≤ (pos n) = omega arith
 mag≤ (negsuc n) = omega arith
-
--- the two arms of an absolute value
-pub abs_below : (z : ℤ) → lt_z z (pos 0) ≡ true → pos 0 -ℤ z ≡ pos (nat_abs z)
-abs_below z e = omega (ints, taken (pos 0) z, size z)
-
-pub abs_above : (z : ℤ) → lt_z z (pos 0) ≡ false → z ≡ pos (nat_abs z)
-abs_above z e = omega (ints, size z)
-
--- a bound from two tests
-pub between : {z lo hi : ℤ} → lo ≤ℤ z → z ≤ℤ hi → Bounded z (max (nat_abs lo) (nat_abs hi))
-between {z} {lo} {hi} h k = record { bound = omega (ints, size z, size lo, size hi) }

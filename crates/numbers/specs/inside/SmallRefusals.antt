@@ -35,7 +35,8 @@ module _ (b : ℕ) where
 
   -- one item after another, each asked only where those before it have no "no"
   pub small_over : (f : ℕ → List Question) (i c : ℕ)
-      → ((j : ℕ) → j < c → ((m : ℕ) → m < j → first_no (f (i + m)) ≡ Ok tt) → Small b (first_no (f (i + j)))) → Small b (first_no (over f i c))
+      → ((j : ℕ) → j < c → ((m : ℕ) → m < j → first_no (f (i + m)) ≡ Ok tt) → Small b (first_no (f (i + j))))
+      → Small b (first_no (over f i c))
   small_over f i zero h = tt
   small_over f i (suc c) h =
       let z : i + 0 ≡ i = omega arith in
@@ -45,7 +46,8 @@ module _ (b : ℕ) where
       let y : i + suc j ≡ suc i + j = omega arith in
       subst (λ (n : ℕ). Small b (first_no (f n))) y (h (suc j) (omega arith) (earlier e j before))))
     where
-      earlier : first_no (f i) ≡ Ok tt → (j : ℕ) → ((m : ℕ) → m < j → first_no (f (suc i + m)) ≡ Ok tt) → (m : ℕ) → m < suc j → first_no (f (i + m)) ≡ Ok tt
+      earlier : first_no (f i) ≡ Ok tt → (j : ℕ) → ((m : ℕ) → m < j → first_no (f (suc i + m)) ≡ Ok tt) → (m : ℕ) → m < suc j
+          → first_no (f (i + m)) ≡ Ok tt
       earlier e j before zero l = let z : i + 0 ≡ i = omega arith in rw z e
       earlier e j before (suc m) l = let y : i + suc m ≡ suc i + m = omega arith in rw y (before m (omega arith))
 

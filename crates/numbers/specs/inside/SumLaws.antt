@@ -1,6 +1,7 @@
 -- Sums and counts, by induction on how many parts there are; a part that one index alone has counts once.
 -- Assumes nothing.
-use Rattle.std.specs.Prelude.{◌≡◌, refl, ℕ, zero, suc, ◌+◌, ◌*◌, ◌≤◌, ◌<◌, Bool, true, false, T, eqb, ℤ, pos, nat_abs, ◌+ℤ◌, ◌-ℤ◌, ◌*ℤ◌, ◌≢◌}
+use Rattle.std.specs.Prelude.{◌≡◌, refl, ℕ, zero, suc, ◌+◌, ◌*◌, ◌≤◌, ◌<◌, Bool, true, false, T, eqb, ℤ, pos, nat_abs, ◌+ℤ◌}
+use Rattle.std.specs.Prelude.{◌-ℤ◌, ◌*ℤ◌, ◌≢◌}
 use Rattle.std.proofs.Common.{sym, ap, ap₂, ◌∙◌, subst, arith, le_trans, eq-or-lt_of_le, eqb→eq, ⊎_elim}
 use Rattle.std.proofs.Math.Dec.{eqb_refl}
 use Rattle.std.proofs.Math.IntN.{+ℤ_idl, +ℤ_idr}
@@ -136,7 +137,8 @@ unfolding sum_n
 sum_n_swap zero m f = omega (arith, sum_n_const m 0)
 sum_n_swap (suc k) m f = omega (arith, sum_n_swap k m f, sum_n_add m (λ j. sum_n k (λ i. f i j)) (λ j. f k j))
 
-pub sum_n_count : (k x : ℕ) (w : ℕ → Bool) (f : ℕ → ℕ) → ((i : ℕ) → i < k → T (w i) → f i ≤ x) → sum_n k (λ i. only_n (w i) (f i)) ≤ count k w * x
+pub sum_n_count : (k x : ℕ) (w : ℕ → Bool) (f : ℕ → ℕ) → ((i : ℕ) → i < k → T (w i) → f i ≤ x)
+    → sum_n k (λ i. only_n (w i) (f i)) ≤ count k w * x
 unfolding sum_n count
 sum_n_count zero x w f h = omega arith
 sum_n_count (suc k) x w f h = omega (arith, sum_n_count k x w f (λ i l. h i (omega arith)), part (w k) (f k) (h k (omega arith)))

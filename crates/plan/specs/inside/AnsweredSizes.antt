@@ -229,6 +229,7 @@ step_kept case old rows i c p z y =
       before = z;
       node_rows = nodes_sized case rows i c p (nodes_yes case p0 rows i y);
       flows = flows_sized case p0 rows i c a;
+      machines = machines_kept_lem case p0 rows i a;
       choices = choices_kept case rows i (stations_yes case p0 rows i y);
       pipes = pipe_small case p0 rows i c a;
       nodes = node_small case rows i c (balances_yes case p0 rows i y);

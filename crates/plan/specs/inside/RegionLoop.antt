@@ -1,14 +1,13 @@
 -- The loop over the steps: what is gathered before the step with index i. One turn of it is proofs/RegionTurn.antt's.
-use Rattle.std.specs.Prelude.{◌≡◌, Bool, List, ℤ, pos, length, take, drop, Ok}
+use Rattle.std.specs.Prelude.{◌≡◌, Bool, List, ℤ, pos, length, Ok}
 use Rattle.std.proofs.Common.{sym, ◌∙◌, subst, mul-le-mul, mul-le-mul_right}
-use Rattle.std.proofs.Math.Path.{ap}
 use Prim.Native.Nat.{ℕ, zero, suc, ◌+◌, ◌*◌, ◌-◌, ◌<◌, ◌≤◌}
 use native.Mathlib.Omega.{arith}
 use Rattle.std.proofs.Math.IntN.{nat_abs}
 use Rattle.numbers.specs.law.Question.{first_no}
 use Rattle.numbers.specs.inside.SignedBounds.{Bounded}
 use Rattle.numbers.specs.law.Sums.{sum, sum_n}
-use Rattle.plan.specs.inside.SumSizes.{most_brought, most_residual, most_step_width, most_plan}
+use Rattle.plan.specs.inside.SumSizes.{most_brought, most_residual, most_step_width}
 use Rattle.case.specs.law.Layout.{number_at, nodes_of, steps_of}
 use Rattle.case.specs.law.LayoutOf.{Holds}
 use Rattle.plan.specs.declared.region.Gathered.{Gathered}
@@ -16,9 +15,8 @@ use Rattle.plan.specs.law.PlanLayout.{step_width, step_at, step_rows}
 use Rattle.plan.specs.law.PlanRecords.{pressure_in}
 use Rattle.plan.specs.law.BeforeStep.{start_pressure, pressure_at}
 use Rattle.plan.specs.law.Step.{step_questions}
-use Rattle.plan.specs.inside.Sizes.{NodesSized}
-use Rattle.plan.specs.inside.Preconditions.{AcceptedCase, PlanLaid}
-use Rattle.plan.specs.inside.VerdictLaws.{plan_laid}
+use Rattle.plan.specs.inside.Sizes.{PressuresSized, NodesSized}
+use Rattle.plan.specs.inside.Preconditions.{AcceptedCase, PlanLaid, StepKept}
 use Rattle.plan.specs.inside.CaseSizes.{counted, node_sized}
 use Rattle.plan.specs.inside.AnsweredSizes.{nodes_sized, nodes_yes, step_kept}
 use Rattle.plan.specs.inside.StepAlike.{step_alike}
@@ -26,7 +24,7 @@ use Rattle.plan.specs.claims.Acceptance.{PlanRules, rules_step}
 use Rattle.plan.specs.law.Region.{region_gas}
 use Rattle.plan.specs.law.RegionFigures.{brought_at, residual_at, gas_inside}
 use Rattle.plan.specs.inside.RegionBalance.{EndsAreNodes}
-use Rattle.plan.specs.inside.RegionPreconditions.{RegionPressures, RegionStep, RegionRoom}
+use Rattle.plan.specs.inside.RegionPreconditions.{RegionRoom}
 use Rattle.plan.specs.inside.RegionSizes.{ends_nodes}
 use Rattle.plan.specs.inside.RegionSame.{gas_same}
 
@@ -58,11 +56,9 @@ module _ {case plan : List ℤ} (r : PlanRules case plan) where
   sized_at zero h u l = (node_sized accepted_case u l 0 (omega (arith, (counted accepted_case).some_step))).p0
   sized_at (suc i) h u l = ((rows_sized i (omega arith)).each u l).p
 
-  pub pressures_held : {p : List ℤ} (t : ℕ) → t ≤ steps_of case → Holds (pos 0) p (pressure_at case plan t) (nodes_of case) → RegionPressures case p
-  pressures_held t h k = record {
-    accepted = accepted_case;
-    sized = record { each = λ u l. subst (λ (z : ℤ). Bounded z 200000) (sym (k.each u l)) (sized_at t h u l) };
-  }
+  pub pressures_held : {p : List ℤ} (t : ℕ) → t ≤ steps_of case → Holds (pos 0) p (pressure_at case plan t) (nodes_of case)
+      → PressuresSized (number_at p) (nodes_of case)
+  pressures_held t h k = record { each = λ u l. subst (λ (z : ℤ). Bounded z 200000) (sym (k.each u l)) (sized_at t h u l) }
 
   -- the gas, by pressures that an array holds
   pub gas_held : {p : List ℤ} (inside : ℕ → Bool) (t : ℕ) → Holds (pos 0) p (pressure_at case plan t) (nodes_of case)
@@ -72,11 +68,11 @@ module _ {case plan : List ℤ} (r : PlanRules case plan) where
 
   -- a step, by pressures that an array holds
   pub step_handed : {old : List ℤ} (i : ℕ) → i < steps_of case → Holds (pos 0) old (pressure_at case plan i) (nodes_of case)
-      → RegionStep case old (step_rows case plan i) i
+      → StepKept case old (step_rows case plan i) i
   step_handed {old} i l k =
       let rows = step_rows case plan i in
       let y = step_alike accepted_case (number_at old) (pressure_at case plan i) k.each rows i ∙ step_yes i l in
-      record { accepted = accepted_case; step = l; kept = step_kept case old rows i accepted_case l (pressures_held i (omega arith) k).sized y }
+      step_kept case old rows i accepted_case l (pressures_held i (omega arith) k) y
 
   pub room : {inside : ℕ → Bool} {s i : ℕ} {g : Gathered} → Gathering case plan inside s i g → i < steps_of case → RegionRoom g
   room h l =
@@ -100,41 +96,35 @@ upto {case} {plan} {inside} {s} {g = g} h e = subst (λ (i : ℕ). Gathering cas
 
 -- ---- the part of a step in the plan's list
 
--- it lies within the list, and not far in
-pub record StepWithin (plan : List ℤ) (i width : ℕ) : Type 0 where
-  pub inside : 2 + i * width + width ≤ length plan
-  pub near : 2 + i * width + width ≤ most_plan
+pub narrow : (case : List ℤ) → AcceptedCase case → step_width case ≤ most_step_width
+unfolding step_width
+narrow case c = let n = counted c in omega (arith, n.nodes, n.arcs, n.stations)
 
-pub part_within : {case plan : List ℤ} {width : ℕ} → AcceptedCase case → PlanLaid case plan → width ≡ step_width case → (i : ℕ) → i < steps_of case
-    → StepWithin plan i width
-unfolding step_width step_at
-part_within {case} {width = width} c p wide i l =
-    let n = counted c in
-    let a : suc i * width ≤ steps_of case * width = mul-le-mul_right width l in
-    let w : width ≤ most_step_width = omega (arith, n.nodes, n.arcs, n.stations) in
-    let b : steps_of case * width ≤ 48 * most_step_width = mul-le-mul n.steps w in
-    record { inside = omega (arith, p.long ∙ ap (λ (w : ℕ). 2 + steps_of case * w) (sym wide)); near = omega arith }
+-- the parts of the steps before, all together
+pub parts_near : (case : List ℤ) → AcceptedCase case → (i : ℕ) → i ≤ 48 → i * step_width case ≤ 48 * most_step_width
+parts_near case c i l = mul-le-mul l (narrow case c)
 
-module _ {case plan : List ℤ} {width : ℕ} (r : PlanRules case plan) (wide : width ≡ step_width case) where
-  pub step_within : (i : ℕ) → i < steps_of case → StepWithin plan i width
-  step_within = part_within (accepted_case r) (plan_laid case plan r.rule20) wide
-
-  pub narrow : width ≤ most_step_width
-  unfolding step_width
-  narrow = let n = counted (accepted_case r) in omega (arith, wide, n.nodes, n.arcs, n.stations)
-
-  pub part_row : (i : ℕ) {rows : List ℤ} → rows ≡ take width (drop (2 + i * width) plan) → rows ≡ step_rows case plan i
-  unfolding step_rows step_at
-  part_row i h = h ∙ rw wide
+pub part_within : (case plan : List ℤ) → AcceptedCase case → PlanLaid case plan → (i : ℕ) → i < steps_of case
+    → 2 + i * step_width case + step_width case ≤ length plan
+unfolding step_at
+part_within case plan c p i l =
+    let a : suc i * step_width case ≤ steps_of case * step_width case = mul-le-mul_right (step_width case) l in
+    omega (arith, p.long)
 
 -- ---- the pressures at a time, as an array holds them
 
-module _ (case plan : List ℤ) {p : List ℤ} {n t : ℕ} (e : n ≡ nodes_of case) where
-  pub pressures_first : t ≡ 0 → Holds (pos 0) p (start_pressure case) n → Holds (pos 0) p (pressure_at case plan t) (nodes_of case)
+module _ (case plan : List ℤ) {p : List ℤ} {t : ℕ} where
+  pub pressures_first : t ≡ 0 → Holds (pos 0) p (start_pressure case) (nodes_of case) → Holds (pos 0) p (pressure_at case plan t) (nodes_of case)
   unfolding pressure_at
-  pressures_first z h = rw (z, ← e) h
+  pressures_first z h = rw z h
 
-  pub pressures_after : 0 < t → {rows : List ℤ} → rows ≡ step_rows case plan (t - 1) → Holds (pos 0) p (pressure_in rows) n
+  pub pressures_after : 0 < t → {rows : List ℤ} → rows ≡ step_rows case plan (t - 1) → Holds (pos 0) p (pressure_in rows) (nodes_of case)
       → Holds (pos 0) p (pressure_at case plan t) (nodes_of case)
   unfolding pressure_at
-  pressures_after z q h = let s : t ≡ suc (t - 1) = omega arith in rw (s, ← e) (rw q at h)
+  pressures_after z q h = let s : t ≡ suc (t - 1) = omega arith in rw s (rw q at h)
+
+-- ---- rules: of the pressures at a time, and of one turn
+
+pub ruleset pressures_told = (pressures_first, pressures_after)
+
+pub ruleset step_asked = (step_handed, room)

@@ -9,17 +9,16 @@ use Rattle.numbers.specs.law.Sums.{only_n}
 use Rattle.numbers.specs.inside.SumLaws.{abs_sum_le, abs_only_le, sum_n_bound}
 use Rattle.case.specs.law.Extents.{node_capacity}
 use Rattle.plan.specs.inside.SumSizes.{most_brought, most_edges, most_residual, most_supplies}
-use Rattle.case.specs.law.Layout.{number_at, nodes_of, arcs_of}
+use Rattle.case.specs.law.Layout.{number_at, nodes_of, arcs_of, steps_of}
 use Rattle.plan.specs.law.PlanRecords.{arc_row}
 use Rattle.plan.specs.law.Pipes.{duration, is_pipe}
 use Rattle.plan.specs.law.Balance.{flow_at_from, flow_at_to}
 use Rattle.plan.specs.law.Totals.{pipe_part}
-use Rattle.plan.specs.inside.Sizes.{NodesSized}
+use Rattle.plan.specs.inside.Sizes.{PressuresSized, FlowsSized, NodesSized}
 use Rattle.plan.specs.law.Region.{begins_in, ends_in, inner_pipe, inner_gas, region_supply, inward, edge_flow, supplies_in, edge_flows, brought_in}
 use Rattle.plan.specs.law.RegionResidual.{own_node, own_pipe, own_nodes, own_pipes, region_residual}
-use Rattle.plan.specs.inside.Preconditions.{AcceptedCase}
+use Rattle.plan.specs.inside.Preconditions.{AcceptedCase, StepKept}
 use Rattle.plan.specs.inside.RegionBalance.{EndsAreNodes}
-use Rattle.plan.specs.inside.RegionPreconditions.{RegionPressures, RegionFlows, RegionStep}
 use Rattle.plan.specs.inside.CaseSizes.{counted, cond_sized, duration_sized, from_node, to_node}
 use Rattle.plan.specs.inside.StepSizes.{only_le, only_small, pipe_gas}
 
@@ -31,28 +30,28 @@ both_true : (a b : Bool) → a && b ≡ true → a ≡ true
 both_true true b h = refl
 both_true false b h = h
 
-module _ {case p : List ℤ} (h : RegionPressures case p) where
-  pub inner_gas_small : (inside : ℕ → Bool) (e : ℕ) → e < arcs_of case → nat_abs (inner_gas case inside (number_at p) e) ≤ 40000000000000
+module _ {case : List ℤ} {p : ℕ → ℤ} (c : AcceptedCase case) (h : PressuresSized p (nodes_of case)) where
+  pub inner_gas_small : (inside : ℕ → Bool) (e : ℕ) → e < arcs_of case → nat_abs (inner_gas case inside p e) ≤ 40000000000000
   unfolding inner_gas
   inner_gas_small inside e l =
-      only_small (inner_pipe case inside e) _ 40000000000000 (λ k. pipe_gas h.accepted h.sized e l (both_true (is_pipe case e) _ k))
+      only_small (inner_pipe case inside e) _ 40000000000000 (λ k. pipe_gas c h e l (both_true (is_pipe case e) _ k))
 
 -- the flow at one end of an arc: of a pipe the flow there, of any other arc the difference
 end_small : (k : Bool) (x a b : ℤ) → nat_abs x ≤ 10000000 → nat_abs a ≤ 10000000 → nat_abs b ≤ 10000000 → nat_abs (cond k x (a -ℤ b)) ≤ 20000000
 end_small k x a b h m n = cond_sized k x (a -ℤ b) (omega arith) (omega (arith, abs_add a (neg_ℤ b), abs_neg b))
 
-module _ {case rows : List ℤ} (h : RegionFlows case rows) where
+module _ {case rows : List ℤ} (h : FlowsSized case rows) where
   pub from_small : (e : ℕ) → e < arcs_of case → nat_abs (flow_at_from case rows e) ≤ 20000000
   unfolding flow_at_from
   from_small e l =
-      let s = h.flows.each e l in
+      let s = h.each e l in
       let r = arc_row case rows e in
       end_small (is_pipe case e) r.a r.a r.b s.a.bound s.a.bound s.b.bound
 
   to_small : (e : ℕ) → e < arcs_of case → nat_abs (flow_at_to case rows e) ≤ 20000000
   unfolding flow_at_to
   to_small e l =
-      let s = h.flows.each e l in
+      let s = h.each e l in
       let r = arc_row case rows e in
       end_small (is_pipe case e) r.b r.a r.b s.b.bound s.a.bound s.b.bound
 
@@ -67,10 +66,10 @@ module _ {case rows : List ℤ} (h : RegionFlows case rows) where
       go false true x y m n = n
       go false false x y m n = omega arith
 
-  pub edges_small : (inside : ℕ → Bool) → nat_abs (edge_flows case inside rows) ≤ most_edges
+  pub edges_small : AcceptedCase case → (inside : ℕ → Bool) → nat_abs (edge_flows case inside rows) ≤ most_edges
   unfolding edge_flows
-  edges_small inside =
-      let r = counted h.accepted in
+  edges_small c inside =
+      let r = counted c in
       omega (arith, abs_sum_le (arcs_of case) 20000000 (edge_flow case inside rows) (edge_small inside), mul-le-mul_right 20000000 r.arcs)
 
 pub supply_small : {case rows : List ℤ} → NodesSized case rows → (inside : ℕ → Bool) (u : ℕ) → u < nodes_of case
@@ -84,27 +83,24 @@ unfolding supplies_in
 supplies_small {case} {rows} h few inside =
     omega (arith, abs_sum_le (nodes_of case) 10000000 (region_supply inside rows) (supply_small h inside), mul-le-mul_right 10000000 few)
 
-module _ {case old rows : List ℤ} {i : ℕ} (h : RegionStep case old rows i) where
-  pub step_flows : RegionFlows case rows
-  step_flows = record { accepted = h.accepted; flows = h.kept.flows }
-
-  pub brought_small : (inside : ℕ → Bool) → nat_abs (brought_in case inside rows i) ≤ most_brought
+module _ {case old rows : List ℤ} {i : ℕ} (c : AcceptedCase case) (h : StepKept case old rows i) where
+  pub brought_small : i < steps_of case → (inside : ℕ → Bool) → nat_abs (brought_in case inside rows i) ≤ most_brought
   unfolding brought_in
-  brought_small inside =
-      let r = counted h.accepted in
+  brought_small t inside =
+      let r = counted c in
       let a = supplies_in case inside rows in
       let b = edge_flows case inside rows in
-      let d = supplies_small h.kept.node_rows r.nodes inside in
-      let w : nat_abs (a +ℤ b) ≤ (most_supplies + most_edges) = omega (arith, abs_add a b, d, edges_small step_flows inside) in
-      omega (arith, abs_mul (duration case i) (a +ℤ b), mul-le-mul (duration_sized h.accepted i h.step).bound w)
+      let d = supplies_small h.node_rows r.nodes inside in
+      let w : nat_abs (a +ℤ b) ≤ (most_supplies + most_edges) = omega (arith, abs_add a b, d, edges_small h.flows c inside) in
+      omega (arith, abs_mul (duration case i) (a +ℤ b), mul-le-mul (duration_sized c i t).bound w)
 
   pub own_node_small : (inside : ℕ → Bool) (u : ℕ) → u < nodes_of case → own_node case inside rows i u ≤ 1000000
   unfolding own_node
-  own_node_small inside u l = only_le (inside u) _ (h.kept.nodes u l)
+  own_node_small inside u l = only_le (inside u) _ (h.nodes u l)
 
   pub own_pipe_small : (inside : ℕ → Bool) (e : ℕ) → e < arcs_of case → own_pipe case inside (number_at old) rows i e ≤ 1000000
   unfolding own_pipe pipe_part
-  own_pipe_small inside e l = go (is_pipe case e) (begins_in case inside e && ends_in case inside e) _ (h.kept.pipes e l)
+  own_pipe_small inside e l = go (is_pipe case e) (begins_in case inside e && ends_in case inside e) _ (h.pipes e l)
     where
       go : (b w : Bool) (n : ℕ) → only_n b n ≤ 1000000 → only_n (b && w) n ≤ 1000000
       go true w n q = only_le w n q
@@ -113,7 +109,7 @@ module _ {case old rows : List ℤ} {i : ℕ} (h : RegionStep case old rows i) w
   pub residual_small : (inside : ℕ → Bool) → region_residual case inside (number_at old) rows i ≤ most_residual
   unfolding region_residual own_nodes own_pipes
   residual_small inside =
-      let r = counted h.accepted in
+      let r = counted c in
       omega (
         arith,
         sum_n_bound (nodes_of case) 1000000 (own_node case inside rows i) (own_node_small inside),

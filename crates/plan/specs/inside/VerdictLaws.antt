@@ -15,7 +15,6 @@ use Rattle.numbers.specs.law.Reading.{Ending, all, no, read_of, end_told, read_t
 use Rattle.case.specs.law.Layout.{number_at, steps_of}
 use Rattle.case.specs.inside.FieldLaws.{and_second}
 use Rattle.case.specs.law.Judged.{case_questions, judged_case}
-use Rattle.case.specs.declared.records.Layout.{Layout}
 use Rattle.case.specs.declared.records.Laying.{Laying}
 use Rattle.case.specs.law.LayoutOf.{LayoutOf, LayingOf}
 use Rattle.plan.specs.law.Compared.{same}
@@ -52,9 +51,9 @@ case_laid {case} {l} d y =
 module _ (case plan : List ℤ) where
   -- ---- 20
 
-  pub head_length : (l : Layout) → LayoutOf case l → 2 + l.steps * (l.nodes * 6 + l.arcs * 4 + l.stations * 2) ≡ step_at case (steps_of case)
-  unfolding step_at step_width
-  head_length l d = rw (d.steps, d.nodes, d.arcs, d.stations)
+  pub head_length : {steps width : ℕ} → steps ≡ steps_of case → width ≡ step_width case → 2 + steps * width ≡ step_at case (steps_of case)
+  unfolding step_at
+  head_length s w = rw (s, w)
 
   -- the first two numbers, which are asked before the length
   module _ {r : Bool} (e : r ≡ (same (number_at plan 0) (pos 1) && same (number_at plan 1) (pos (steps_of case)))) where
@@ -210,3 +209,11 @@ module _ (case_bytes plan_bytes : List ℕ) (case_list plan_list : List ℤ) whe
       → new ≡ (bytes_judged case_bytes plan_bytes case_list plan_list).case_list
   unfolding bytes_judged
   case_list_lem e = e
+
+-- ---- rules: 20, past it the steps, and past the case the plan's bytes
+
+pub ruleset head_told = (head_length, head_no)
+
+pub ruleset plan_judged = (plan_laid, head_refused, head_passed)
+
+pub ruleset case_told = (case_answer, case_passed, list_reached)

@@ -1,4 +1,4 @@
--- One row or one pair more: what it adds to the figures, and the room that it needs.
+-- One row or one pair more: what it adds to the sums, and the room that it needs.
 -- Assumes nothing.
 use Rattle.std.specs.Prelude.{Bool, true, false, not, cond, int_lt, ◌≡◌, refl, ℕ, ◌+◌, ◌≤◌, ℤ, pos, nat_abs, ◌+ℤ◌}
 use Rattle.std.proofs.Common.{arith}
@@ -8,7 +8,7 @@ use Rattle.numbers.specs.law.Sums.{only_n}
 use Rattle.numbers.specs.inside.QuestionLaws.{and_first, and_second}
 use Rattle.numbers.specs.inside.SignedParts.{ints, size}
 use Rattle.numbers.specs.inside.SignedBounds.{Bounded}
-use Rattle.settlement.specs.declared.figures.Figures.{Figures}
+use Rattle.settlement.specs.declared.merge.Sums.{Sums}
 use Rattle.settlement.specs.law.RecordRules.{in_grams}
 use Rattle.settlement.specs.law.Settled.{agrees, settled_pair}
 
@@ -16,28 +16,21 @@ use Rattle.settlement.specs.law.Settled.{agrees, settled_pair}
 pub record Grams (x : ℤ) : Type 0 where
   pub in_range : in_grams x ≡ true
 
--- figures of at most 10,000 rows
-pub record Room (f : Figures) : Type 0 where
+-- sums of at most 10,000 rows
+pub record Room (f : Sums) : Type 0 where
   pub total : nat_abs f.total ≤ 10000000000000000
   pub agreed : f.agreed ≤ 10000
   pub cut : f.cut ≤ 10000
-  pub sender : f.sender ≤ 10000
-  pub receiver : f.receiver ≤ 10000
 
-abbrev pub pair_added : Figures → ℤ → ℤ → ℤ → Figures
+abbrev pub pair_added : Sums → ℤ → ℤ → ℤ → Sums
 pair_added f agreed s r = record {
   total = f.total +ℤ settled_pair agreed s r;
   agreed = f.agreed + only_n (agrees agreed s r) 1;
   cut = f.cut + only_n (not (agrees agreed s r)) 1;
-  sender = f.sender;
-  receiver = f.receiver;
 }
 
-abbrev pub sender_added : Figures → ℤ → Figures
-sender_added f s = record { total = f.total +ℤ s; agreed = f.agreed; cut = f.cut; sender = f.sender + 1; receiver = f.receiver }
-
-abbrev pub receiver_added : Figures → ℤ → Figures
-receiver_added f r = record { total = f.total +ℤ r; agreed = f.agreed; cut = f.cut; sender = f.sender; receiver = f.receiver + 1 }
+abbrev pub row_added : Sums → ℤ → Sums
+row_added f x = record { total = f.total +ℤ x; agreed = f.agreed; cut = f.cut }
 
 -- ---- sizes
 
@@ -77,13 +70,11 @@ min_is s r = go (le_z s r) (int_lt r s) refl refl
 add_none : (n : ℕ) → n + 0 ≡ n
 add_none n = omega arith
 
-module _ (f : Figures) (agreed s r : ℤ) where
+module _ (f : Sums) (agreed s r : ℤ) where
   pub pair_agreed : agrees agreed s r ≡ true → pair_added f agreed s r ≡ record {
     total = f.total +ℤ s;
     agreed = f.agreed + 1;
     cut = f.cut;
-    sender = f.sender;
-    receiver = f.receiver;
   }
   unfolding settled_pair
   pair_agreed e = rw (e, add_none)
@@ -92,8 +83,6 @@ module _ (f : Figures) (agreed s r : ℤ) where
     total = f.total +ℤ cond (le_z s r) s r;
     agreed = f.agreed;
     cut = f.cut + 1;
-    sender = f.sender;
-    receiver = f.receiver;
   }
   unfolding settled_pair
   pair_cut e = rw (e, add_none)

@@ -1,14 +1,13 @@
 -- What a merge of two records keeps: the rows passed are settled, and each is earlier than every row that is left in the other record.
 -- Assumes nothing.
-use Rattle.std.specs.Prelude.{true, List, ◌≡◌, ℕ, ◌+◌, ◌*◌, ◌<◌, ◌≤◌, ℤ, nat_abs, ◌+ℤ◌, ◌<ℤ◌}
+use Rattle.std.specs.Prelude.{Bool, true, ◌&&◌, ◌||◌, List, ◌≡◌, ℕ, ◌+◌, ◌*◌, ◌<◌, ◌≤◌, leb, ltb, ℤ, nat_abs, ◌+ℤ◌, ◌<ℤ◌}
+use Rattle.std.specs.Int.Signed.{lt_z}
 use Rattle.numbers.specs.law.Sums.{sum, count}
-use Rattle.settlement.specs.declared.figures.Figures.{Figures}
 use Rattle.settlement.specs.declared.merge.Merged.{Merged}
-use Rattle.settlement.specs.declared.merge.Which.{Which}
-use Rattle.settlement.specs.declared.merge.Which.TheVariants.{Both, Sender, Receiver}
+use Rattle.settlement.specs.declared.merge.Sums.{Sums}
 use Rattle.settlement.specs.law.Records.{rows_of, time_of, grams_of}
 use Rattle.settlement.specs.law.RecordRules.{in_grams, rises, most_rows}
-use Rattle.settlement.specs.law.Settled.{standing_at, agreed_at, cut_at, alone_at, alone_grams}
+use Rattle.settlement.specs.law.Settled.{standing_at, agreed_at, cut_at, alone_grams}
 
 -- what 60 to 62 leave of a record
 pub record Meter (meter : List ℤ) : Type 0 where
@@ -30,19 +29,16 @@ pub record Left (sender receiver : List ℤ) (i j : ℕ) : Type 0 where
 abbrev pub Before : List ℤ → List ℤ → ℕ → ℕ → Type 0
 Before meter other i j = j < rows_of other → time_of meter i <ℤ time_of other j
 
-abbrev pub Earliest : List ℤ → List ℤ → ℕ → ℕ → Which → Type 0
-Earliest sender receiver i j Both = (i < rows_of sender) × (j < rows_of receiver) × (time_of sender i ≡ time_of receiver j)
-Earliest sender receiver i j Sender = (i < rows_of sender) × Before sender receiver i j
-Earliest sender receiver i j Receiver = (j < rows_of receiver) × Before receiver sender j i
+-- is there a row i of a record, and is it earlier than row j of the other, if the other has it?
+abbrev pub earliest : List ℤ → List ℤ → ℕ → ℕ → Bool
+earliest meter other i j = ltb i (rows_of meter) && (leb (rows_of other) j || lt_z (time_of meter i) (time_of other j))
 
--- the figures of the first i and the first j rows
-unfoldable pub figures_to : List ℤ → List ℤ → ℤ → ℕ → ℕ → Figures
-figures_to sender receiver agreed i j = record {
+-- the sums of the first i and the first j rows
+unfoldable pub sums_to : List ℤ → List ℤ → ℤ → ℕ → ℕ → Sums
+sums_to sender receiver agreed i j = record {
   total = sum i (standing_at sender receiver agreed) +ℤ sum j (alone_grams receiver sender);
   agreed = count i (agreed_at sender receiver agreed);
   cut = count i (cut_at sender receiver agreed);
-  sender = count i (alone_at sender receiver);
-  receiver = count j (alone_at receiver sender);
 }
 
 pub record Merging (sender receiver : List ℤ) (agreed : ℤ) (m : Merged) : Type 0 where
@@ -50,5 +46,5 @@ pub record Merging (sender receiver : List ℤ) (agreed : ℤ) (m : Merged) : Ty
   pub upto_receiver : m.j ≤ rows_of receiver
   pub sender_passed : (x : ℕ) → x < m.i → Before sender receiver x m.j
   pub receiver_passed : (y : ℕ) → y < m.j → Before receiver sender y m.i
-  pub small : nat_abs m.figures.total ≤ (m.i + m.j) * 1000000000000
-  pub so_far : m.figures ≡ figures_to sender receiver agreed m.i m.j
+  pub small : nat_abs m.sums.total ≤ (m.i + m.j) * 1000000000000
+  pub so_far : m.sums ≡ sums_to sender receiver agreed m.i m.j

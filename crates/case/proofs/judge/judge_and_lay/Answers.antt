@@ -1,23 +1,14 @@
 -- The rules are asked where 10 to 12 let the list pass, and then the layout is that of the case.
+use Rattle.std.proofs.Common.{rules}
 use Rattle.case.proofs.Common.{ap, sym, refl}
 use Rattle.numbers.specs.law.Question.{told}
 use Rattle.case.specs.law.Judged.{list_questions, rule_questions, case_questions, judged_case}
-use Rattle.case.specs.inside.CountsInRange.{list_counted, list_stations, list_narrow}
-use Rattle.case.specs.inside.CaseRows.{list_ranged}
+use Rattle.case.specs.inside.CountsInRange.{list_counted}
 use Rattle.case.proofs.Asked.{stopped, went_on}
 use Rattle.case.proofs.judge.judge_and_lay.Goals as goal
 
-pub lay-layout-requires : goal.lay-layout-requires
-lay-layout-requires c =
-    let l = c.args.case.now in
-    let yes = sym c.in-Ok.ensures in
-    (list_counted l yes, list_stations l yes, list_narrow l yes)
-
-pub rules-requires : goal.rules-requires
-rules-requires c =
-    let l = c.args.case.now in
-    let yes = sym c.in-Ok.ensures in
-    (list_counted l yes, c.lay-layout.ensures, list_stations l yes, list_ranged l yes)
+pub head_read-requires : goal.head_read-requires
+head_read-requires c = list_counted c.args.case.now (sym c.in-Ok.ensures)
 
 pub returns-in-Ok : goal.returns-in-Ok
 unfolding judged_case case_questions
@@ -26,7 +17,7 @@ returns-in-Ok c =
     let yes = c.in-Ok.ensures in
     record {
       told_is = ap told (went_on (list_questions l) (rule_questions l) yes refl c.rules.ensures);
-      passed = λ y. c.lay-layout.ensures;
+      passed = λ y. rw c.head_read.ensures at c.layout-layout.ensures;
       refused = λ n s p q. absurd cc;
     }
 
@@ -38,5 +29,5 @@ returns-in-Err c =
     record {
       told_is = ap told (stopped (list_questions l) (rule_questions l) no refl);
       passed = λ y. absurd cc;
-      refused = λ n s p q. refl;
+      refused = λ n s p q. search rules;
     }

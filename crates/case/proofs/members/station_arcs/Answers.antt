@@ -7,6 +7,8 @@ use Rattle.case.proofs.members.station_arcs.Goals as goal
 pub returns : goal.returns
 unfolding arcs_before
 returns c =
-    let a = c.args in
+    let w = belongs c.args.case.now c.args.s in
+    let n = c.count-arcs.result in
     let f = c.filter.ensures in
-    count_from_filter (belongs a.case.now a.s) a.arcs c.filter.result _ c.count.result c.count.ensures.ran f.source f.closure (λ x b q k. search (rules, tests))
+    rw c.count-arcs.ensures.value at
+    (count_from_filter w n c.filter.result _ c.count.result c.count.ensures.ran f.source f.closure (λ x b q k. search (rules, tests)))

@@ -1,16 +1,9 @@
--- The rows of the nodes so far have no "no", and `offset` is where the next one begins.
-use Rattle.case.proofs.Common.{◌≡◌, ◌≤◌, ◌+◌, first_no}
-use Prim.Native.Nat.{◌*◌}
+-- The rows of the nodes before v have no "no".
+use Rattle.case.proofs.Common.{◌≡◌, first_no}
 use Rattle.numbers.specs.law.Items.{over}
 use Rattle.numbers.specs.inside.ItemLaws.{rest}
-use Rattle.case.specs.law.Extents.{node_extent}
-use Rattle.case.specs.law.Layout.{head_width, node_at}
 use Rattle.case.specs.law.NodeFields.{node_fields}
 use Rattle.case.proofs.nodes.node_rows.Given as goal
 
-abbrev pub invariant-loop : goal.invariant-loop
-invariant-loop l = record {
-  asked : first_no (over (node_fields l.case) 0 l.nodes) ≡ rest (node_fields l.case) l.counter l.nodes;
-  place : l.offset ≡ node_at l.case l.counter;
-  early : l.offset ≤ head_width + 48 + l.counter * node_extent;
-}
+abbrev pub invariant-loop-v : goal.invariant-loop-v
+invariant-loop-v l = first_no (over (node_fields l.case) 0 l.nodes) ≡ rest (node_fields l.case) l.v l.nodes

@@ -5,14 +5,12 @@ use Rattle.numbers.specs.inside.QuestionLaws.{or_else_yes}
 use Rattle.case.specs.law.Layout.{stations_of}
 use Rattle.case.specs.law.Leftover.{leftover}
 use Rattle.case.specs.law.StationFields.{all_station_fields}
-use Rattle.case.specs.inside.CountsInRange.{row_counted, row_narrow}
+use Rattle.case.specs.inside.CountsInRange.{row_counted}
 use Rattle.case.proofs.stations.station_rows.Goals as goal
 
-pub station_end-offset-requires : goal.station_end-offset-requires
-station_end-offset-requires c =
-    let l = c.args.case.now in
-    let yes = sym c.station_fields.ensures ∙ c.in_ok-station_fields.was in
-    (omega arith, row_counted l c.loop.offset yes, row_narrow l c.loop.offset yes)
+pub invariant_of-end : goal.invariant_of-end
+invariant_of-end c =
+    record { early = omega arith; counted = row_counted c.args.case.now c.loop.offset (sym c.station_fields.ensures ∙ c.in_ok-station_fields.was) }
 
 pub returns : goal.returns
 unfolding all_station_fields leftover

@@ -7,4 +7,4 @@ use Rattle.line.proofs.files.line_of.Goals as goal
 pub returns-then-within-clause-line_after : goal.returns-then-within-clause-line_after
 unfolding files_line
 returns-then-within-clause-line_after c =
-    rw (le-leb _ _ c.if-line-lt-LINE_BYTES.false, sym c.within.ensures ∙ c.if-within.true) (put_overlay c.judged.ensures)
+    rw (le-leb _ _ c.if-line-lt-LINE_BYTES.false, sym c.within.ensures ∙ c.if-within.true) (put_overlay c.judged.ensures).1

@@ -1,9 +1,11 @@
 -- A number more is stored, or the reading ends where it stands; a number takes at least one byte, and what is asked for is no more than one past the end.
 use Rattle.std.proofs.Common.{◌≡◌, ◌≤◌, ◌-◌, List, ℕ, suc, sym, ◌∙◌, arith, length, drop, length-drop, w64, to_z, of_z, to_z-of_z}
+use Rattle.std.proofs.Common.{refl, ◌<◌, Bool, true, false, nat_lt, ltb-true, Ok}
+use Rattle.numbers.specs.law.Question.{Answer, answer}
 use Rattle.numbers.specs.law.Mapping.{signed_of}
 use Rattle.numbers.specs.law.Reading.{number_of, whole, wrong}
 use Rattle.numbers.specs.inside.ReadingBounds.{used_some, asked_some}
-use Rattle.numbers.proofs.Stored.{storing, store_end, store_full, store_no, store_turn}
+use Rattle.numbers.proofs.Stored.{store_no, store_turn}
 use Rattle.numbers.proofs.reader.read.Goals as goal
 
 -- how many bytes the number at `at` takes, or asks for
@@ -14,13 +16,13 @@ module _ (bytes : List ℕ) (at : ℕ) where
   asked : {n k : ℕ} → wrong n k ≡ number_of (drop at bytes) → (1 ≤ k) × (k ≤ suc (length bytes - at))
   asked {n} e = let k = asked_some (drop at bytes) {n = n} (sym e) in (k.0, omega (arith, k.1, length-drop at bytes))
 
-pub loop-at-init : goal.loop-at-init
-loop-at-init c = storing _ _
-
-pub returns-then-list-stored : goal.returns-then-list-stored
-returns-then-list-stored c =
-    let s = store_full c.loop-at.invariant c.loop-at-test.true c.if-list-stored.true in
-    record { result_value = s.told; list_after = s.stored }
+-- a place is free where 3 is a yes
+free : (at count n : ℕ) (one : Answer) → one ≡ answer (nat_lt count n) 3 0 at → one ≡ Ok tt → count < n
+free at count n one e y = go (nat_lt count n) refl (sym e ∙ y)
+  where
+    go : (b : Bool) → nat_lt count n ≡ b → answer b 3 0 at ≡ Ok tt → count < n
+    go true t z = ltb-true count n t
+    go false t z = cc
 
 pub overflow_add-at : goal.overflow_add-at
 overflow_add-at c = record { fits = omega (arith, (used c.args.bytes.now c.loop-at.at c.in-Ok.ensures).1, c.loop-at.invariant.inside) }
@@ -32,7 +34,7 @@ pub loop-at-preserved : goal.loop-at-preserved
 loop-at-preserved c =
     let v : to_z w64 (of_z w64 c.signed.result) ≡ signed_of c.in-Ok.n.value =
     to_z-of_z {w = w64} (record { sfits = c.signed.type_inv }) ∙ c.signed.ensures in
-    rw v (store_turn c.loop-at.invariant c.loop-at-test.true c.if-list-stored.false (sym c.in-Ok.ensures))
+    rw v (store_turn c.loop-at.invariant c.loop-at-test.true (free _ _ _ _ c.ask.ensures c.in_ok-ask.was) (sym c.in-Ok.ensures))
 
 pub overflow_add-result : goal.overflow_add-result
 overflow_add-result c = record { fits = omega (arith, (asked c.args.bytes.now c.loop-at.at c.in-Err.ensures).1, c.loop-at.invariant.inside) }
@@ -42,10 +44,5 @@ overflow_sub-result c = omega (arith, (asked c.args.bytes.now c.loop-at.at c.in-
 
 pub returns-in-Err : goal.returns-in-Err
 returns-in-Err c =
-    let s = store_no c.loop-at.invariant c.loop-at-test.true c.if-list-stored.false (sym c.in-Err.ensures) in
-    record { result_value = s.told; list_after = s.stored }
-
-pub returns : goal.returns
-returns c =
-    let s = store_end c.loop-at.invariant c.loop-at-test.false in
+    let s = store_no c.loop-at.invariant c.loop-at-test.true (free _ _ _ _ c.ask.ensures c.in_ok-ask.was) (sym c.in-Err.ensures) in
     record { result_value = s.told; list_after = s.stored }

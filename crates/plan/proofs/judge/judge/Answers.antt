@@ -9,8 +9,8 @@ returns-in_err-head c =
     let p = err_from_is_err_and c.from_residual.result c.from_residual.ensures.1 in
     rw (p.1, p.2) (judge_no _ _ (head_answer _ _ _ c.judge_head-head.ensures.told_is ∙ c.in_err-head.was))
 
-pub steps-requires : goal.steps-requires
-steps-requires c = head_laid _ _ c.judge_head-head.ensures c.in_ok-head.was
+pub invariant_of-accepted : goal.invariant_of-accepted
+invariant_of-accepted c = let p = head_laid _ _ c.judge_head-head.ensures c.in_ok-head.was in record { yes = p.0; laid = p.1 }
 
 pub returns : goal.returns
 returns c =

@@ -14,8 +14,8 @@ laid : (case : List ℤ) {l : Laying} → LayingOf case l → LayingOf case (cas
 unfolding judged_case
 laid case l = record { told_is = refl; passed = l.passed; refused = l.refused }
 
-pub head_kept-requires : goal.head_kept-requires
-head_kept-requires c = case_laid c.judge_and_lay-found.ensures c.in-Ok.is
+pub invariant_of-accepted : goal.invariant_of-accepted
+invariant_of-accepted c = let p = case_laid c.judge_and_lay-found.ensures c.in-Ok.is in record { yes = p.0; laid = p.1 }
 
 pub returns-in-Ok : goal.returns-in-Ok
 unfolding head_judged head_questions

@@ -2,17 +2,12 @@
 use Rattle.std.proofs.Common.{◌<◌, refl, arith, w64, to_z}
 use Rattle.numbers.specs.law.Sums.{sum}
 use Rattle.case.specs.law.Extents.{arc_capacity}
-use Rattle.plan.proofs.Adding.{more_fits, back_sized, back_is}
+use Rattle.plan.proofs.Adding.{back_sized, back_is}
 use Rattle.plan.proofs.sums.sum.Goals as goal
 
 pub loop-i-init : goal.loop-i-init
 unfolding sum
 loop-i-init g c = record { is = λ f h. refl; sized = omega arith }
-
-pub overflow_add-all : goal.overflow_add-all
-overflow_add-all g c =
-    let p = c.requires.sized c.loop-i.i c.loop-i-test.true c.part-all.result c.part-all.ensures in
-    more_fits c.loop-i.i (omega (arith, c.requires.few)) (to_z w64 c.loop-i.all-bits) c.part-all.result c.loop-i.invariant.sized p
 
 pub loop-i-preserved : goal.loop-i-preserved
 loop-i-preserved g c =

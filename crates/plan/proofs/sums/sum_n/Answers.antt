@@ -8,11 +8,6 @@ pub loop-i-init : goal.loop-i-init
 unfolding sum_n
 loop-i-init g c = record { is = λ f h. refl; sized = omega arith }
 
-pub overflow_add-all : goal.overflow_add-all
-overflow_add-all g c =
-    let p = c.requires.sized c.loop-i.i c.loop-i-test.true c.part-all.result c.part-all.ensures in
-    record { fits = omega (arith, p, c.loop-i.invariant.sized, c.requires.few) }
-
 pub loop-i-preserved : goal.loop-i-preserved
 loop-i-preserved g c =
     let p = c.requires.sized c.loop-i.i c.loop-i-test.true c.part-all.result c.part-all.ensures in

@@ -6,4 +6,4 @@ use Rattle.plan.specs.inside.StepArcs.{arc_asked, arcs_asked}
 use Rattle.plan.proofs.step.Step.arc_answers.Given as goal
 
 abbrev pub invariant-loop-e : goal.invariant-loop-e
-invariant-loop-e l = first_no (arcs_asked l.self) ≡ rest (arc_asked l.self) l.e l.fn.layout.arcs
+invariant-loop-e l = first_no (arcs_asked l.self) ≡ rest (arc_asked l.self) l.e l.self.case.layout.now.arcs

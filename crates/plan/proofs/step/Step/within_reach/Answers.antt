@@ -7,17 +7,17 @@ use Rattle.plan.proofs.SignedReads.{read}
 use Rattle.plan.proofs.step.Step.within_reach.Goals as goal
 
 pub overflow_add-ratio : goal.overflow_add-ratio
-overflow_add-ratio c = held_fits (literal (pos 1000) +ʳ read c.machine_gain-ratio.ensures (gain_sized _ c.requires.machines) tt) tt
+overflow_add-ratio c = held_fits (literal (pos 1000) +ʳ read c.gain-ratio.ensures (gain_sized _ c.requires.machines) tt) tt
 
 pub overflow_mul-reach : goal.overflow_mul-reach
 overflow_mul-reach c =
-    let ratio = held (literal (pos 1000) +ʳ read c.machine_gain-ratio.ensures (gain_sized _ c.requires.machines) tt) tt in
+    let ratio = held (literal (pos 1000) +ʳ read c.gain-ratio.ensures (gain_sized _ c.requires.machines) tt) tt in
     held_fits (read c.pressure-p_in.ensures (c.args.self.now.pressures.each _ c.requires.in_node) tt *ʳ ratio) tt
 
 pub returns : goal.returns
 unfolding reach_kept
 returns c =
-    let gain = read c.machine_gain-ratio.ensures (gain_sized _ c.requires.machines) tt in
+    let gain = read c.gain-ratio.ensures (gain_sized _ c.requires.machines) tt in
     let left = held (literal (pos 1000) *ʳ read c.pressure-p_out.ensures (c.args.self.now.pressures.each _ c.requires.out_node) tt) tt in
     let right = held (read c.pressure-p_in.ensures (c.args.self.now.pressures.each _ c.requires.in_node) tt *ʳ held (literal (pos 1000) +ʳ gain) tt) tt in
     let m = ap (λ (x : ArcRow). x.machines) c.arc_row.ensures in

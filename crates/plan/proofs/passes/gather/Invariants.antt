@@ -1,6 +1,0 @@
--- Of each station what stands in the array is gathered of its arcs before `e`.
-use Rattle.plan.proofs.StationPasses.{GatheredAll}
-use Rattle.plan.proofs.passes.gather.Given as goal
-
-abbrev pub invariant-loop-e : goal.invariant-loop-e
-invariant-loop-e l = GatheredAll l.case l.rows l.stations l.e

@@ -1,0 +1,12 @@
+-- The array holds what the arcs before `e` put to each node.
+use Rattle.case.specs.law.Extents.{node_capacity}
+use Rattle.plan.proofs.Common.{◌≡◌, length}
+use Rattle.plan.proofs.NodeParts.{node_part}
+use Rattle.plan.proofs.NetFlows.{Gathers}
+use Rattle.plan.proofs.step.Passed.net_flows.Given as goal
+
+abbrev pub invariant-loop-e : goal.invariant-loop-e
+invariant-loop-e l = record {
+  long : length l.net ≡ node_capacity;
+  gathered : Gathers l.net (node_part l.self.step.case.list.now l.self.step.rows.now) l.e;
+}
