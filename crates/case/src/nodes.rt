@@ -65,8 +65,10 @@ pub(crate) fn node_rows(case: &[i64], steps: usize, nodes: usize) -> Answer
     ensures { result ≡ first_no (over (node_fields case.now) 0 nodes) }
 {
     let width = node_width(case);
-    for v in 0..nodes {
-        node_fields(case, HEAD + steps + v * width, steps)?;
+    let mut offset = HEAD + steps;
+    for _ in 0..nodes {
+        node_fields(case, offset, steps)?;
+        offset += width;
     }
     Ok(())
 }

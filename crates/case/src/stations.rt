@@ -63,11 +63,11 @@ impl StationRows<'_> {
     {
         let directions = count(self.case, self.offset, 0);
         let width = direction_width(self.case);
-        let first = self.offset + STATION;
-        for f in 0..directions {
-            let at = first + f * width;
+        let mut at = self.offset + STATION;
+        for _ in 0..directions {
             fields(self.case, at, 2, 0, MOST_SET)?;
             field(self.case, at + 2, 0, MOST_WEIGHT)?;
+            at += width;
         }
         Ok(())
     }
