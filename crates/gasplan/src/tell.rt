@@ -6,6 +6,7 @@ ghost use Rattle.gasplan.specs.law.Out.{code_of, out_of};
 ghost use Rattle.gasplan.specs.inside.Fits.{Fits};
 
 use numbers::answer::No;
+use numbers::lists::copy;
 
 // What is told of a yes: values, at most six, at the front of `out`.
 pub(crate) trait Values {
@@ -19,11 +20,12 @@ pub(crate) trait Values {
 }
 
 // The values at the front.
+#[tactic(auto, using(numbers::specs::inside::OverlayLaws::overlay_sets))]
 pub(crate) fn front(out: &mut [i64], values: &[i64])
     requires { length values.now ≤ length out.old }
     ensures { out.new ≡ overlay values.now out.old }
 {
-    out[..values.len()].copy_from_slice(values);
+    copy(values, out, 0);
 }
 
 // The number of the question that has a "no", or 0.

@@ -3,21 +3,21 @@ ghost use Rattle.std.specs.Prelude.{◌≡◌, ◌&&◌, pos, get_or};
 ghost use Rattle.std.specs.Int.Signed.{le_z};
 ghost use Rattle.numbers.specs.law.Signed.{pos_part};
 
-// The crates above write the operator. Kept, as `same` and `within` are: a public function goes only where docs/DESIGN-PASS.md names what states its promise.
+// The crates above write the operator, or both of them by `within`.
 pub fn at_most(a: i64, b: i64) -> bool
     ensures { result ≡ le_z a b }
 {
     a <= b
 }
 
-// Two operators, under one name where the crates above ask a number between two limits.
+// Under one name, where the crates above ask a number between two limits.
 pub fn within(low: i64, x: i64, high: i64) -> bool
     ensures { result ≡ (le_z low x && le_z x high) }
 {
-    low <= x && x <= high
+    at_most(low, x) && at_most(x, high)
 }
 
-// Of both orders.
+// Of both orders. The crates above write the operator, but for 20, which names it.
 pub fn same(a: i64, b: i64) -> bool
     ensures { result ≡ (le_z a b && le_z b a) }
 {

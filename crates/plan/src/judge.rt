@@ -16,7 +16,7 @@ use super::verdict::Verdict;
 use case::judge::judge_and_lay;
 use case::records::Laying;
 use numbers::answer::{No, ask};
-use numbers::compare::at;
+use numbers::compare::{at, same};
 use numbers::reader::read;
 
 // The first two numbers of 20: the edition, and the count of steps.
@@ -25,7 +25,7 @@ fn head_numbers(plan: &[i64], steps: usize) -> bool
     requires { steps < 2 ^ 63 }
     ensures { result ≡ (same (number_at plan.now 0) (pos 1) && same (number_at plan.now 1) (pos steps)) }
 {
-    at(plan, 0) == 1 && at(plan, 1) == steps as i64
+    same(at(plan, 0), 1) && same(at(plan, 1), steps as i64)
 }
 
 impl Accepted<'_> {

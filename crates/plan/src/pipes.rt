@@ -9,7 +9,7 @@ ghost use Rattle.plan.specs.inside.StepArcs.{AtFlow, AtPipe, residual_in, balanc
 
 use super::rows::pressure;
 use super::step::Step;
-use numbers::answer::{Answer, ask};
+use numbers::answer::{Answer, ask, or_else};
 use numbers::compare::at;
 
 // The size of a number that is not the least of its type. The library's and a cast, said once for 28, 29 and 33.
@@ -84,8 +84,10 @@ impl PipeStep<'_> {
         let mass = self.residual() as i64;
         let ends = size(self.pressure_balance()) as i64;
         let most = 1000000 * at(case, 6);
-        ask(mass <= at(case, 5), 28, step, self.e)?;
-        ask(ends <= most, 29, step, self.e)
+        or_else(
+            ask(mass <= at(case, 5), 28, step, self.e),
+            ask(ends <= most, 29, step, self.e),
+        )
     }
 }
 
