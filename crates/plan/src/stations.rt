@@ -118,9 +118,13 @@ impl Passed<'_> {
     pub(crate) fn station_answers(&self) -> Answer
         ensures { result ≡ first_no (all_station_questions self.now.step.case.list.now self.now.step.rows.now self.now.step.i) }
     {
+        let stations = self.step.case.layout.stations;
+        if stations == 0 {
+            return Ok(()); // and nothing is gathered for them
+        }
         let own = self.gather();
         let flows = self.artificial_flows();
-        for s in 0..self.step.case.layout.stations {
+        for s in 0..stations {
             self.station_answer(s, own[s], &flows)?;
         }
         Ok(())
