@@ -109,7 +109,7 @@ pub record SumRead (dt a b c x y z : ℤ) : Type 0 where
       z 100000000000000
 
 module _ {s : Step} {e : ℕ} (p : AtPipe s e) where
-  change_sized : (v : ℕ) → v < nodes_of s.case.list.now → Bounded (change (number_at s.old.now) s.rows.now v) 400000
+  pub change_sized : (v : ℕ) → v < nodes_of s.case.list.now → Bounded (change (number_at s.old.now) s.rows.now v) 400000
   change_sized v q = record { bound = (sized (s.pressures.each v q) -ʳ sized (s.before.each v q)).bound }
 
   pub sum_read : {dt x y : ℤ} {r : ArcRow} {k : Pipe} {n : Arc} → dt ≡ duration s.case.list.now s.i → r ≡ arc_row s.case.list.now s.rows.now e

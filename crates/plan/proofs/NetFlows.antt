@@ -22,7 +22,7 @@ use Rattle.plan.proofs.SignedReads.{read}
 -- ---- one store
 
 -- a store that adds x at one node, or takes it off; nothing is done at the others, where x counts as 0
-put : (f : ℤ → ℤ → ℤ) → ((y : ℤ) → f y (pos 0) ≡ y) → (net : List ℤ) (from : ℕ) (z x : ℤ) → from < length net → z ≡ f (number_at net from) x
+pub put : (f : ℤ → ℤ → ℤ) → ((y : ℤ) → f y (pos 0) ≡ y) → (net : List ℤ) (from : ℕ) (z x : ℤ) → from < length net → z ≡ f (number_at net from) x
     → (i : ℕ) → number_at (set net from z) i ≡ f (number_at net i) (only (eqb from i) x)
 put f zero_right net from z x l e i = go (eqb from i) refl
   where

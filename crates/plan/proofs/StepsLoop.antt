@@ -1,5 +1,5 @@
 -- The loop over the steps, over plain lists: what holds before the step with index i, one turn, and both ways out.
-use Rattle.std.specs.Prelude.{Ok, Err, Result}
+use Rattle.std.specs.Prelude.{Ok, Err, Result, take, drop}
 use Rattle.plan.specs.inside.SumSizes.{most_demand_slack, most_pressure_slack, most_residual, most_switching}
 use Rattle.plan.proofs.Common.{◌≡◌, refl, sym, ap, ap₂, ◌∙◌, ℕ, ◌+◌, ◌-◌, ◌*◌, ◌<◌, ◌≤◌, arith, ℤ, pos, nat_abs, ◌+ℤ◌}
 use mathlib.Core.List.{List}
@@ -15,7 +15,7 @@ use Rattle.case.specs.law.LayoutOf.{Holds}
 use Rattle.case.specs.law.States.{active_at_start}
 use Rattle.plan.specs.declared.previous.Previous.{Previous}
 use Rattle.plan.specs.declared.totals.Totals.{Totals}
-use Rattle.plan.specs.law.PlanLayout.{step_rows}
+use Rattle.plan.specs.law.PlanLayout.{step_at, step_width, step_rows}
 use Rattle.plan.specs.law.PlanRecords.{pressure_in, active_in, direction_in, state_in}
 use Rattle.plan.specs.law.BeforeStep.{start_pressure, start_direction, start_state, pressure_at, active_at, direction_chosen, state_chosen}
 use Rattle.plan.specs.inside.PreviousHolds.{Carried, active_of, index_of}
@@ -72,6 +72,10 @@ pub closes : {case : List ℤ} {p : ℕ → ℤ} {g : ℤ} {t u : Totals} → g 
     → u ≡ record { pressure = t.pressure; demand = t.demand; switching = t.switching; residual = t.residual; opening = t.opening; closing = g }
     → Closed case p t u
 closes h e = rw e (record { pressure = refl; demand = refl; switching = refl; residual = refl; opening = refl; closing = h })
+
+pub part_is : (case plan : List ℤ) (i w : ℕ) {rows : List ℤ} → w ≡ step_width case → rows ≡ take w (drop (2 + i * w) plan) → rows ≡ step_rows case plan i
+unfolding step_rows step_at
+part_is case plan i w e h = h ∙ rw e
 
 module _ {case plan : List ℤ} (a : AcceptedCase case) where
   pub going : {x : Previous} {t : Totals} → Carried case x (start_pressure case) (active_at_start case) (start_direction case) (start_state case)

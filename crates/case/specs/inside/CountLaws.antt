@@ -117,6 +117,15 @@ module _ (case : List ℤ) (w : ℕ → Bool) where
   unfolding ends_of
   ends_no e h = rw (add-one e, h)
 
+  pub ends_lt : (e : ℕ) → ends_of case w e < 2 ^ set_room
+  unfolding ends_of
+  ends_lt zero = omega arith
+  ends_lt (suc e) = go (ends_lt e) (w e) refl
+    where
+      go : ends_of case w e < 2 ^ set_room → (b : Bool) → w e ≡ b → ends_of case w (suc e) < 2 ^ set_room
+      go k true p = rw p (node_lt _ _ (node_lt _ _ k))
+      go k false p = rw p k
+
 -- ---- every of the first n items
 
 pub every_at : (n : ℕ) (w : ℕ → Bool) → every n w ≡ true → (i : ℕ) → i < n → w i ≡ true

@@ -3,8 +3,10 @@
 use Rattle.std.specs.Prelude.{◌≡◌, List, ◌++◌, ℕ, ◌+◌, ◌<◌, ◌≤◌, ℤ, pos, Ok}
 use native.Mathlib.Omega.{arith}
 use Rattle.std.proofs.Math.Nat.{le_trans}
+use Rattle.std.proofs.Common.{leb-true}
 use Rattle.numbers.specs.law.Question.{first_no}
 use Rattle.numbers.specs.law.Items.{over}
+use Rattle.numbers.specs.inside.QuestionLaws.{all_yes}
 use Rattle.case.specs.law.Extents.{last_edition, most_nodes, most_arcs, machine_extent}
 use Rattle.case.specs.law.Layout.{stations_of, station_at, direction_count, state_count, machine_count, machine_width, machine_at}
 use Rattle.case.specs.law.HeadFields.{count_fields, tolerance_fields, head_fields}
@@ -14,10 +16,13 @@ use Rattle.case.specs.law.ArcFields.{all_arc_fields}
 use Rattle.case.specs.law.StationFields.{station_head, part_fields, row_fields, station_fields, all_station_fields}
 use Rattle.case.specs.law.StationFields.{direction_fields, state_fields, machine_fields}
 use Rattle.case.specs.law.Leftover.{leftover}
-use Rattle.case.specs.law.Judged.{row_questions, list_questions}
+use Rattle.case.specs.law.ArcEnds.{all_arc_ends}
+use Rattle.case.specs.law.OneStation.{all_one_station}
+use Rattle.case.specs.law.StationSize.{station_size, all_station_sizes}
+use Rattle.case.specs.law.Judged.{row_questions, list_questions, early_rules}
 use Rattle.case.specs.inside.FieldLaws.{first_yes, second_yes, item_yes, field_yes, field_then, count_most, count_least}
 use Rattle.case.specs.inside.Places.{nodes_fit, arcs_fit}
-use Rattle.case.specs.inside.Counts.{Counted, StationCounted, StationsCounted, MachinesNarrow, StationsNarrow}
+use Rattle.case.specs.inside.Counts.{Counted, StationCounted, StationsCounted, MachinesNarrow, StationsNarrow, Sized}
 
 module _ (case : List ℤ) where
   -- ---- the head
@@ -110,6 +115,14 @@ module _ (case : List ℤ) where
 
     pub list_narrow : StationsNarrow case
     list_narrow = record { each = λ s p. row_narrow (station_at case s) (station_yes s p) }
+
+  -- ---- 15
+
+  pub rules_sized : first_no (early_rules case) ≡ Ok tt → Sized case
+  unfolding early_rules all_station_sizes station_size
+  rules_sized e =
+      let y = first_yes (all_station_sizes case) _ (second_yes (all_one_station case) _ (second_yes (all_arc_ends case) _ e)) in
+      record { each = λ s p. leb-true _ _ (all_yes (station_size case s) (item_yes (station_size case) (stations_of case) y s p)).0 }
 
 -- rules: what 10 to 12 let pass
 pub ruleset list_laws = (list_counted, list_stations, list_narrow)

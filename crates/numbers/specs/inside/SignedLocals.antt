@@ -1,6 +1,6 @@
 -- Signed locals. The machine reads a local back from its bits, `to_z w64 (of_z w64 z)`; these laws say what is read, and that it fits.
 -- Assumes nothing.
-use Rattle.std.specs.Prelude.{◌≡◌, refl, ℕ, ◌+◌, ◌*◌, ◌<◌, ◌≤◌, ◌^◌}
+use Rattle.std.specs.Prelude.{◌≡◌, refl, ℕ, ◌+◌, ◌-◌, ◌*◌, ◌<◌, ◌≤◌, ◌^◌, max}
 use Rattle.std.specs.Prelude.{T, ltb, ℤ, pos, negsuc, neg_ℤ, nat_abs, ◌+ℤ◌, ◌-ℤ◌, ◌*ℤ◌}
 use Rattle.std.proofs.Common.{mul-le-mul, le_trans, arith, ltb→lt, SFits, to_z, of_z, to_z-of_z}
 use Rattle.std.specs.Int.Signed.{mag}
@@ -61,6 +61,21 @@ pub record Range (z : ℤ) : Type 0 where
 pub range : {z : ℤ} → SFits w64 z → Range z
 range {z = pos n} h = let k = h.sfits in omega arith
 range {z = negsuc n} h = let k = h.sfits in omega arith
+
+-- `ranged z (omega (ints, added x y))`
+pub ranged : (z : ℤ) → Range z → SFits w64 z
+ranged (pos n) h = record { sfits = omega arith }
+ranged (negsuc n) h = record { sfits = omega arith }
+
+-- `mag z` is z, or -(z + 1) if z is negative
+pub record Mag (z : ℤ) : Type 0 where
+  pub both : mag z ≡ pos_part z + (neg_part z - 1)
+  pub most : nat_abs z ≡ max (pos_part z) (neg_part z)
+  pub all : nat_abs z ≡ pos_part z + neg_part z
+
+pub mags : (z : ℤ) → Mag z
+mags (pos n) = omega arith
+mags (negsuc n) = omega arith
 
 -- ---- `Held` with bounds that are not numerals, as in a loop's invariant
 -- `sum` of a loop is bits: the invariant says `Held (to_z w64 sum) SPEC (i * 1000000)`

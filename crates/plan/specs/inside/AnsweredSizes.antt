@@ -99,7 +99,7 @@ pressures_sized n = record { each = λ v q. (n.each v q).p }
 
 -- ---- 24
 
-flows_kept_sized : (c : Arc) (r : ArcRow) → Bounded c.qmax 10000000 → flows_kept c r ≡ true → ArcRowSized r
+pub flows_kept_sized : (c : Arc) (r : ArcRow) → Bounded c.qmax 10000000 → flows_kept c r ≡ true → ArcRowSized r
 unfolding flows_kept
 flows_kept_sized c r q e =
     let back = pos 0 -ℤ c.qmax in
@@ -118,17 +118,17 @@ small n z e b = omega (ints, size z, b.bound)
 
 module _ (case : List ℤ) (old : ℕ → ℤ) (rows : List ℤ) (i : ℕ) where
   -- the groups of an arc's questions
-  flow_yes : (e : ℕ) → first_no (arc_questions case old rows i e) ≡ Ok tt → first_no (flow_questions case rows i e) ≡ Ok tt
+  pub flow_yes : (e : ℕ) → first_no (arc_questions case old rows i e) ≡ Ok tt → first_no (flow_questions case rows i e) ≡ Ok tt
   unfolding arc_questions
   flow_yes e y = first_yes (flow_questions case rows i e) (pressure_questions case rows i e ++ pipe_questions case old rows i e) y
 
-  pipe_yes : (e : ℕ) → first_no (arc_questions case old rows i e) ≡ Ok tt → first_no (pipe_questions case old rows i e) ≡ Ok tt
+  pub pipe_yes : (e : ℕ) → first_no (arc_questions case old rows i e) ≡ Ok tt → first_no (pipe_questions case old rows i e) ≡ Ok tt
   unfolding arc_questions
   pipe_yes e y =
       second_yes (pressure_questions case rows i e) (pipe_questions case old rows i e)
       (second_yes (flow_questions case rows i e) (pressure_questions case rows i e ++ pipe_questions case old rows i e) y)
 
-  arc_numbers_lem : (e : ℕ) → first_no (flow_questions case rows i e) ≡ Ok tt
+  pub arc_numbers_lem : (e : ℕ) → first_no (flow_questions case rows i e) ≡ Ok tt
       → arc_numbers_kept (arc_of case e) (artificial_of case e) (arc_row case rows e) ≡ true
   unfolding flow_questions
   arc_numbers_lem e y = (all_yes (flow_questions case rows i e) y).0

@@ -22,7 +22,7 @@ module _ (case plan : List ℤ) where
       go (Ok _) e = refl
       go (Err n) e = let k = ap (λ (x : Told). length x.values) e in let f : ⊥ = omega arith in absurd f
 
-  judged_no : (n s p : ℕ) → judge_of case plan ≡ verdict_told (Err (no_at n s p)) → first_no (questions case plan) ≡ Err (no_at n s p)
+  pub judged_no : (n s p : ℕ) → judge_of case plan ≡ verdict_told (Err (no_at n s p)) → first_no (questions case plan) ≡ Err (no_at n s p)
   unfolding judge_of
   judged_no n s p e = go (first_no (questions case plan)) e
     where

@@ -26,7 +26,7 @@ pub ends_nodes : {case : List ℤ} → AcceptedCase case → EndsAreNodes case
 ends_nodes c = record { from_node = from_node c; to_node = to_node c }
 
 -- what a test that passed says of its parts
-both_true : (a b : Bool) → a && b ≡ true → a ≡ true
+pub both_true : (a b : Bool) → a && b ≡ true → a ≡ true
 both_true true b h = refl
 both_true false b h = h
 
@@ -48,7 +48,7 @@ module _ {case rows : List ℤ} (h : FlowsSized case rows) where
       let r = arc_row case rows e in
       end_small (is_pipe case e) r.a r.a r.b s.a.bound s.a.bound s.b.bound
 
-  to_small : (e : ℕ) → e < arcs_of case → nat_abs (flow_at_to case rows e) ≤ 20000000
+  pub to_small : (e : ℕ) → e < arcs_of case → nat_abs (flow_at_to case rows e) ≤ 20000000
   unfolding flow_at_to
   to_small e l =
       let s = h.each e l in

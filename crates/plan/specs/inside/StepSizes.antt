@@ -30,6 +30,15 @@ cost_same {x} {was} w e = ap (λ (b : Bool). only_n (not b) w) (sym (eq-eqb x wa
 pub cost_new : {x was : ℕ} (w : ℕ) → (x ≡ was → ⊥) → w ≡ only_n (not (eqb x was)) w
 cost_new {x} {was} w n = ap (λ (b : Bool). only_n (not b) w) (sym (ne_eqb x was n))
 
+pub both_yes : {a b : Bool} (w : ℕ) → a ≡ true → b ≡ true → w ≡ only_n (a && b) w
+both_yes w p q = rw (p, q)
+
+pub first_no_lem : {a : Bool} (b : Bool) (w : ℕ) → a ≡ false → 0 ≡ only_n (a && b) w
+first_no_lem b w p = rw p
+
+pub second_no : {a b : Bool} (w : ℕ) → a ≡ true → b ≡ false → 0 ≡ only_n (a && b) w
+second_no w p q = rw (p, q)
+
 pub only_le : {n : ℕ} (b : Bool) (w : ℕ) → w ≤ n → only_n b w ≤ n
 only_le true w h = h
 only_le false w h = omega arith

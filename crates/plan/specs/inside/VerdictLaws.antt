@@ -102,7 +102,7 @@ module _ (case plan : List ℤ) where
       (head_case h, d.laid.passed (list_yes (head_case h)), plan_laid (head_keeps h))
 
   -- after them the steps are asked
-  head_before : questions case plan ≡ head_questions case plan ++ over (plan_step case plan) 0 (steps_of case)
+  pub head_before : questions case plan ≡ head_questions case plan ++ over (plan_step case plan) 0 (steps_of case)
   unfolding questions plan_questions head_questions
   head_before = sym (append_assoc (case_questions case) (head_question case plan ∷ []) (over (plan_step case plan) 0 (steps_of case)))
 

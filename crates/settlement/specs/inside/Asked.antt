@@ -31,7 +31,7 @@ abbrev pub none_refused : Answer → Bool
 none_refused (Ok _) = true
 none_refused (Err n) = false
 
-both_yes : (a b : Answer) → none_refused (or_else a b) ≡ true → (a ≡ Ok tt) × (b ≡ Ok tt)
+pub both_yes : (a b : Answer) → none_refused (or_else a b) ≡ true → (a ≡ Ok tt) × (b ≡ Ok tt)
 both_yes (Ok _) (Ok _) e = (refl, refl)
 both_yes (Ok _) (Err n) e = absurd (false≢true e)
 both_yes (Err n) b e = absurd (false≢true e)

@@ -1,5 +1,5 @@
 -- The flow with its two slacks is small, so the sum is read as it is.
-use Rattle.plan.proofs.Common.{arith, rules, w64, held, param, ◌+ʳ◌, ◌-ʳ◌}
+use Rattle.plan.proofs.Common.{rules, ne_eqb, w64, held, param, ◌+ʳ◌, ◌-ʳ◌}
 use mir.Val.{SFits}
 use Rattle.plan.specs.law.NodeRules.{demand_met}
 use Rattle.plan.proofs.SignedReads.{same_held}
@@ -10,4 +10,4 @@ unfolding demand_met
 returns-else-n-eq0 c =
     let p = c.requires in
     let fits : SFits w64 c.args.n.demand = search rules in
-    grind (arith, same_held (held (param p.d tt +ʳ param p.splus tt) tt -ʳ param p.sminus tt) tt fits)
+    rw (ne_eqb _ _ c.if-n-eq0.false) (same_held (held (param p.d tt +ʳ param p.splus tt) tt -ʳ param p.sminus tt) tt fits)
