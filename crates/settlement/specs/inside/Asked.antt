@@ -5,7 +5,7 @@ use Rattle.std.specs.List.{list_all, range_with_len}
 use Rattle.std.proofs.lemmas.Bool.{false≢true}
 use Rattle.std.proofs.Common.{sym, ◌∙◌, add-one, leb-true}
 use Rattle.numbers.specs.declared.answer.No.{No}
-use Rattle.numbers.specs.law.Question.{Question, first_no, or_else, answer, Answer}
+use Rattle.numbers.specs.law.Question.{Question, first_no, or_else, answer, Answer, no_at}
 use Rattle.numbers.specs.law.Items.{over}
 use Rattle.numbers.specs.inside.QuestionLaws.{or_else_yes, first_no_append, all_yes, first_yes, second_yes, and_first, and_second}
 use Rattle.numbers.specs.inside.ItemLaws.{rest, rest_on, rest_no, item_yes}
@@ -30,6 +30,13 @@ meter_of meter w t m = record {
 abbrev pub none_refused : Answer → Bool
 none_refused (Ok _) = true
 none_refused (Err n) = false
+
+pub first_refused : (a b : Answer) {n s p : ℕ} → a ≡ Err (no_at n s p) → none_refused (or_else a b) ≡ false
+first_refused a b e = rw e
+
+pub second_refused : (a b : Answer) {n s p : ℕ} → b ≡ Err (no_at n s p) → none_refused (or_else a b) ≡ false
+second_refused (Ok _) b e = rw e
+second_refused (Err n) b e = refl
 
 pub both_yes : (a b : Answer) → none_refused (or_else a b) ≡ true → (a ≡ Ok tt) × (b ≡ Ok tt)
 both_yes (Ok _) (Ok _) e = (refl, refl)
